@@ -48,7 +48,10 @@ MOST = 220
 # The counted definitions in reading order: under each heading the crates that have them.
 READING = [
     ("The machine", ["iox_machine"]),
-    ("Words of commands, settings and types that the machine names", ["iox_command", "iox_domain_values", "iox_describe_base", "iox_describe_settings"]),
+    (
+        "Words of commands, settings and types that the machine names",
+        ["iox_command", "iox_domain_values", "iox_describe_base", "iox_describe_settings"],
+    ),
     ("What a script says, and is answered", ["iox_line", "iox_conversation", "iox_script"]),
     ("On what the machine's answers stand", ["iox_negotiate_machine", "iox_hub_machine", "iox_hub_commands"]),
     ("A hub's runs and typed calls", ["iox_container", "iox_domain", "iox_hub"]),

@@ -11,14 +11,16 @@ use anyhow::{Context, Result, bail, ensure};
 use iox_hub::prelude::*;
 use std::alloc::AllocError;
 
-/// All nodes and services of the robot. Messages are slices of numbers, and each has a time stamp as its user header. Nobody is
-/// asked at a full mailbox: it drops its oldest message. One bus has one type of values: a second type takes a second bus.
+/// All nodes and services of the robot. Messages are slices of numbers, and each has a time stamp as its user header. Ports have no
+/// handlers: a full mailbox drops its oldest message. One bus has one type of values: a second type takes a second bus.
 pub type Bus<T = u64> = Hub<T, u64, Nobody, Nobody>;
 
-/// What a node heard.
+/// The message that a node heard.
 #[derive(Drop)]
 pub struct Heard {
+    /// The time stamp of the message.
     pub stamp: u64,
+    /// The values of the message.
     pub values: Vec<u64>,
 }
 
@@ -39,7 +41,7 @@ fn join<T: Words + ZeroCopySend>(
     Ok(asked.open_or_create_in(alloc, bus, Vec::new(alloc))?)
 }
 
-/// Makes a publisher of messages of at most so many values.
+/// Creates a publisher of messages of at most so many values.
 pub fn advertise<T: Words + ZeroCopySend>(
     alloc: Global,
     bus: &mut Bus<T>,
@@ -68,7 +70,7 @@ fn make_publisher<T: Copy + ZeroCopySend>(
     Ok(builder.create_slice(alloc, bus)?.into_port())
 }
 
-/// Makes a subscriber.
+/// Creates a subscriber.
 pub fn listen<T: Words + ZeroCopySend>(
     alloc: Global,
     bus: &mut Bus<T>,
@@ -93,7 +95,7 @@ fn make_subscriber<T: Copy + ZeroCopySend>(
     Ok(builder.create_slice(alloc, bus)?.into_port())
 }
 
-/// Lets a publisher know who came to listen: they get its last messages.
+/// Updates the connections of a publisher: new subscribers get its last messages.
 pub fn follow<T: Copy>(alloc: Global, bus: &mut Bus<T>, port: PortId) -> Result<()> {
     let publisher = slice::Publisher::of_port(port, BackpressureStrategy::DiscardData, 0);
     if !publisher.holds(bus) || publisher.is_blocked(bus) {
@@ -172,7 +174,8 @@ fn read<H: Home<u64, u64>>(
     })
 }
 
-/// Receives the next message, if one waits, and releases it: what is heard is the time stamp and the values of the message received.
+/// Receives the next message, if one waits, and releases it. What is heard is the time stamp and the values of the message that was
+/// received.
 pub fn hear<H: Home<u64, u64>>(alloc: Global, home: &mut H, port: PortId) -> Result<Option<Heard>>
     ensures { IfOk result (λ heard. (sample : Option (Received ℕ ℕ OfSlices)) × (received : H)
         × ReceivesSample (homes.ports_of H.domain_of) (homes.with_ports H.changed)

@@ -1,4 +1,4 @@
-//! Where the robot is: a type of this program's own, as the values of messages.
+//! The position of the robot: a type of this program's own, as the values of messages.
 ghost use Rattle.std.specs.Prelude.{◌≡◌, ◌∷◌, [], codes, slice_index, T, to_bits, from_bits, refl};
 ghost use Rattle.std.specs.Float.{binary64};
 ghost use Rattle.std.specs.Float.Ieee.{fits};
@@ -7,7 +7,7 @@ ghost use Rattle.iox_hub.specs.QueuesBase.Scalars.{float-given_back};
 use anyhow::{Result, bail};
 use iox_hub::prelude::*;
 
-/// A place in metres, and a heading in degrees.
+/// A position in metres, and a heading in degrees.
 #[derive(Clone, Copy, Debug)]
 pub struct Pose {
     pub x: f64,

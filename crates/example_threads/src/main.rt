@@ -1,8 +1,8 @@
 //! Two sensors and two displays of one service, each in a thread of its own, with no lock between them.
 //!
-//! A sensor counts, and sends each number at the head of a message of eight words. A display has room for four messages of each
-//! sensor: what comes while it's full takes the place of the oldest. So a display may miss numbers, but it sees those of a sensor
-//! rise, and it ends with the last number of both. What is printed is the same whatever the threads do.
+//! A sensor counts, and sends each number at the beginning of a message of eight words. A display has capacity for four messages of each
+//! sensor; a message that arrives while it is full replaces the oldest. So a display may miss numbers, but it sees those of a sensor rise,
+//! and it ends with the last number of both. The output is the same whatever the threads do.
 #![tactic(auto)]
 
 ghost use Rattle.std.specs.Prelude.{◌≡◌, ◌≤◌, IfSome};
@@ -16,7 +16,7 @@ use std::sync::Wait;
 use std::thread::Threads;
 use std::{io, thread};
 
-// The last number of a sensor, and the most that a display looks for it.
+// The last number of a sensor, and the maximum number of times that a display looks for it.
 const LAST: u64 = 1000;
 
 const LOOKS: u64 = 1 << 24;
@@ -33,7 +33,7 @@ fn sizes() -> LaneSizes
         kind: RingKind::Overflowing,
         buffer: 4,
         most_borrowed: 1,
-        history: 0,
+        history: 1,
         most_loans: 1,
         slots: 12,
         user_header_words: 0,
@@ -41,10 +41,18 @@ fn sizes() -> LaneSizes
     }
 }
 
-// Sends the numbers up to the last one; how many were sent.
+// Sends number 0, word by word; true if it was sent.
+fn begin(port: &mut LanePublisher, sensor: u64) -> bool {
+    let Some(LoanAnswer::Slot(loan)) = port.loan_uninit() else {
+        return false;
+    };
+    port.write(loan, &[0, sensor, 0, 0, 0, 0, 0, 0], &[]) && port.send(loan).is_some()
+}
+
+// Sends the numbers up to the last one; returns how many were sent.
 fn measure(port: &mut LanePublisher, sensor: u64) -> u64 {
-    let mut sent = 0u64;
-    for number in 0..=LAST {
+    let mut sent = u64::from(begin(port, sensor));
+    for number in 1..=LAST {
         let Some(LoanAnswer::Slot(loan)) = port.loan_uninit() else {
             return sent;
         };
@@ -64,7 +72,7 @@ struct Shown {
     of_second: u64,
 }
 
-// What a display shows after a message; None where its two numbers differ, or are below the one before.
+// What a display shows after a message; None if its two numbers differ, or are below the one before.
 fn after(before: &Shown, reading: &Reading) -> Option<Shown>
     ensures { IfSome result (λ next. (before.now.of_first ≤ next.of_first) × (before.now.of_second ≤ next.of_second)) }
 {
@@ -93,7 +101,7 @@ fn after_read(before: &Shown, port: &LaneSubscriber) -> Option<Shown> {
     after(before, &reading)
 }
 
-// Shows what comes until the last number of both sensors did.
+// Shows the messages that arrive until the last number of both sensors has arrived.
 fn display(rt: &impl Wait, port: &mut LaneSubscriber) -> Shown {
     let mut now = Shown {
         of_first: 0,
@@ -122,14 +130,14 @@ fn is_last(display: &Shown) -> bool {
     display.of_first == LAST && display.of_second == LAST
 }
 
-// Both sensors at once: how many numbers each sent.
+// Runs both sensors at once: how many numbers each sent.
 fn sense<R: Threads + Sync>(rt: &R, ports: &mut [LanePublisher]) -> Option<(u64, u64)> {
     let (first, others) = ports.split_first_mut()?;
     let second = others.first_mut()?;
     Some(thread::join(rt, || measure(first, 0), || measure(second, 1)))
 }
 
-// Both displays at once: what each shows in the end.
+// Runs both displays at once: what each shows in the end.
 fn show<R: Threads + Wait + Sync>(rt: &R, ports: &mut [LaneSubscriber]) -> Option<(Shown, Shown)> {
     let (here, elsewhere) = ports.split_first_mut()?;
     let there = elsewhere.first_mut()?;
@@ -150,7 +158,7 @@ fn lines(
     )
 }
 
-// All four at once, and then the end of their ports.
+// Runs all four at once, and then ends their ports.
 fn run<R: Threads + Wait + Sync>(
     rt: &R,
     alloc: Global,

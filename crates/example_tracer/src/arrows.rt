@@ -1,4 +1,4 @@
-//! Which line sent what a line received, as far as lines and replies tell it.
+//! Which line sent what a line received, as far as lines and replies say.
 ghost use Rattle.std.specs.Prelude.{◌≡◌, ◌<◌, ◌≤◌, None, IfOk, length, count_by, All};
 ghost use Rattle.std.specs.List.{AllPairs, list_any};
 ghost use Rattle.std.specs.Option.{option_map};
@@ -9,12 +9,16 @@ ghost use Rattle.example_tracer.specs.Trace.{LostForGood, gives_sample, is_lost,
 use crate::exchange::{Exchange, Message, is, received, sent};
 use std::alloc::{AllocError, Global};
 
-/// The way of a message: the line that received it, by which port, and the line that sent it, by which port, if that can be told.
+/// The way of a message: the line and the port that received it, and the line and the port that sent it, if these are known.
 #[derive(Clone, Copy)]
 pub struct Arrow<'a> {
+    /// The line that received the message.
     pub receipt: usize,
+    /// The subscriber that received it.
     pub subscriber: &'a [u8],
+    /// The line that sent the message, if that is known.
     pub origin: Option<usize>,
+    /// The publisher that sent it; empty if the origin isn't known.
     pub publisher: &'a [u8],
 }
 
@@ -128,8 +132,8 @@ fn way<'a>(
     }
 }
 
-/// Whether this arrow, behind those before it, shows that its subscriber, which came behind line `since`, never gets the message of a line:
-/// a later message of the publisher arrived, and neither this one nor one that may be it arrived before.
+/// Whether this arrow, after those before it, shows that its subscriber, which was created at line `since`, never gets the message of a
+/// line: a later message of the publisher arrived, and neither this one nor one that may be it arrived before.
 pub fn is_lost(
     conversation: &[Exchange<'_>],
     before: &[Arrow<'_>],
@@ -170,19 +174,19 @@ fn is_untold(arrows: &[Arrow<'_>], subscriber: &[u8], line: usize) -> bool
     false
 }
 
-/// The ways of all messages that the conversation received, in the order of their receipts.
+/// The ways of all messages that the conversation received, in the order in which they were received.
 ///
-/// What can be told is told: of the earlier lines whose values fit, and which the subscriber didn't get or pass over already, it
-/// is the only one.
+/// The origin is known exactly if only one earlier line is possible: its values fit, and the subscriber has neither received nor missed its
+/// message before.
 pub fn trace<'a>(alloc: Global, conversation: &[Exchange<'a>]) -> Result<Vec<Arrow<'a>>, AllocError>
     ensures trace { IfOk result (λ arrows. Trace conversation.now (length conversation.now) arrows.items) }
-    // Each sample that was received has one arrow.
+    // Each received sample has one arrow.
     ensures one_each { IfOk result (λ arrows. length arrows.items ≡ count_by gives_sample conversation.now) }
     // An arrow leads from a message that was sent to a later line that received a sample, and the values fit.
     ensures joins { IfOk result (λ arrows. All (Joins conversation.now) arrows.items) }
-    // Of one publisher a subscriber gets messages in the order of sending, each at most once.
+    // A subscriber gets the messages of one publisher in the order of sending, each at most once.
     ensures order { IfOk result (λ arrows. AllPairs KeepsOrder arrows.items) }
-    // What an arrow shows as lost to its subscriber, no arrow leads there, before it or behind it.
+    // To a message that an arrow shows as lost to its subscriber no arrow of that subscriber leads, before it or after it.
     ensures lost { IfOk result (λ arrows. LostForGood conversation.now arrows.items) }
 {
     let mut arrows = Vec::new(alloc);

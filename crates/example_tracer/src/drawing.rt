@@ -6,11 +6,11 @@ ghost use Rattle.example_tracer.specs.Drawing.{middle_of, escaped, opens_nothing
 use std::alloc::{AllocError, Global};
 use std::fmt::Write;
 
-/// A place in a drawing: how far to the right, in pixels, and in which row.
+/// A place in a drawing: how many pixels from the left, and in which row.
 pub type Place = (usize, usize);
 
-/// What is drawn, each with its class, by which the drawing's style says how it looks: a stroke from a place to another, or a
-/// text at a place.
+/// What is drawn: a stroke from one place to another, or a text at a place. Each has a class, by which the drawing's style says how it
+/// looks.
 #[derive(Clone, Copy)]
 pub enum Shape<'a> {
     Stroke(&'static str, Place, Place),
@@ -39,7 +39,7 @@ fn push_escaped(out: &mut String, byte: u8) -> Result<(), AllocError>
 /// Writes the bytes of a text.
 fn push_text(out: &mut String, text: &[u8]) -> Result<(), AllocError>
     ensures written { OnOk result (string_bytes out.new ≡ string_bytes out.old ++ flat_map escaped text.now) }
-    // Whatever the text is, no reader of the drawing finds an element in it.
+    // Whatever the text is, a reader of the drawing finds no element in it.
     ensures inert { list_all opens_nothing (flat_map escaped text.now) ≡ true }
 {
     for byte in text {

@@ -1,4 +1,4 @@
-//! A line of a script with its reply, and what the two tell: of a message, and of what was made and ended.
+//! A line of a script with its reply, and what the two say: of a message, and of what was made and ended.
 ghost use Rattle.std.specs.Prelude.{◌≡◌, ◌≤◌, IfOk, length};
 ghost use Rattle.std.specs.List.{before_first, after_first, position_or_len};
 ghost use Rattle.std.specs.Option.{option_map};
@@ -8,17 +8,21 @@ ghost use Rattle.example_tracer.specs.Conversation.{IsConversation};
 
 use std::alloc::{AllocError, Global};
 
-/// A line of a script, and what it was replied.
+/// A line of a script, and the reply to it.
 #[derive(Clone, Copy)]
 pub struct Exchange<'a> {
+    /// The line.
     pub line: &'a [u8],
+    /// The reply.
     pub reply: &'a [u8],
 }
 
-/// What a line sent or received: by which port or loan, and the values, where the two tell them.
+/// What a line sent or received: by which port or loan, and the values, if line and reply have them.
 #[derive(Clone, Copy)]
 pub struct Message<'a> {
+    /// The port or loan that the line names.
     pub port: &'a [u8],
+    /// The values, if line and reply have them.
     pub values: Option<&'a [u8]>,
 }
 
@@ -48,7 +52,7 @@ fn cut(byte: u8, text: &[u8]) -> (&[u8], &[u8])
     }
 }
 
-/// The first word of a text, and what is behind the space behind it.
+/// The first word of a text, and what follows the space after it.
 pub fn word(text: &[u8]) -> (&[u8], &[u8])
     ensures word { result.0.now ≡ first_word text.now }
     ensures rest { result.1.now ≡ behind text.now }
@@ -72,7 +76,7 @@ pub fn is(text: &[u8], wanted: &[u8]) -> bool
     text == wanted
 }
 
-/// The message that a line sent: a `put`, of its values, or a `send` of a loan, which doesn't tell them.
+/// The message that a line sent: a `put`, with its values, or a `send` of a loan, whose values aren't known.
 pub fn sent<'a>(exchange: &Exchange<'a>) -> Option<Message<'a>>
     ensures { option_map seen result ≡ sent_by exchange.now.line.now exchange.now.reply.now }
 {
@@ -129,7 +133,7 @@ fn is_name(text: &[u8]) -> bool
     }
 }
 
-/// The name of the node, factory, port or loan that a reply says was made.
+/// The name of the node, factory, port or loan that was made according to the reply.
 pub fn made(reply: &[u8]) -> Option<&[u8]>
     ensures { option_map (λ name. name.now) result ≡ made_by reply.now }
 {
@@ -137,7 +141,7 @@ pub fn made(reply: &[u8]) -> Option<&[u8]>
     (is(ok, b"ok") && is_name(name)).then_some(name)
 }
 
-/// Whether a line ended what has this name: it was closed, left, was dropped or sent, or was given back.
+/// Whether a line ended what has this name: it was closed, dropped, sent or released.
 pub fn ends(exchange: &Exchange<'_>, name: &[u8]) -> bool
     ensures { result ≡ ended_by exchange.now.line.now exchange.now.reply.now name.now }
 {
@@ -151,7 +155,7 @@ pub fn ends(exchange: &Exchange<'_>, name: &[u8]) -> bool
             || is(verb, b"send") && !is(exchange.reply, b"skip"))
 }
 
-/// The rows of a text, one behind the other, each as a line and its reply. A last row without a newline counts if it isn't empty.
+/// The rows of a text, one after the other, each as a line and its reply. A last row without a newline counts if it isn't empty.
 pub fn conversation(alloc: Global, text: &[u8]) -> Result<Vec<Exchange<'_>>, AllocError>
     ensures { IfOk result (λ rows. IsConversation text.now rows.items) }
 {

@@ -64,7 +64,7 @@ pub fn replies(alloc: Global, conversation: &[Exchange<'_>]) -> Result<Vec<u8>, 
     Ok(text)
 }
 
-/// Of the replies of a run, the lines that aren't empty put just the samples that these gave, each once and in their order.
+/// Of the lines for the replies of a run, those that aren't empty put exactly the samples that the replies report, each once and in order.
 pub fn carries_over()
     ensures { (replies : List (List ℕ)) → CarriesOver replies }
 {}

@@ -1,5 +1,5 @@
-//! The frame of a conversation's picture: a row a line, with its reply, and a lifeline for each node, factory, port and loan,
-//! from the line that made it to the line that ended it.
+//! The frame of a conversation's picture: a row for each line, with its reply, and a lifeline for each node, factory, port and loan, from
+//! the line that made it to the line that ended it.
 ghost use Rattle.std.specs.Prelude.{◌≡◌, [], ◌∷◌, ◌++◌, IfOk, OnOk, codes, length, map};
 ghost use Rattle.std.specs.List.{range_with_len};
 ghost use Rattle.example_tracer.specs.Frame.{ways_in, texts_of, line_in, reply_in};
@@ -8,7 +8,7 @@ use crate::drawing::{Place, Shape};
 use crate::exchange::{Exchange, ends, is, made, word};
 use std::alloc::{AllocError, Global};
 
-/// What is drawn so far.
+/// The shapes that are drawn so far.
 pub type Shapes<'a> = Vec<Shape<'a>>;
 
 /// Draws one more shape.
@@ -19,7 +19,7 @@ pub fn push<'a>(shapes: &mut Shapes<'a>, shape: Shape<'a>) -> Result<(), AllocEr
     Ok(())
 }
 
-/// The first row from this one on that ended what has this name, or the row behind the last.
+/// The first row, from this one on, that ended what has this name, or the row after the last.
 pub fn end(conversation: &[Exchange<'_>], name: &[u8], from: usize) -> usize {
     for (row, it) in conversation.iter().enumerate() {
         if from <= row && ends(it, name) {
@@ -39,7 +39,7 @@ fn longest(conversation: &[Exchange<'_>]) -> (usize, usize) {
     (line, reply)
 }
 
-/// How far to the right the replies of a picture are, and its lifelines, each with the row in which it begins.
+/// The horizontal place of the replies in a picture, and its lifelines, each with the row in which it begins.
 #[derive(Drop)]
 pub struct Frame<'a> {
     replies: usize,
@@ -73,7 +73,7 @@ impl<'a> Frame<'a> {
         Ok(())
     }
 
-    /// How far to the right the lifeline of this name is; the left edge, where nothing of this name was made.
+    /// The horizontal place of the lifeline of this name; the left edge, if nothing of this name was made.
     pub fn find(&self, name: &[u8]) -> usize {
         for it in &self.lifelines {
             if is(it.0, name) {
@@ -128,7 +128,7 @@ impl<'a> Frame<'a> {
         conversation: &[Exchange<'a>],
     ) -> Result<Shapes<'a>, AllocError>
         ensures ways { IfOk result (λ shapes. ways_in shapes.items ≡ []) }
-        // Each line stands in its row, and so does each reply.
+        // Each line is in its row, and so is each reply.
         ensures lines { IfOk result (λ shapes. texts_of (codes "line") shapes.items
             ≡ map (line_in conversation.now) (range_with_len 0 (length conversation.now))) }
         ensures replies { IfOk result (λ shapes. texts_of (codes "reply") shapes.items

@@ -1,4 +1,4 @@
-//! What a conversation with a hub gives. The first argument says which; with none it is `draw`.
+//! Draws, records, replays or forwards a conversation with a hub. The first argument says which; without one it is `draw`.
 //!
 //! | Argument | Standard input | Standard output |
 //! |---|---|---|
@@ -8,8 +8,8 @@
 //! | `serve` | the replies of a hub | for each a line for another hub |
 //! | `all` | a conversation | its picture, its record, the script of that record, and the lines for its replies, each below its name |
 //!
-//! A conversation has a row a line of the script: the line, a tab, and its reply, as `paste` writes them. With another argument the
-//! program ends with status 64.
+//! A conversation has one row for each line of the script: the line, a tab, and its reply, as `paste` writes them. With any other argument
+//! the program ends with status 64.
 //!
 //! | Module | What it has |
 //! |---|---|

@@ -119,7 +119,7 @@ fn shapes<'a>(
 
 /// The picture of a conversation, as SVG.
 pub fn picture(alloc: Global, conversation: &[Exchange<'_>]) -> Result<String, AllocError>
-    // A drawing, in which just the ways of the conversation's messages are drawn as ways, and just what was lost as lost.
+    // A drawing in which exactly the ways of the conversation's messages are drawn as ways, and exactly what was lost as lost.
     ensures { IfOk result (λ text. Pictures conversation.now (string_bytes text)) }
 {
     let arrows = trace(alloc, conversation)?;

@@ -79,7 +79,7 @@ fn push_row(alloc: Global, table: &mut Vec<u8>, it: &Exchange<'_>) -> Result<(),
 /// The record of a conversation.
 pub fn record(alloc: Global, conversation: &[Exchange<'_>]) -> Result<Vec<u8>, Error>
     ensures table { IfOk result (λ text. text.items ≡ table_of conversation.now) }
-    // Nothing that passed is missing: who reads the table finds the header and, for each line in order, that line and its reply.
+    // Nothing is missing: a reader of the table finds the header and, for each line in order, that line and its reply.
     ensures read_back { IfOk result (λ text. records_from default_config (length conversation.now + 1) st.StartRecord text.items
         ≡ header ∷ map fields_of conversation.now) }
 {

@@ -41,7 +41,7 @@ pub fn replay(alloc: Global, text: &[u8]) -> Result<Vec<u8>, Error>
     Ok(script)
 }
 
-/// Of a table whose first column has these lines below its header, the script is these lines.
+/// The script of a table whose first column has these lines below its header consists of these lines.
 pub fn replays()
     ensures { (header : List (List ℕ)) (others : List ℕ → List (List ℕ)) (lines : List (List ℕ))
         → script_of (header ∷ map (λ line. line ∷ others line) lines) ≡ flat_map (λ line. line ++ 10 ∷ []) lines }

@@ -4,7 +4,7 @@ use Rattle.iox_negotiate_base.specs.DescribeBase.declared.pattern.MessagingPatte
 use Rattle.iox_command.specs.declared.service.ServiceOptions.{ServiceOptions}
 use Rattle.iox_command.specs.declared.service.ServiceOptions.TheVariants as options
 
--- the pattern whose options these are
+-- The pattern to which these options belong.
 abbrev pub pattern_of : ServiceOptions → MessagingPattern
 pattern_of (options.PublishSubscribe o) = pattern.PublishSubscribe
 pattern_of (options.Event o) = pattern.Event

@@ -1,10 +1,10 @@
--- The commands of ports that there are, among all commands.
+-- The commands of existing ports, among all commands.
 use Rattle.iox_command.specs.declared.command.Command.{Command}
 use Rattle.iox_command.specs.declared.command.Command.TheVariants as command
 use Rattle.iox_command.specs.declared.ports.port_command.PortCommand.{PortCommand}
 use Rattle.iox_command.specs.declared.ports.port_command.PortCommand.TheVariants as port
 
--- a command of a port, among all commands
+-- The port's command as one of all commands.
 abbrev pub command_of : {T : Type 0} → PortCommand T → Command T
 command_of (port.Loan publisher length) = command.Loan publisher length
 command_of (port.LoanUninit publisher length) = command.LoanUninit publisher length

@@ -1,4 +1,4 @@
--- What a refusal displays as: the error within.
+-- What a refusal displays as: the text of the error within.
 use Rattle.std.specs.Prelude.{ℕ, List, ◌++◌, codes}
 use Rattle.iox_domain_values.specs.ErrorTexts as domain
 use Rattle.iox_negotiate_base.specs.CloseText as close
@@ -10,11 +10,11 @@ use Rattle.iox_command.specs.declared.refusal.HubError.TheVariants as hub
 use Rattle.iox_command.specs.declared.refusal.Refusal.{Refusal}
 use Rattle.iox_command.specs.declared.refusal.Refusal.TheVariants as refusal
 
--- the type's name, `::` and the variant
+-- The type's name, `::` and the variant's name.
 abbrev pub hub_text : HubError → List ℕ
 hub_text hub.OutOfMemory = codes "HubError::OutOfMemory"
 
--- a refusal displays as the error within
+-- The text of the error within the refusal.
 abbrev pub refusal_text : Refusal → List ℕ
 refusal_text (refusal.Hub error) = hub_text error
 refusal_text (refusal.PublishSubscribeCreate error) = codes "PublishSubscribeCreateError::" ++ publish_subscribe.create_name error

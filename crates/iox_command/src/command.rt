@@ -1,4 +1,4 @@
-//! What may be asked of a hub.
+//! The commands of a hub.
 use crate::port::{PortNumber, PublisherOptions, SubscriberOptions};
 use crate::service::ServiceOptions;
 use crate::step::{ForeignStep, StepBefore};
@@ -6,14 +6,14 @@ use crate::steps::Steps;
 use crate::values::Values;
 use iox_describe_base::{AttributeSpecifier, AttributeVerifier, MessagingPattern, ServiceName};
 
-/// One command. It names what was made before by its number, each kind counted from 1.
+/// One command. It names nodes, factories, ports, loans and samples by their numbers; each kind is counted from 1.
 ///
-/// This port's own.
+/// Not in `iceoryx2`.
 #[derive(Drop)]
 pub enum Command<'a, T> {
-    /// Makes a node.
+    /// Creates a node.
     Node,
-    /// Creates a service in a node, with the defaults for what isn't named.
+    /// Creates a service in a node, with defaults for all options that aren't given.
     Create {
         node: u64,
         name: ServiceName,
@@ -21,7 +21,7 @@ pub enum Command<'a, T> {
         attributes: AttributeSpecifier,
         steps: Steps<StepBefore>,
     },
-    /// Opens a service that stands, if it meets what is named.
+    /// Opens an existing service, if it meets the given options and requirements.
     Open {
         node: u64,
         name: ServiceName,
@@ -29,7 +29,7 @@ pub enum Command<'a, T> {
         requirements: AttributeVerifier,
         steps: Steps<StepBefore>,
     },
-    /// Opens a service that stands, or creates it where none does.
+    /// Opens a service if it exists, and creates it otherwise.
     OpenOrCreate {
         node: u64,
         name: ServiceName,
@@ -47,27 +47,27 @@ pub enum Command<'a, T> {
     Close {
         factory: u64,
     },
-    /// Makes a publisher of the factory's service.
+    /// Creates a publisher of the factory's service.
     Publisher {
         factory: u64,
         options: PublisherOptions,
     },
-    /// Makes a subscriber of the factory's service.
+    /// Creates a subscriber of the factory's service.
     Subscriber {
         factory: u64,
         options: SubscriberOptions,
     },
-    /// Lends a slice of zeros, of this length.
+    /// Loans a slice of this length, filled with zeros.
     Loan {
         publisher: u64,
         length: u64,
     },
-    /// Lends a slice of this length that isn't written.
+    /// Loans a slice of this length that isn't written.
     LoanUninit {
         publisher: u64,
         length: u64,
     },
-    /// Writes one value into a loan that is written, at this place, counted from 0.
+    /// Writes one value into a written loan, at this place, counted from 0.
     Set {
         loan: u64,
         place: u64,
@@ -78,7 +78,7 @@ pub enum Command<'a, T> {
         loan: u64,
         values: Values<'a, T>,
     },
-    /// Gives a loan back.
+    /// Drops a loan.
     Drop {
         loan: u64,
     },
@@ -91,40 +91,40 @@ pub enum Command<'a, T> {
         publisher: u64,
         values: Values<'a, T>,
     },
-    /// Lets a blocked send go on, after so many nanoseconds.
+    /// Tries a waiting send once more, this number of nanoseconds after its mailbox was first found full.
     Retry {
         publisher: u64,
         nanoseconds: u64,
     },
-    /// Ends a blocked send.
+    /// Gives up a waiting send.
     GiveUp {
         publisher: u64,
     },
-    /// Receives the next message, and holds it.
+    /// Receives the next message, and holds it as a sample.
     Receive {
         subscriber: u64,
     },
-    /// Reads a sample that is held.
+    /// Reads a held sample.
     Read {
         sample: u64,
     },
-    /// Asks for the number of a sample's message.
+    /// Asks for the sequence number of a sample's message.
     Sequence {
         sample: u64,
     },
-    /// Ends the hold of a sample.
+    /// Releases a sample.
     Release {
         sample: u64,
     },
-    /// Brings the connections of a port up to date.
+    /// Updates the connections of a port.
     Update {
         port: PortNumber,
     },
-    /// Ends a port.
+    /// Closes a port.
     Leave {
         port: PortNumber,
     },
-    /// Asks whether a subscriber has messages.
+    /// Asks whether messages wait for a subscriber.
     Has {
         subscriber: u64,
     },

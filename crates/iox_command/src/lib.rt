@@ -1,17 +1,17 @@
-//! What may be asked of a hub, and what it replies: one variant of `Command` for each kind of line, one of `Reply` for each
-//! kind of reply.
+//! The commands of a hub and its replies: one variant of `Command` for each kind of line, and one of `Reply` for each kind of
+//! reply.
 //!
 //! | Module | What it has |
 //! |---|---|
 //! | `command` | the commands |
-//! | `service` | the settings of a service that a command names, by its pattern |
+//! | `service` | the options of a service that a command creates or opens, by its pattern |
 //! | `port` | the options of a publisher and of a subscriber |
-//! | `ports` | the commands of ports by themselves |
-//! | `step` | what a foreign process does between the accesses of a command |
+//! | `ports` | the commands of existing ports |
+//! | `step` | what a foreign process does between the storage operations of a command |
 //! | `steps` | a list of such steps |
 //! | `values` | the values of a message |
 //! | `reply` | the replies |
-//! | `refusal` | why a command was refused |
+//! | `refusal` | why a command failed |
 //!
 //! A first call:
 //!

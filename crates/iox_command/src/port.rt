@@ -3,9 +3,9 @@ use iox_domain_values::{
     AllocationStrategy, BackpressureAction, BackpressureStrategy, DegradationAction,
 };
 
-/// Which port: the number of a publisher or of a subscriber, each kind counted from 1.
+/// The number of a publisher or of a subscriber; each kind is counted from 1.
 ///
-/// This port's own.
+/// Not in `iceoryx2`.
 #[derive(Clone, Copy)]
 pub enum PortNumber {
     /// The number of a publisher.
@@ -14,34 +14,34 @@ pub enum PortNumber {
     Subscriber(u64),
 }
 
-/// What is named of a publisher. What isn't named has its default.
+/// The options of a publisher. An option that is None has its default.
 ///
 /// Ported from `iceoryx2::service::port_factory::publisher::PortFactoryPublisher`, whose handlers are fixed actions here.
 #[derive(Clone, Copy)]
 pub struct PublisherOptions {
-    /// How many loans may be out at once.
+    /// The maximum number of loans at once.
     pub max_loaned_samples: Option<u64>,
-    /// What a send does at a full mailbox.
+    /// What a send does at a full mailbox if no handler decides.
     pub backpressure_strategy: Option<BackpressureStrategy>,
-    /// How many slots it has, in place of those needed in the worst case.
+    /// How many slots the publisher gets instead of those that the worst case needs.
     pub preallocated_samples: Option<u64>,
-    /// How many elements a slice has at the start.
+    /// How many elements a slice may have at first.
     pub initial_max_slice_len: Option<u64>,
     /// What a loan of a longer slice does.
     pub allocation_strategy: Option<AllocationStrategy>,
     /// What the handler answers at a full mailbox.
     pub backpressure_handler: Option<BackpressureAction>,
-    /// What is done where a connection fails.
+    /// What the handler answers if a connection fails.
     pub degradation_handler: Option<DegradationAction>,
 }
 
-/// What is named of a subscriber. What isn't named has its default.
+/// The options of a subscriber. An option that is None has its default.
 ///
 /// Ported from `iceoryx2::service::port_factory::subscriber::PortFactorySubscriber`, whose handler is a fixed action here.
 #[derive(Clone, Copy)]
 pub struct SubscriberOptions {
-    /// How many messages of one publisher may wait.
+    /// The maximum number of messages of one publisher that wait for the subscriber.
     pub buffer_size: Option<u64>,
-    /// What is done where a connection fails.
+    /// What the handler answers if a connection fails.
     pub degradation_handler: Option<DegradationAction>,
 }

@@ -1,5 +1,5 @@
-//! The commands of ports that there are, by themselves: all but those of nodes and services, and those that make ports. A `Command` has
-//! room for names and settings; these are small, so that a script of many messages hands little on.
+//! The commands of existing ports: all commands except those of nodes and services, and those that create ports. A `Command`
+//! has room for names and settings; these commands are small, so a script with many messages copies little.
 //!
 //! | Module | What it has |
 //! |---|---|

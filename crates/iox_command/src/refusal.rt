@@ -1,4 +1,4 @@
-//! Why a command is refused: the error of the call that it makes.
+//! Why a command failed: the error of the call that it makes.
 ghost use Rattle.std.specs.Prelude.{◌≡◌};
 ghost use Rattle.iox_command.specs.RefusalText.{hub_text, refusal_text};
 
@@ -14,16 +14,16 @@ use iox_negotiate_base::errors::{
 use std::fmt;
 use thiserror::Error;
 
-/// Why no node could be made, or no foreign step run. This port's own.
+/// Why no node could be created, or no foreign step run. Not in `iceoryx2`.
 #[derive(Clone, Copy, Debug, PartialEq, Eq, Hash, Error)]
 #[error("{}", self.text())]
 pub enum HubError {
-    /// No memory was found.
+    /// An allocation failed.
     OutOfMemory,
 }
 
 impl HubError {
-    /// What it displays as.
+    /// The text that the error displays as.
     pub fn text(&self) -> &'static str
         ensures { result.now ≡ hub_text self.now }
     {
@@ -33,49 +33,49 @@ impl HubError {
     }
 }
 
-/// Why a command was refused: the error of the call that it makes, as which it displays.
+/// Why a command failed: the error of the call that it makes. It displays as that error.
 ///
-/// This port's own.
+/// Not in `iceoryx2`.
 #[derive(Clone, Copy, Debug, PartialEq, Eq, Error)]
 pub enum Refusal {
-    /// Of a node, or of foreign steps.
+    /// The error of creating a node, or of foreign steps.
     Hub(HubError),
-    /// Of `create`, for publish-subscribe.
+    /// The error of `create`, for publish-subscribe.
     PublishSubscribeCreate(PublishSubscribeCreateError),
-    /// Of `open`, for publish-subscribe.
+    /// The error of `open`, for publish-subscribe.
     PublishSubscribeOpen(PublishSubscribeOpenError),
-    /// Of `open_or_create`, for publish-subscribe.
+    /// The error of `open_or_create`, for publish-subscribe.
     PublishSubscribeOpenOrCreate(PublishSubscribeOpenOrCreateError),
-    /// Of `create`, for events.
+    /// The error of `create`, for events.
     EventCreate(EventCreateError),
-    /// Of `open`, for events.
+    /// The error of `open`, for events.
     EventOpen(EventOpenError),
-    /// Of `open_or_create`, for events.
+    /// The error of `open_or_create`, for events.
     EventOpenOrCreate(EventOpenOrCreateError),
-    /// Of `create`, for request-response.
+    /// The error of `create`, for request-response.
     RequestResponseCreate(RequestResponseCreateError),
-    /// Of `open`, for request-response.
+    /// The error of `open`, for request-response.
     RequestResponseOpen(RequestResponseOpenError),
-    /// Of `open_or_create`, for request-response.
+    /// The error of `open_or_create`, for request-response.
     RequestResponseOpenOrCreate(RequestResponseOpenOrCreateError),
-    /// Of a factory that isn't closed.
+    /// The error of closing a factory.
     Close(CloseError),
-    /// Of a publisher that isn't made.
+    /// The error of creating a publisher.
     Publisher(PublisherCreateError),
-    /// Of a subscriber that isn't made.
+    /// The error of creating a subscriber.
     Subscriber(SubscriberCreateError),
-    /// Of a loan.
+    /// The error of a loan.
     Loan(LoanError),
-    /// Of a send.
+    /// The error of a send.
     Send(SendError),
-    /// Of a receive.
+    /// The error of a receive.
     Receive(ReceiveError),
-    /// Of a connection that isn't made.
+    /// The error of an update, for a connection that failed.
     Connection(ConnectionFailure),
 }
 
 impl Refusal {
-    /// What the error within displays as.
+    /// The text of the error within.
     pub fn text(&self) -> &'static str
         ensures { result.now ≡ refusal_text self.now }
     {

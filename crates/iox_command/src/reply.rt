@@ -1,22 +1,22 @@
-//! What a hub replies.
+//! The replies of a hub.
 use crate::refusal::Refusal;
 
-/// The answer to one command.
+/// The reply to one command.
 ///
-/// This port's own.
+/// Not in `iceoryx2`.
 #[derive(Debug, Drop)]
 pub enum Reply<T> {
-    /// The number of the node.
+    /// The number of the created node.
     NodeMade(u64),
     /// The number of the factory of the service that was created or opened.
     FactoryMade(u64),
-    /// The number of the publisher.
+    /// The number of the created publisher.
     PublisherMade(u64),
-    /// The number of the subscriber.
+    /// The number of the created subscriber.
     SubscriberMade(u64),
     /// The number of the loan.
     LoanMade(u64),
-    /// It is done.
+    /// The command is done.
     Done,
     /// How many mailboxes took the message.
     Delivered(u64),
@@ -24,16 +24,16 @@ pub enum Reply<T> {
     Blocked,
     /// The number of the sample, and its values.
     Received { sample: u64, values: Vec<T> },
-    /// Nothing waits.
+    /// No message waits.
     NothingWaits,
     /// The values of a sample.
     Values(Vec<T>),
-    /// The number of a sample's message, where its service numbers them.
+    /// The sequence number of a sample's message; None if its service doesn't number messages.
     Sequence(Option<u64>),
-    /// Whether there are messages.
+    /// Whether messages wait.
     Has(bool),
-    /// The command names what isn't there, and changes nothing.
+    /// The command names something that doesn't exist, or can't act now, and changes nothing.
     Skipped,
-    /// The call was refused.
+    /// The call failed with this error.
     Refused(Refusal),
 }

@@ -1,34 +1,37 @@
-//! What a foreign process does between the accesses of a command.
+//! What a foreign process does between the storage operations of a command.
 use crate::service::ServiceOptions;
 
-/// One step of a foreign process, by the number of its node. It acts on the pattern and the name of its command.
+/// One step of a foreign process, with the number of its node. It acts on the pattern and the name of its command. A step that
+/// doesn't fit changes nothing.
 ///
-/// This port's own.
+/// Not in `iceoryx2`.
 #[derive(Clone, Copy)]
 pub enum ForeignStep {
-    /// Where nothing lies, the node locks.
+    /// If nothing is stored, the node locks.
     Lock(u64),
-    /// Where the node has the lock, it gives it back.
+    /// If the node has the lock, it releases the lock.
     GiveUp(u64),
-    /// Where the node has the lock, it publishes a service with these settings, adjusted, and is in.
+    /// If the node has the lock, and the adjusted settings are of the command's pattern and within the limits of a description,
+    /// the node publishes a service with them, and registers in it.
     Publish(u64, ServiceOptions),
-    /// The same in the first version of descriptions, which has no switch for numbers of messages: it doesn't fit where that is on.
+    /// Like `Publish`, but with the first version of descriptions, which has no setting for sequence numbers; so settings with
+    /// sequence numbers don't fit.
     PublishV1(u64, ServiceOptions),
-    /// Where a service stands, the node comes in.
+    /// If a service exists that has room for one more node, and the node isn't registered in it, the node registers.
     Register(u64),
-    /// Where the node is in, it leaves.
+    /// If the node is registered, it leaves.
     Leave(u64),
-    /// Where the node was the last to leave, it removes the service.
+    /// If the node was the last to leave, it removes the service.
     Remove(u64),
 }
 
-/// A foreign step, and the access of the command before which it is made, counted from 1.
+/// A foreign step, and the storage operation of the command before which it is made; operations are counted from 1.
 ///
-/// This port's own.
+/// Not in `iceoryx2`.
 #[derive(Clone, Copy)]
 pub struct StepBefore {
-    /// The access.
+    /// The number of the storage operation.
     pub access: u64,
-    /// What is done before it.
+    /// The step that is made before it.
     pub step: ForeignStep,
 }

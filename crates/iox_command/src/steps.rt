@@ -4,10 +4,9 @@ ghost use Rattle.std.specs.Prelude.{◌≡◌, [], ◌∷◌, ◌++◌, OnOk, On
 use std::alloc::{AllocError, Global};
 use std::marker::Model;
 
-/// Steps of foreign processes, in their order; no steps take no memory.
-/// Contracts see them as their list.
+/// Steps of foreign processes, in their order; an empty list allocates nothing. Contracts see them as a list.
 ///
-/// This port's own.
+/// Not in `iceoryx2`.
 #[derive(Drop)]
 pub struct Steps<T: Copy> {
     room: Option<Vec<T>>,
@@ -23,14 +22,14 @@ impl<T: Copy> Model for Steps<T> {
 }
 
 impl<T: Copy> Steps<T> {
-    /// No steps. They take no memory.
+    /// No steps; nothing is allocated.
     pub fn new() -> Self
         ensures { result ≡ [] }
     {
         Steps { room: None }
     }
 
-    /// Appends a step. Refused only where an allocation fails, and then nothing changes.
+    /// Appends a step. The call fails only if an allocation fails; then nothing has changed.
     pub fn push(&mut self, alloc: Global, step: T) -> Result<(), AllocError>
         ensures ok { OnOk result (self.new ≡ self.old ++ step ∷ []) }
         ensures err { OnErr result (self.new ≡ self.old) }

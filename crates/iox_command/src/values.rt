@@ -1,10 +1,9 @@
 //! The values of a message.
 use std::marker::Model;
 
-/// The values of a message, in their order, in memory that another holds.
-/// Contracts see them as their list.
+/// The values of a message, in their order, in borrowed memory. Contracts see them as a list.
 ///
-/// This port's own.
+/// Not in `iceoryx2`.
 #[derive(Drop)]
 pub struct Values<'a, T> {
     /// The values, in their order.

@@ -1,7 +1,7 @@
--- The keys that a map has yet to give out.
+-- The free keys of a slot map.
 use Rattle.std.specs.Prelude.{ℕ, List}
 
--- keys in the order in which they will be given out, each of them below the capacity
+-- The free keys in the order in which they will be given out, and the capacity, which bounds the keys.
 pub record BoundedKeys : Type 0 where
   pub keys : List ℕ
   pub capacity : ℕ

@@ -1,7 +1,7 @@
 -- A text with a capacity.
 use Rattle.std.specs.Prelude.{ℕ, List}
 
--- a text and how many bytes it may have
+-- A text, and the maximum number of its bytes.
 pub record BoundedText : Type 0 where
   pub text : List ℕ
   pub capacity : ℕ

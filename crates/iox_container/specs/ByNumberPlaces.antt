@@ -1,7 +1,7 @@
--- Places for numbers that follow one another.
+-- Places for consecutive numbers.
 use Rattle.std.specs.Prelude.{ℕ, ◌+◌, List, [], ◌∷◌, Option, None, Some}
 
--- the values in places for the numbers from the first on, with their numbers
+-- The values in a row of places with their numbers, where `first` is the number of the first place.
 abbrev pub present : {V : Type 0} → ℕ → List (Option V) → List (ℕ × V)
 present first [] = []
 present first (None ∷ places) = present (first + 1) places

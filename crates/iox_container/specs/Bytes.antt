@@ -1,19 +1,19 @@
--- Bytes that end at a zero, and bytes as they are shown in a log.
+-- Bytes that end at a zero, and bytes escaped for a log.
 use Rattle.std.specs.Prelude.{ℕ, ◌≡◌, ◌<◌, ◌≤◌, ◌/◌, ◌%◌, ◌+◌, ◌++◌, ◌==◌, ◌&&◌, List, [], ◌∷◌, length, take, All, nat_le, nat_lt}
 use Rattle.std.specs.Prelude.{slice_index, codes, if◌then◌else◌}
 
--- the first zero of the bytes stands at n, or there is none and n is their number
+-- `n` is the position of the first zero among the bytes, or their number if there is no zero.
 pub record EndsAtZero (bytes : List ℕ) (n : ℕ) : Type 0 where
   pub within : n ≤ length bytes
   pub before : All (λ b. 1 ≤ b) (take n bytes)
   pub zero_there : n < length bytes → slice_index bytes n ≡ 0
 
--- a digit below 16 as a lower-case hexadecimal character
+-- A digit below 16 as the code of a lower-case hexadecimal character.
 abbrev pub hex_digit : ℕ → ℕ
 hex_digit d = if nat_lt d 10 then 48 + d else 87 + d
 
--- a byte as readers of a log see it: tab, line ends, quotes and the backslash behind a backslash, other printable bytes as
--- they are, and the rest as `\x` and two lower-case hexadecimal digits
+-- The text of an escaped byte: tab, line ends, quotes and the backslash with a backslash before them, other printable bytes as they are,
+-- and all other bytes as `\x` and two lower-case hexadecimal digits.
 abbrev pub escape_of : ℕ → List ℕ
 escape_of b =
     if b == 9 then codes "\\t"

@@ -1,18 +1,18 @@
--- How values are spelled as bytes.
+-- How values are encoded as bytes.
 use Rattle.std.specs.Prelude.{ℕ, List, [], ◌∷◌, ◌++◌, ◌≡◌, ◌+◌, ◌*◌, ◌/◌, ◌%◌, ◌^◌, ◌<◌, refl, take, drop, slice_index}
 use Rattle.std.specs.Int.{from_le_bytes, to_le_bytes, w16, w32, w64}
 use Rattle.std.proofs.lemmas.Nat.{from_le_bytes-to_le_bytes_2, from_le_bytes-to_le_bytes_4, from_le_bytes-to_le_bytes_8}
 use Rattle.iox_container.specs.Wide.{wide_given_back}
 
--- The bytes of each value; the value of bytes, or any value where they are those of none; and what holds of every value of the type,
--- as the bound of an integer. The bytes of a value give it back.
+-- An encoding: the bytes of each value; the value of bytes, which may be any value for bytes that no value has; and a condition that every
+-- value of the type meets, such as the bound of an integer. Decoding the bytes of a value gives the value back.
 pub record Encoding (T : Type 0) : Type 1 where
   pub bytes_of : T → List ℕ
   pub value_of : List ℕ → T
   pub is_value : T → Type 0
   pub given_back : (x : T) → is_value x → value_of (bytes_of x) ≡ x
 
--- a byte itself
+-- The encoding of a byte as itself.
 abbrev pub byte : Encoding ℕ
 byte = record {
   bytes_of = λ x. x ∷ [];
@@ -21,7 +21,7 @@ byte = record {
   given_back = λ x h. refl;
 }
 
--- two bytes, little end first
+-- The encoding of a number as two bytes, the lowest first.
 abbrev pub two_bytes : Encoding ℕ
 two_bytes = record {
   bytes_of = to_le_bytes w16;
@@ -30,7 +30,7 @@ two_bytes = record {
   given_back = from_le_bytes-to_le_bytes_2;
 }
 
--- four bytes, little end first
+-- The encoding of a number as four bytes, the lowest first.
 abbrev pub four_bytes : Encoding ℕ
 four_bytes = record {
   bytes_of = to_le_bytes w32;
@@ -39,7 +39,7 @@ four_bytes = record {
   given_back = from_le_bytes-to_le_bytes_4;
 }
 
--- eight bytes, little end first
+-- The encoding of a number as eight bytes, the lowest first.
 abbrev pub eight_bytes : Encoding ℕ
 eight_bytes = record {
   bytes_of = to_le_bytes w64;
@@ -48,7 +48,7 @@ eight_bytes = record {
   given_back = from_le_bytes-to_le_bytes_8;
 }
 
--- sixteen bytes, little end first: two halves of eight bytes, the low one first
+-- The encoding of a number as sixteen bytes, the lowest first: two halves of eight bytes, the low half first.
 abbrev pub sixteen_bytes : Encoding ℕ
 sixteen_bytes = record {
   bytes_of = λ x. to_le_bytes w64 (x % 2 ^ 64) ++ to_le_bytes w64 (x / 2 ^ 64);

@@ -4,7 +4,7 @@ use Rattle.iox_container.specs.declared.vector.error.VectorModificationError.{Ve
 use Rattle.iox_container.specs.declared.vector.error.VectorModificationError.TheVariants.{InsertWouldExceedCapacity, OutOfBounds}
 use Rattle.iox_container.specs.declared.vector.error.VectorModificationError.TheVariants.{OutOfMemory}
 
--- how a refusal reads: its type's name and its own
+-- The text of a vector's error: the names of the type and of the variant.
 abbrev pub vector_error_text : VectorModificationError → List ℕ
 vector_error_text OutOfBounds = codes "VectorModificationError::OutOfBounds"
 vector_error_text InsertWouldExceedCapacity = codes "VectorModificationError::InsertWouldExceedCapacity"

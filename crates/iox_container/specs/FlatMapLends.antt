@@ -1,4 +1,4 @@
--- What a flat map holds once a reference to a value ends.
+-- What a flat map holds after a mutable reference to a value ends.
 use Rattle.std.specs.Prelude.{Option}
 use Rattle.std.specs.Borrow.{Fml, LendsIf, MutBor, RattleType}
 use Rattle.std.specs.declared.cmp.PartialEq.{Ghosts}
@@ -7,6 +7,6 @@ use Rattle.iox_container.specs.PairTable.{with_value_of}
 use Rattle.iox_container.specs.contracts.flat_map.FlatMap.{the_row}
 
 module _ (K V : RattleType) (keys : Ghosts K.Denot) where
-  -- the map ends with the last value behind the reference beside the key, or as it was if it lacks the key
+  -- When the reference ends, the map has its last value under the key; if the map lacks the key, it stays as it was.
   abbrev pub LendsOf : MutBor (SlotTable (K.Denot × V.Denot)) → K.Denot → Option (MutBor V.Denot) → Fml
   LendsOf map key answer = LendsIf (the_row K V keys) V map answer (with_value_of keys.eq key map.now) map.now

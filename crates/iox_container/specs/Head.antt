@@ -1,13 +1,13 @@
--- How the head of a set lies in a 64-bit word: from the highest bits down, 24 for the next free index, 16 for the count
--- of changes, 24 for the count of held indices.
+-- How the head of a set is stored in a 64-bit word: from the highest bits down, 24 for the next free index, 16 for the count of changes,
+-- and 24 for the count of held indices.
 use Rattle.std.specs.Prelude.{ℕ, ◌+◌, ◌-◌, ◌*◌, ◌^◌, ◌%◌, ◌/◌}
 use Rattle.iox_container.specs.declared.head.HeadDetails.{HeadDetails}
 
--- the word of a head
+-- The word that encodes a head.
 abbrev pub word_of_head : HeadDetails → ℕ
 word_of_head details = (details.head % 2 ^ 24 * 2 ^ 16 + details.aba) * 2 ^ 24 + details.borrowed_indices % 2 ^ 24
 
--- the head of a word
+-- The head that a word encodes.
 abbrev pub head_of_word : ℕ → HeadDetails
 head_of_word word = record {
   head = word / 2 ^ 24 / 2 ^ 16;
@@ -15,7 +15,7 @@ head_of_word word = record {
   borrowed_indices = word % 2 ^ 24;
 }
 
--- the head once its next free index is taken: the counts go round at their ends
+-- The head after its next free index is taken; the counts wrap around.
 abbrev pub head_after_acquire : ℕ → HeadDetails → HeadDetails
 head_after_acquire next old = record {
   head = next;
@@ -23,7 +23,7 @@ head_after_acquire next old = record {
   borrowed_indices = (old.borrowed_indices + 1) % 2 ^ 32;
 }
 
--- the head once an index is given back
+-- The head after an index is released; the counts wrap around.
 abbrev pub head_after_release : ℕ → HeadDetails → HeadDetails
 head_after_release index old = record {
   head = index;

@@ -1,4 +1,4 @@
--- The definitions that contracts about sets of indices and containers cite.
+-- The definitions that the contracts of index sets and containers use.
 pub mod BoundedList
 pub mod Callback
 pub mod ErrorTexts

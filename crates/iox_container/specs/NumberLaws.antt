@@ -1,9 +1,9 @@
--- What the calls of a table come to, in other words than theirs.
+-- Theorems about sequences of calls to a table.
 use Rattle.std.specs.Prelude.{ℕ, ◌≡◌, ◌≢◌, ◌<◌, ◌≤◌, All, List, [], ◌∷◌, ◌++◌, None, Some}
 use Rattle.std.specs.List.{AllPairs}
 use Rattle.iox_container.specs.NumberTable.{NumberTable, Rises, value_at, inserted, removed, with_value, with_room}
 
--- a call that changes a table
+-- A call that changes a table.
 pub data Change (V : Type 0) : Type 0 where
   Inserts : (value : V) → Change V
   Removes : (number : ℕ) → Change V
@@ -11,38 +11,39 @@ pub data Change (V : Type 0) : Type 0 where
   Reserves : (room : ℕ) → Change V
 
 module _ {V : Type 0} where
-  -- the table after a change
+  -- The table after a change.
   abbrev pub changed : NumberTable V → Change V → NumberTable V
   changed table (Inserts value) = inserted table value
   changed table (Removes number) = removed table number
   changed table (Writes number value) = with_value table number value
   changed table (Reserves room) = with_room table room
 
-  -- the table after changes, one after another
+  -- The table after changes, one after another.
   abbrev pub all_changed : NumberTable V → List (Change V) → NumberTable V
   all_changed table [] = table
   all_changed table (change ∷ changes) = all_changed (changed table change) changes
 
-  -- the number that a change gives out, if it gives one out
+  -- The number that a change gives out, or none.
   abbrev pub given_by : NumberTable V → Change V → List ℕ
   given_by table (Inserts value) = table.next ∷ []
   given_by table (Removes number) = []
   given_by table (Writes number value) = []
   given_by table (Reserves room) = []
 
-  -- the numbers that changes give out, one after another
+  -- The numbers that these changes give out, one after another.
   abbrev pub given : NumberTable V → List (Change V) → List ℕ
   given table [] = []
   given table (change ∷ changes) = given_by table change ++ given (changed table change) changes
 
-  -- the change neither removes the value under a number nor writes it
+  -- The change neither removes nor writes the value under this number.
   abbrev pub LeavesAlone : ℕ → Change V → Type 0
   LeavesAlone number (Inserts value) = Unit {0}
   LeavesAlone number (Removes other) = other ≢ number
   LeavesAlone number (Writes other value) = other ≢ number
   LeavesAlone number (Reserves room) = Unit {0}
 
--- A value is found where it was put, and others stay; a removed one is gone, and others stay; a number that wasn't given out has none.
+-- An inserted value is found under its number, a removed value isn't found, and a written value is read; the other numbers keep their
+-- values. Zero and numbers that weren't given out have no value.
 pub record FoundAndGone (V : Type 0) : Type 0 where
   pub put : (table : NumberTable V) (value : V) → Rises 1 table.entries table.next → value_at (inserted table value) table.next ≡ Some value
   pub put_others : (table : NumberTable V) (value : V) (other : ℕ) → other ≢ table.next
@@ -58,8 +59,8 @@ pub record FoundAndGone (V : Type 0) : Type 0 where
       → value_at table number ≡ None
   pub zero_is_nobody : (table : NumberTable V) → Rises 1 table.entries table.next → value_at table 0 ≡ None
 
--- Through any changes: numbers rise as they are given out, and none that was given out before comes again; what is gone stays
--- gone, and what nobody removes or writes stays.
+-- Over any changes, the numbers that are given out rise and are new; a removed value never comes back, and a value that no change removes
+-- or writes stays.
 pub record GivenOnce (V : Type 0) : Type 0 where
   pub rises : (table : NumberTable V) (changes : List (Change V)) → Rises 1 table.entries table.next
       → Rises 1 (all_changed table changes).entries (all_changed table changes).next

@@ -1,6 +1,6 @@
--- Which numbers an owner may have.
+-- Which numbers are owner ids.
 use Rattle.std.specs.Prelude.{ℕ, ◌<◌, ◌^◌}
 
--- it is neither 0 nor of the upper half of 64 bits
+-- An owner id is neither 0 nor in the upper half of the 64-bit numbers.
 abbrev pub IsOwner : ℕ → Type 0
 IsOwner value = (0 < value) × (value < 2 ^ 63)

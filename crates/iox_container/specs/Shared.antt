@@ -1,16 +1,16 @@
--- What stays of a set of indices while threads share it.
+-- What a contract knows of an index set that threads share.
 use Rattle.std.specs.Prelude.{ℕ, Bool}
 use Rattle.iox_container.specs.Unique.{UniqueSetState}
 
--- the indices are below the capacity, and the set may have been locked before it was shared
+-- The capacity of the set, and whether it was locked before it was shared.
 pub record SharedSetState : Type 0 where
   pub capacity : ℕ
   pub locked : Bool
 
--- what is kept of a set that is shared
+-- What is known of a set once it is shared.
 abbrev pub shared_form : UniqueSetState → SharedSetState
 shared_form set = record { capacity = set.capacity; locked = set.locked }
 
--- an index that is held
+-- An index that is held.
 pub record HeldIndex : Type 0 where
   pub index : ℕ

@@ -1,7 +1,7 @@
-//! Values under numbers that are given once.
+//! A table of values under numbers, each of which is given out once.
 //!
 //! - [`numbered`]: the table.
-//! - [`laws`]: what its calls come to, in other words than theirs.
+//! - [`laws`]: theorems about sequences of calls.
 //!
 //! A first call:
 //!

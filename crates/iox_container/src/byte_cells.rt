@@ -5,8 +5,8 @@
 //! |---|---|
 //! | `coded` | `Coded`: values with an encoding of fixed size |
 //! | `byte_atomic` | `FixedSizeByteAtomic`: a value's bytes in a cell |
-//! | `maybe_torn` | `MaybeTorn`: bytes that were read one by one, and may be no value's |
-//! | `byte_machine` | `ByteMachine`: the cell one byte step at a time |
+//! | `maybe_torn` | `MaybeTorn`: bytes that were read one by one, and may not be the encoding of any value |
+//! | `byte_machine` | `ByteMachine`: a model of the cell that makes one byte step at a time |
 //!
 //! A first call:
 //!

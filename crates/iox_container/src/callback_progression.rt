@@ -1,4 +1,4 @@
-//! What a callback answers to the loop that calls it.
+//! What a callback returns to the loop that calls it.
 
 /// Whether a loop over items goes on after a callback.
 ///

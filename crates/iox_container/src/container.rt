@@ -1,4 +1,4 @@
-//! Members at indices, each with its owner.
+//! A container of members at indices, each with its owner.
 ghost use Rattle.std.specs.Prelude.{◌≡◌, ◌≤◌, ◌<◌, ◌↔◌, ◌+◌, true, false, length, not, is_some, ℕ, List, Option, slice_get, nat_eq, []};
 ghost use Rattle.std.specs.Prelude.{IfOk, OnErr, IfSome, IfNone, IsErr, if◌then◌else◌};
 ghost use Rattle.std.specs.Bool.{OnFalse};
@@ -25,13 +25,15 @@ use std::marker::Model;
 /// A value in a container, with its owner.
 #[derive(Clone, Copy, Debug)]
 pub struct Member<T> {
-    /// Tells it from every other member that the container had.
+    /// Identifies the member: no other member that the container ever had has the same number.
     pub number: u64,
+    /// The owner of the member.
     pub owner: OwnerId,
+    /// The value of the member.
     pub value: T,
 }
 
-/// Says which member of which container is meant.
+/// Identifies one member of one container.
 ///
 /// Ported from `iceoryx2_bb_lock_free::mpmc::container::ContainerHandle`.
 #[derive(Clone, Copy, Debug, PartialEq, Eq)]
@@ -52,21 +54,20 @@ impl ContainerHandle {
 
 /// Members at the indices below a capacity, each with its owner. New members get the lowest free index.
 ///
-/// The room for all members is taken when the container is made, and touched as it is used: a place takes memory once it
-/// had a member, or one behind it, so a container of many places that has few members is small, and quickly made and
-/// searched.
+/// `new` allocates the memory for all members, but touches none of it: a place is touched when it, or one behind it, first gets a member.
+/// So a container of many places that has few members is small, and it is created and searched quickly.
 ///
-/// `first_of`, `find` and `recover` search a list of owners and places once, by the logarithm of all. Then each place that the
-/// owner has, or was the last to have, costs the same at any size. `remove` costs the same at any size. `add` goes over the
-/// places below the one that it fills; where that was another owner's last, it also moves what stands behind either in the
-/// list.
+/// `first_of`, `find` and `recover` search a sorted list of owners and places once, in logarithmic time. After that, each place that the
+/// owner has, or was the last to have, costs the same at any size. `remove` costs the same at any size. `add` scans the places below the
+/// one that it fills. If another owner had that place last, `add` also moves the entries of the list that lie behind the old and the new
+/// position.
 ///
 /// Ported from `iceoryx2_bb_lock_free::mpmc::container::Container`.
 #[derive(Drop)]
 pub struct Container<T: Copy> {
     id: u64,
     members: Places<Member<T>>,
-    // Whose each place was last, by which the members of one owner are found.
+    // The owner that had each place last, by which the members of one owner are found.
     owners: Owners,
     changes: u64,
     locked: bool,
@@ -85,7 +86,7 @@ impl<T: Copy> Model for Container<T> {
     ghost invariant = { λ c. IsUnheldIfLocked c.locked (count_filled c.members) × AreOwned (λ member. member.owner) c.members c.owners };
 }
 
-/// What was copied of a container.
+/// A copy of a container's members, made by `get_state` and refreshed by `update_state`.
 ///
 /// Ported from `iceoryx2_bb_lock_free::mpmc::container::ContainerState`.
 #[derive(Drop)]
@@ -104,7 +105,7 @@ impl<T: Copy> Model for ContainerState<T> {
 }
 
 impl<T: Copy> Container<T> {
-    /// A container without members, which the id distinguishes from others. It fails only where an allocation fails.
+    /// A container without members, which `id` distinguishes from other containers. It fails only where an allocation fails.
     pub fn new(alloc: Global, id: u64, capacity: usize) -> Result<Self, AllocError>
         ensures { IfOk result (λ container. container ≡ empty_container id capacity) }
     {
@@ -117,28 +118,28 @@ impl<T: Copy> Container<T> {
         })
     }
 
-    /// Whether the members may change once more, which is so up to 2^64 - 2 changes: the condition of what changes them.
+    /// Whether the members may change once more: they may if they changed at most 2^64 - 2 times. Each call that changes them requires it.
     pub fn has_room(&self) -> bool
         ensures { result ≡ true ↔ HasRoom self.now }
     {
         self.changes < u64::MAX
     }
 
-    /// How often the members changed so far: a port that follows the container compares it with what it last saw.
+    /// How often the members have changed so far. A port that follows the container compares this with the count that it last saw.
     pub fn changes(&self) -> u64
         ensures { result ≡ self.now.changes }
     {
         self.changes
     }
 
-    /// The lowest index without a member, which the next one gets; `None` where each has one.
+    /// The lowest index without a member, which the next member gets; `None` if each index has a member.
     pub fn lowest_free(&self) -> Option<usize>
         ensures { result ≡ lowest_free self.now }
     {
         self.members.lowest_empty()
     }
 
-    /// Adds a member at the lowest free index, and answers its handle.
+    /// Adds a member at the lowest free index, and returns its handle.
     ///
     /// Refused with `IsLocked` if the container is locked, else with `OutOfSpace` if it is full.
     pub fn add(&mut self, value: T, owner: OwnerId) -> Result<ContainerHandle, ContainerAddFailure>
@@ -169,9 +170,9 @@ impl<T: Copy> Container<T> {
         })
     }
 
-    /// Removes the member of the handle. With `LockIfLastIndex`, the container is then locked for good if it has no member.
+    /// Removes the member of the handle. With `LockIfLastIndex`, the container is then locked for good if it has no member left.
     ///
-    /// Refused with `ContainerHandleNotOwnedByContainer` if the handle is of another container, or its member is gone.
+    /// Refused with `ContainerHandleNotOwnedByContainer` if the handle is of another container, or if its member was removed.
     pub fn remove(
         &mut self,
         handle: ContainerHandle,
@@ -191,7 +192,7 @@ impl<T: Copy> Container<T> {
         Ok(self.settle(mode))
     }
 
-    // Whether the handle is of this container, and its member is still in.
+    // Whether the handle is of this container, and its member wasn't removed.
     fn owns(&self, handle: ContainerHandle) -> bool
         ensures { result ≡ owns handle self.now }
     {
@@ -204,7 +205,7 @@ impl<T: Copy> Container<T> {
         }
     }
 
-    // Locks the container if this is how its last member left.
+    // Locks the container if its last member was removed in this mode.
     fn settle(&mut self, mode: ReleaseMode) -> ReleaseState
         ensures after { self.new ≡ settled mode self.old }
         ensures answer { result ≡ state_of self.new.locked }
@@ -219,7 +220,7 @@ impl<T: Copy> Container<T> {
         }
     }
 
-    /// The handle of the owner's first member, by rising index; `None` where it has none.
+    /// The handle of the owner's first member, by rising index; `None` if the owner has no member.
     pub fn first_of(&self, owner: OwnerId) -> Option<ContainerHandle>
         ensures { result ≡ first_handle (members_of owner self.now.id self.now.members) }
     {
@@ -229,14 +230,14 @@ impl<T: Copy> Container<T> {
         }
     }
 
-    /// The member at this index; `None` where there is none, and past the capacity.
+    /// The member at this index; `None` if the index has no member or isn't below the capacity.
     pub fn get(&self, index: usize) -> Option<Member<T>>
         ensures { result ≡ member_of (slice_get self.now.members index) }
     {
         self.members.get(index)
     }
 
-    /// The places up to the last that ever had a member: those behind them, up to the capacity, are empty.
+    /// The places up to the last one that ever had a member. The places behind them, up to the capacity, are empty.
     pub fn places(&self) -> &[Option<Member<T>>]
         ensures whole { padded (length self.now.members) result.now ≡ self.now.members }
         ensures bound { length result.now ≤ length self.now.members }
@@ -244,7 +245,7 @@ impl<T: Copy> Container<T> {
         self.members.used()
     }
 
-    /// The handle of the member at this index; `None` where there is none, and past the capacity.
+    /// The handle of the member at this index; `None` if the index has no member or isn't below the capacity.
     pub fn handle(&self, index: usize) -> Option<ContainerHandle>
         ensures { result ≡ handle_at self.now.id index (member_of (slice_get self.now.members index)) }
     {
@@ -266,9 +267,9 @@ impl<T: Copy> Container<T> {
         call_members(callback, owner, self.id, &self.owners, &self.members);
     }
 
-    /// Asks `decide` about each member of the owner, by rising index, and removes those for which it answers true. With
-    /// `LockIfLastIndex`, the container is then locked for good if it has no member, also where none was removed. This
-    /// counts as one change.
+    /// Calls `decide` for each member of the owner, by rising index, and removes the members for which it returns true. With
+    /// `LockIfLastIndex`, the container is then locked for good if it has no member, even if this call removed none. The whole call counts
+    /// as one change.
     pub fn recover<F: FnMut(ContainerHandle, T) -> bool>(
         &mut self,
         owner: OwnerId,
@@ -289,7 +290,7 @@ impl<T: Copy> Container<T> {
         self.settle(mode)
     }
 
-    /// A copy of the members as they are. It fails only where an allocation fails.
+    /// Copies the members as they are. It fails only where an allocation fails.
     pub fn get_state(&self, alloc: Global) -> Result<ContainerState<T>, AllocError>
         ensures copied { IfOk result (λ state. state ≡ copy_of self.now) }
     {
@@ -300,14 +301,14 @@ impl<T: Copy> Container<T> {
         })
     }
 
-    /// Whether the copy has the id and the capacity of this container: the condition of `update_state`.
+    /// Whether the copy has the id and the capacity of this container, which `update_state` requires.
     pub fn is_state_of(&self, state: &ContainerState<T>) -> bool
         ensures { result ≡ may_update self.now state.now }
     {
         state.id == self.id && state.members.len() == self.members.len()
     }
 
-    /// Brings a copy up to date, and answers whether the members changed since it was made; false leaves it as it was.
+    /// Updates a copy, and returns whether the members changed since it was made. If they didn't, the copy stays as it was.
     pub fn update_state(&self, state: &mut ContainerState<T>) -> bool
         requires { may_update self.now state.old ≡ true }
         ensures answer { result ≡ not (nat_eq state.old.changes self.now.changes) }
@@ -345,7 +346,7 @@ impl<T: Copy> Container<T> {
         self.members.filled()
     }
 
-    /// How many members fit.
+    /// The maximum number of members.
     pub fn capacity(&self) -> usize
         ensures { result ≡ length self.now.members }
     {
@@ -354,8 +355,8 @@ impl<T: Copy> Container<T> {
 }
 
 impl<T: Copy> ContainerState<T> {
-    /// Calls `callback` with the handle and the value of each member, by rising index, up to and with the first that it
-    /// answers with `Stop`.
+    /// Calls `callback` with the handle and the value of each member, by rising index, until it returns `Stop` or all members were passed
+    /// to it.
     pub fn for_each<F: FnMut(ContainerHandle, T) -> CallbackProgression>(&self, callback: &mut F)
         requires { F.IsAlwaysCallable callback.old }
         ensures called { CallsUntilStop (λ p x answer q. F.step p x.0 x.1 answer q) callback.old (all_members self.now) callback.new }
@@ -364,7 +365,7 @@ impl<T: Copy> ContainerState<T> {
         call_until_stop(callback, self.id, self.members.used());
     }
 
-    /// The value of the member at this index; `None` where there was no member, and past the capacity.
+    /// The value of the member at this index; `None` if the copy has no member there, or the index isn't below the capacity.
     pub fn get(&self, index: usize) -> Option<T>
         ensures { result ≡ value_of (slice_get self.now.members index) }
     {
@@ -373,7 +374,7 @@ impl<T: Copy> ContainerState<T> {
     }
 }
 
-// What is told of a member.
+// The handle and the value of a member.
 fn told<T: Copy>(id: u64, index: usize, member: Option<Member<T>>) -> Option<(ContainerHandle, T)>
     ensures { result ≡ told id index member }
 {
@@ -386,7 +387,7 @@ fn told<T: Copy>(id: u64, index: usize, member: Option<Member<T>>) -> Option<(Co
     Some((handle, member.value))
 }
 
-// The same of a member of this owner alone.
+// The handle and the value of a member, if it is this owner's.
 fn told_of<T: Copy>(
     owner: OwnerId,
     id: u64,
@@ -401,7 +402,7 @@ fn told_of<T: Copy>(
     told(id, index, member)
 }
 
-// What is told of the owner's first member from one index on; its place is looked for as `Owners::next` says.
+// The handle and the value of the owner's first member at or behind an index. Its place is looked up as `Owners::next` says.
 fn next_told<T: Copy>(
     owner: OwnerId,
     id: u64,
@@ -470,7 +471,7 @@ fn call_until_stop<T: Copy, F: FnMut(ContainerHandle, T) -> CallbackProgression>
     }
 }
 
-// Removes each member of the owner for which `decide` answers true.
+// Removes each member of the owner for which `decide` returns true.
 fn remove_where<T: Copy, F: FnMut(ContainerHandle, T) -> bool>(
     decide: &mut F,
     owner: OwnerId,

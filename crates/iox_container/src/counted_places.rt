@@ -1,12 +1,12 @@
-//! Places in a row that take memory as they are first used.
+//! A row of places that touches its memory only as places are first used.
 ghost use Rattle.std.specs.Prelude.{◌≡◌, ◌≤◌, length, replicate, get_or, slice_set, Some, None, IfOk, IfSome, IfNone};
 ghost use Rattle.iox_container.specs.CountedPlaces.{padded, lowest_empty, count_filled};
 
 use std::alloc::{AllocError, Global};
 use std::marker::Model;
 
-/// So many places, each empty or with one thing. The room for all is taken when they are made, but none of it is
-/// touched before it is used: those behind the last place that was ever filled are empty, and have no cell.
+/// A row of `count` places, each empty or filled. The memory for all of them is allocated by `new`, but none of it is touched before it is
+/// used: the places behind the last one that was ever filled are empty, and have no cell.
 #[derive(Drop)]
 pub(crate) struct Places<C: Copy> {
     cells: Vec<Option<C>>,
@@ -29,7 +29,7 @@ impl<C: Copy> Model for Places<C> {
 }
 
 impl<C: Copy> Places<C> {
-    /// So many empty places. It fails only where an allocation fails.
+    /// `count` empty places. It fails only where an allocation fails.
     pub(crate) fn new(alloc: Global, count: usize) -> Result<Self, AllocError>
         ensures { IfOk result (λ places. places ≡ replicate count None) }
     {
@@ -40,7 +40,7 @@ impl<C: Copy> Places<C> {
         })
     }
 
-    /// A copy of the places, with as much room. It fails only where an allocation fails.
+    /// A copy of the places, with the same capacity. It fails only where an allocation fails.
     pub(crate) fn copy(&self, alloc: Global) -> Result<Self, AllocError>
         ensures { IfOk result (λ places. places ≡ self.now) }
     {
@@ -53,7 +53,7 @@ impl<C: Copy> Places<C> {
         })
     }
 
-    /// Makes these places the same as as many others.
+    /// Copies the contents of a row of the same length into this one.
     pub(crate) fn copy_from(&mut self, others: &Places<C>)
         requires { length self.old ≡ length others.now }
         ensures { self.new ≡ others.now }
@@ -79,14 +79,14 @@ impl<C: Copy> Places<C> {
         self.cells.as_slice()
     }
 
-    /// What the place has; `None` where it is empty, and past the last place.
+    /// The content of the place; `None` if the place is empty or the index lies past the last place.
     pub(crate) fn get(&self, index: usize) -> Option<C>
         ensures { result ≡ get_or self.now index None }
     {
         *self.cells.get(index)?
     }
 
-    /// The lowest place that is empty; `None` where each is filled.
+    /// The lowest empty place; `None` if each place is filled.
     pub(crate) fn lowest_empty(&self) -> Option<usize>
         ensures { result ≡ lowest_empty self.now }
     {
@@ -100,7 +100,7 @@ impl<C: Copy> Places<C> {
         Some(next)
     }
 
-    /// Fills the lowest place that is empty, and answers its index; `None` where each is filled.
+    /// Fills the lowest empty place, and returns its index; `None` if each place is filled.
     pub(crate) fn fill(&mut self, content: C) -> Option<usize>
         ensures answer { result ≡ lowest_empty self.old }
         ensures some { IfSome result (λ index. self.new ≡ slice_set self.old index (Some content)) }
@@ -120,7 +120,7 @@ impl<C: Copy> Places<C> {
         Some(index)
     }
 
-    /// Empties a place. Past the last place there is nothing to do.
+    /// Empties a place. An index past the last place changes nothing.
     pub(crate) fn empty(&mut self, index: usize)
         ensures { self.new ≡ slice_set self.old index None }
     {

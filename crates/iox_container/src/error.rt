@@ -1,4 +1,4 @@
-//! Why an index, a place or a number is refused.
+//! The errors of index sets, of containers and of owner ids.
 ghost use Rattle.std.specs.Prelude.{◌≡◌};
 ghost use Rattle.iox_container.specs.SetRefusals.{add_failure_of};
 
@@ -48,17 +48,17 @@ impl From<UniqueIndexSetAcquireFailure> for ContainerAddFailure {
 /// Ported from `iceoryx2_bb_lock_free::mpmc::container::ContainerRemoveError`.
 #[derive(Clone, Copy, Debug, PartialEq, Eq, Error)]
 pub enum ContainerRemoveError {
-    /// The handle is of another container, or of a member that is gone.
+    /// The handle is of another container, or its member was removed.
     #[error("ContainerRemoveError::ContainerHandleNotOwnedByContainer")]
     ContainerHandleNotOwnedByContainer,
 }
 
-/// Why a number can't be an owner's.
+/// Why a number isn't an owner id.
 ///
 /// Ported from `iceoryx2_bb_lock_free::mpmc::robust_unique_index_set::OwnerIdNewError`.
 #[derive(Clone, Copy, Debug, PartialEq, Eq, Error)]
 pub enum OwnerIdNewError {
-    /// The number is 0, or 2^63 or more, which the cells of a set keep for themselves.
+    /// The number is 0, or it is 2^63 or more; the cells of a set reserve these numbers.
     #[error("OwnerIdNewError::ValueReserved")]
     ValueReserved,
 }

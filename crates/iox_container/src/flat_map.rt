@@ -1,4 +1,4 @@
-//! Tables whose keys the caller brings.
+//! Maps whose keys the caller provides.
 ghost use Rattle.std.specs.Prelude.{◌≡◌, ◌≢◌, ℕ, ◌+◌, ◌<◌, ◌≤◌, ◌↔◌, [], ◌∷◌, length, replicate, IsTrue, IsOk, IsSome, IfOk, IfSome};
 ghost use Rattle.std.specs.Prelude.{IfNone, OnOk, OnErr, Ok, Err, Some, None, false, slice_get, option_copied, option_map};
 ghost use Rattle.std.specs.Bool.{OnFalse};
@@ -23,12 +23,12 @@ pub use error::FlatMapError;
 pub use fixed_size_flat_map::FixedSizeFlatMap;
 pub use iter::Iter;
 
-/// Values beside keys that the caller brings, at most `capacity` pairs of them, no two with equal keys. `new` takes
-/// all its memory, and of the other calls only `get` may take some.
+/// Pairs of a key and a value, at most `capacity` of them, no two with equal keys; the caller provides the keys. `new` allocates all the
+/// map's memory. Of the other calls only `get` may allocate.
 ///
-/// Contracts see it as a slot table of pairs: each lies at a place that keeps it, a new pair goes to the first free
-/// place, and a place that is given up is the next to be taken. A call looks at the places one after another, until
-/// it has seen each pair; so it costs as many places as pairs were held at once, at most.
+/// Contracts see it as a slot table of pairs. A pair keeps its place while it is in the map; a new pair goes to the first free place, and
+/// the place of a removed pair is the next one used. A lookup scans the places one after another until it has seen every pair, so it costs
+/// at most as many places as there ever were pairs at one time.
 ///
 /// Ported from `iceoryx2_bb_container::flatmap::FlatMap`.
 #[derive(Drop)]
@@ -50,7 +50,7 @@ impl<K: Eq, V> Model for FlatMap<K, V> {
 impl<K: Eq, V> FlatMap<K, V> {
     ghost use Rattle.iox_container.specs.FlatMapLends.{LendsOf};
 
-    /// An empty map of this capacity. It fails only where an allocation fails.
+    /// An empty map with this capacity. It fails only where an allocation fails.
     pub fn new(alloc: Global, capacity: usize) -> Result<Self, AllocError>
         ensures empty { IfOk result (λ m. m.values ≡ replicate capacity None) }
         ensures free { IfOk result (λ m. m.free ≡ range_with_len 0 capacity) }
@@ -70,7 +70,7 @@ impl<K: Eq, V> FlatMap<K, V> {
         self.map.len()
     }
 
-    /// How many pairs fit.
+    /// The maximum number of pairs.
     pub fn capacity(&self) -> usize
         ensures { result ≡ length self.now.values }
     {
@@ -84,7 +84,7 @@ impl<K: Eq, V> FlatMap<K, V> {
         self.len() == 0
     }
 
-    /// Whether no further pair fits, which is whether there are as many pairs as the capacity.
+    /// Whether the map has as many pairs as its capacity, so that no further pair fits.
     pub fn is_full(&self) -> bool
         ensures none_free { IsTrue result ↔ (self.now.free ≡ []) }
         ensures all_held { IsTrue result ↔ (length (pairs self.now.values) ≡ length self.now.values) }
@@ -112,14 +112,14 @@ impl<K: Eq, V> FlatMap<K, V> {
         None
     }
 
-    /// Whether the map has an equal key.
+    /// Whether the map has a key equal to this one.
     pub fn contains(&self, key: &K) -> bool
         ensures { IsTrue result ↔ IsSome (value_of K.eq key.now self.now) }
     {
         self.place(key).is_some()
     }
 
-    /// The value of the key, if the map has it.
+    /// The value under the key, if the map has the key.
     pub fn get_ref(&self, key: &K) -> Option<&V>
         ensures { option_copied result ≡ value_of K.eq key.now self.now }
     {
@@ -130,7 +130,7 @@ impl<K: Eq, V> FlatMap<K, V> {
         }
     }
 
-    /// The value of the key, if the map has it, to be changed in its place.
+    /// The value under the key for modification in place, if the map has the key.
     pub fn get_mut_ref(&mut self, key: &K) -> Option<&mut V>
         ensures* writes_back { sem 𝓛 (LendsOf K.row V.row K.PartialEq self.entry key.now result) }
         ensures value { option_copied_mut result ≡ value_of K.eq key.now self.old }
@@ -142,8 +142,8 @@ impl<K: Eq, V> FlatMap<K, V> {
         }
     }
 
-    /// A clone of the value of the key, if the map has it. It fails only where the map has the key and the clone of its
-    /// value fails, as where an allocation fails.
+    /// A clone of the value under the key, if the map has the key. It fails only if the map has the key and the clone of its value fails,
+    /// for example because an allocation fails.
     pub fn get(&self, key: &K) -> Result<Option<V>, AllocError>
     where
         V: Clone,
@@ -158,10 +158,9 @@ impl<K: Eq, V> FlatMap<K, V> {
         }
     }
 
-    /// Takes a pair in.
+    /// Inserts a pair.
     ///
-    /// Refused with `KeyAlreadyExists` if the map has an equal key, else with `IsFull` if no further pair fits; the
-    /// pair is then dropped.
+    /// Refused with `KeyAlreadyExists` if the map has an equal key, else with `IsFull` if no further pair fits. A refused pair is dropped.
     pub fn insert(&mut self, key: K, value: V) -> Result<(), FlatMapError>
     where
         K: Drop,
@@ -188,8 +187,8 @@ impl<K: Eq, V> FlatMap<K, V> {
         Ok(())
     }
 
-    /// Takes the pair of the key out and returns its value, if the map has it. Its key is dropped, and its place is
-    /// the next that is taken.
+    /// Removes the pair with this key and returns its value, if the map has the key. The removed key is dropped, and the pair's place is
+    /// the next one used.
     pub fn remove(&mut self, key: &K) -> Option<V>
     where
         K: Drop,
@@ -204,8 +203,8 @@ impl<K: Eq, V> FlatMap<K, V> {
         Some(value)
     }
 
-    /// Calls `callback` at each key in the order of the places, up to and with the first that it answers with `Stop`,
-    /// and not again: the contract says in which state that leaves it.
+    /// Calls `callback` with each key in the order of the places, until it returns `Stop` or all keys were passed to it. The contract also
+    /// says in which state this leaves the callback.
     pub fn list_keys<F: FnMut(&K) -> CallbackProgression>(&self, callback: &mut F)
         requires { F.IsAlwaysCallable callback.old }
         ensures called { CallsAtKeys (CalledAt F.FnMut) callback.old (pairs self.now.values) callback.new }
@@ -229,7 +228,7 @@ impl<K: Eq, V> FlatMap<K, V> {
 }
 
 impl<K: Eq, V> FlatMap<K, V> {
-    /// The keys with their values, each pair once, in the order of the places.
+    /// An iterator over the keys with their values, each pair once, in the order of the places.
     pub fn iter(&self) -> Iter<'_, K, V>
         ensures pairs { result ≡ pairs self.now.values }
         ensures keys_differ { KeysDiffer K.eq self.now.values }
@@ -240,7 +239,7 @@ impl<K: Eq, V> FlatMap<K, V> {
     }
 }
 
-/// Goes over the pairs, in the order of the places.
+/// Iterates over the pairs, in the order of the places.
 impl<'a, K: Eq, V> IntoIterator for &'a FlatMap<K, V> {
     type Item = (&'a K, &'a V);
 
@@ -253,7 +252,7 @@ impl<'a, K: Eq, V> IntoIterator for &'a FlatMap<K, V> {
     }
 }
 
-/// The pairs as a map, in the order of the places.
+/// Shows the pairs as a map, in the order of the places.
 impl<K: Eq + fmt::Debug, V: fmt::Debug> fmt::Debug for FlatMap<K, V> {
     fn fmt<W: fmt::Write>(&self, f: &mut fmt::Formatter<W>) -> fmt::Result {
         let mut out = f.debug_map();

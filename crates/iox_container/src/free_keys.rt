@@ -1,4 +1,4 @@
-//! The keys that a slot map has to give out, in their order.
+//! The free keys of a slot map, in the order in which they are given out.
 ghost use Rattle.std.specs.Prelude.{◌≡◌, ℕ, ◌+◌, ◌^◌, ◌<◌, ◌≤◌, [], ◌∷◌, length, IfOk, slice_get};
 ghost use Rattle.std.specs.List.{range_with_len};
 ghost use Rattle.iox_container.specs.SlotTable.{Among, Distinct, without};
@@ -10,7 +10,7 @@ use std::marker::Model;
 
 /// The free keys of a slot map in the order in which they will be given out.
 ///
-/// Those that were used before are linked. Behind them come those that were never used, rising: they need no link.
+/// Keys that were used before are linked. Behind them come the keys that were never used, in rising order; these need no link.
 #[derive(Drop)]
 pub(crate) struct FreeKeys {
     used: LinkedKeys,
@@ -29,7 +29,7 @@ impl Model for FreeKeys {
 }
 
 impl FreeKeys {
-    /// All keys below the capacity, rising.
+    /// All keys below the capacity, in rising order. It fails only where an allocation fails.
     pub(crate) fn new(alloc: Global, capacity: usize) -> Result<Self, AllocError>
         requires { capacity + 1 < 2 ^ 64 }
         ensures keys { IfOk result (λ f. f.keys ≡ range_with_len 0 capacity) }
@@ -47,7 +47,7 @@ impl FreeKeys {
         self.used.len() + (self.used.room() - self.used.made())
     }
 
-    /// The key that is given out next, if one is free.
+    /// The key that is given out next, if there is a free key.
     pub(crate) fn first(&self) -> Option<usize>
         ensures { result ≡ slice_get self.now.keys 0 }
     {
@@ -62,7 +62,7 @@ impl FreeKeys {
         }
     }
 
-    /// Puts a key to the front.
+    /// Adds a key at the front.
     pub(crate) fn add(&mut self, key: usize)
         requires below { key < self.old.capacity }
         requires held { Among key self.old.keys → ⊥ }
@@ -72,7 +72,7 @@ impl FreeKeys {
         self.used.add(key);
     }
 
-    /// Takes a key out. Where it was never used, it takes as many steps as there are such keys up to it.
+    /// Removes a key. If the key was never used, this takes as many steps as there are never-used keys up to it.
     pub(crate) fn remove(&mut self, key: usize)
         requires below { key < self.old.capacity }
         requires free { Among key self.old.keys }
@@ -83,7 +83,7 @@ impl FreeKeys {
     }
 }
 
-// Makes the keys up to one, so that it is among those that were made.
+// Makes all keys up to `key`.
 fn make_up_to(key: usize, keys: &mut LinkedKeys)
     requires { key < keys.old.room }
     ensures all { all_keys keys.new ≡ all_keys keys.old }

@@ -6,21 +6,21 @@ const INDICES: u64 = 1 << 24;
 
 const CHANGES: u64 = 1 << 16;
 
-/// What the head of a set says, in one 64-bit word.
+/// The content of a set's head, which is one 64-bit word.
 ///
 /// Ported from `iceoryx2_bb_lock_free::mpmc::unique_index_set::HeadDetails`.
 #[derive(Clone, Copy, Debug, PartialEq, Eq)]
 pub struct HeadDetails {
-    /// The next free index; its lowest 24 bits count.
+    /// The next free index; only its lowest 24 bits are stored.
     pub head: u32,
-    /// How often the head was changed, from 0 again after 65,535.
+    /// How often the head was changed, modulo 2^16.
     pub aba: u16,
-    /// How many indices are held; its lowest 24 bits count.
+    /// How many indices are held; only its lowest 24 bits are stored.
     pub borrowed_indices: u32,
 }
 
 impl HeadDetails {
-    /// The word that says it. `HeadDetails::from` gives it back where `head` and `borrowed_indices` are below 2^24.
+    /// The word that encodes this head. `HeadDetails::from` decodes it if `head` and `borrowed_indices` are below 2^24.
     pub fn value(&self) -> u64
         ensures word { result ≡ word_of_head self.now }
         ensures back { self.now.head < 2 ^ 24 → self.now.borrowed_indices < 2 ^ 24 → head_of_word result ≡ self.now }
@@ -30,7 +30,7 @@ impl HeadDetails {
         (head * CHANGES + u64::from(self.aba)) * INDICES + borrowed_indices
     }
 
-    /// The head once its next free index is taken, behind which `next` comes: one change more, one index more held.
+    /// The head after its next free index is taken and `next` becomes the next free index: one more change, one more held index.
     pub fn after_acquire(&self, next: u32) -> HeadDetails
         ensures { result ≡ head_after_acquire next self.now }
     {
@@ -41,7 +41,7 @@ impl HeadDetails {
         }
     }
 
-    /// The head once `index` is given back: one change more, one index fewer held.
+    /// The head after `index` is released: one more change, one held index fewer.
     pub fn after_release(&self, index: u32) -> HeadDetails
         ensures { result ≡ head_after_release index self.now }
     {

@@ -1,28 +1,28 @@
-//! Data structures of fixed capacity: strings, vectors, queues, maps, and sets of indices with holders.
+//! Data structures of fixed capacity: strings, vectors, queues, maps, index sets with owners, and containers.
 //!
 //! | Module | What it has |
 //! |---|---|
 //! | `vector` | vectors: the trait `Vector`, `StaticVec` and `PolymorphicVec` |
-//! | `queue` | queues, which may let their oldest item go for a new one |
-//! | `relocatable_option` | an option with a shape of its own |
-//! | `callback_progression` | what a callback answers to the loop that calls it |
+//! | `queue` | queues, which can drop their oldest item in favour of a new one |
+//! | `relocatable_option` | an option with a memory layout of its own |
+//! | `callback_progression` | what a callback returns to the loop that calls it |
 //! | `string` | strings over the bytes 1..=127: the trait `String`, `StaticString` and `PolymorphicString` |
-//! | `semantic_strings` | texts that always obey the rules of their kind: `Semantic` over `Rules` |
-//! | `slot_map` | slot maps, which give out the keys of their values: `SlotMap` and `FixedSizeSlotMap` |
-//! | `flat_map` | flat maps, whose keys the caller brings: `FlatMap` and `FixedSizeFlatMap` |
-//! | `by_number` | values under numbers that are given once: `Numbered` |
+//! | `semantic_strings` | texts that always obey the rules of their type: `Semantic` over `Rules` |
+//! | `slot_map` | slot maps, which generate the keys of their values: `SlotMap` and `FixedSizeSlotMap` |
+//! | `flat_map` | flat maps, whose keys the caller provides: `FlatMap` and `FixedSizeFlatMap` |
+//! | `by_number` | values under numbers, each of which is given out once: `Numbered` |
 //! | `byte_cells` | values that are copied byte by byte: `FixedSizeByteAtomic`, `MaybeTorn`, `ByteMachine` |
-//! | `unique` | sets that hand out the last released index first: `UniqueIndexSet` |
-//! | `robust` | sets that know their holders, so that all of one can be recovered |
+//! | `unique` | index sets that hand out the index released last first: `UniqueIndexSet` |
+//! | `robust` | index sets that know the owner of each held index, so that all indices of one owner can be recovered |
 //! | `container` | members at indices, each with its owner: `Container` |
-//! | `shared` | sets of indices that threads share |
+//! | `shared` | index sets that threads share |
 //! | `head` | the word of a set that holds its next free index |
-//! | `release` | how an index is released, and what that leaves |
-//! | `owner` | who holds an index |
-//! | `error` | why an index, a place or a number is refused |
+//! | `release` | the modes of a release, and whether the set is locked after it |
+//! | `owner` | the id of an index's owner |
+//! | `error` | the errors of index sets, of containers and of owner ids |
 //!
-//! Each takes all its memory when it is made, and touches it as it is used. A call that would pass the capacity is
-//! refused whole, and a refused call changes nothing.
+//! Each structure allocates all its memory when it is created, and touches the memory only as it is used. A call that would exceed the
+//! capacity is refused as a whole, and a refused call changes nothing.
 //!
 //! First calls, of a queue, a map and a container of members:
 //!

@@ -1,4 +1,4 @@
-//! Keys in an order, linked one to the next and back, so that none is searched for.
+//! A doubly linked list of keys, so that no key has to be searched for.
 ghost use Rattle.std.specs.Prelude.{◌≡◌, ℕ, ◌+◌, ◌^◌, ◌<◌, ◌≤◌, [], ◌∷◌, length, IfOk, slice_get};
 ghost use Rattle.iox_container.specs.SlotTable.{Among, Distinct, without};
 ghost use Rattle.iox_container.specs.LinkedKeys.{KeysInOrder, with_next};
@@ -6,11 +6,11 @@ ghost use Rattle.iox_container.specs.LinkedKeys.{KeysInOrder, with_next};
 use std::alloc::{AllocError, Global};
 use std::marker::Model;
 
-/// Keys of those below `made` in an order, linked one to the next and back. There is room for so many keys as were asked
-/// for, and none of it is touched before the key is made.
+/// A doubly linked list of keys below `made`. The memory for all keys is allocated by `new`, but none of it is touched before the key is
+/// made.
 ///
-/// The last key's link leads to `made`, the next key that can be made. What stands before the first key isn't kept, so that
-/// taking the first key writes nothing.
+/// The last key's link leads to `made`, the next key that can be made. The link back from the first key isn't kept up to date, so that
+/// removing the first key writes nothing.
 #[derive(Drop)]
 pub(crate) struct LinkedKeys {
     next: Vec<usize>,
@@ -35,7 +35,7 @@ impl Model for LinkedKeys {
 }
 
 impl LinkedKeys {
-    /// No key, and room for so many. It fails only where an allocation fails.
+    /// An empty list that can hold `room` keys. It fails only where an allocation fails.
     pub(crate) fn new(alloc: Global, room: usize) -> Result<Self, AllocError>
         requires { room + 1 < 2 ^ 64 }
         ensures { IfOk result (λ l. l ≡ record { keys = []; made = 0; room = room }) }
@@ -67,7 +67,7 @@ impl LinkedKeys {
         self.next.len()
     }
 
-    /// How many keys can be made at all.
+    /// How many keys can be made in all.
     pub(crate) fn room(&self) -> usize
         ensures { result ≡ self.now.room }
     {
@@ -85,7 +85,7 @@ impl LinkedKeys {
         }
     }
 
-    /// Makes the next key, which comes behind the others.
+    /// Makes the next key and appends it.
     pub(crate) fn make_next(&mut self)
         requires { self.old.made < self.old.room }
         ensures { self.new ≡ with_next self.old }
@@ -96,7 +96,7 @@ impl LinkedKeys {
         self.len += 1;
     }
 
-    /// Puts a key to the front.
+    /// Adds a key at the front.
     pub(crate) fn add(&mut self, key: usize)
         requires below { key < self.old.made }
         requires held { Among key self.old.keys → ⊥ }
@@ -109,7 +109,7 @@ impl LinkedKeys {
         self.len += 1;
     }
 
-    /// Takes a key out.
+    /// Removes a key.
     pub(crate) fn remove(&mut self, key: usize)
         requires { Among key self.old.keys }
         ensures { self.new ≡ record self.old { keys = without key self.old.keys } }

@@ -1,4 +1,4 @@
-//! Who holds an index.
+//! The id of an index's owner.
 ghost use Rattle.std.specs.Prelude.{◌≡◌, ◌<◌, ◌^◌, ◌↔◌, IsOk, IfOk};
 ghost use Rattle.iox_container.specs.Owner.{IsOwner};
 
@@ -7,7 +7,7 @@ use std::marker::Model;
 
 const RESERVED: u64 = 1 << 63;
 
-/// Who holds an index: a number of 1..=2^63 - 1.
+/// The id of an owner of indices: a number in 1..=2^63 - 1.
 ///
 /// Ported from `iceoryx2_bb_lock_free::mpmc::robust_unique_index_set::OwnerId`.
 #[derive(Clone, Copy, Debug, PartialEq, Eq)]
@@ -29,7 +29,7 @@ impl Model for OwnerId {
 }
 
 impl OwnerId {
-    /// The owner with this number. Refused with `ValueReserved` if it is 0, or 2^63 or more.
+    /// The owner id with this number. Refused with `ValueReserved` if the number is 0, or is 2^63 or more.
     pub fn new(value: u64) -> Result<Self, OwnerIdNewError>
         ensures accepted { IsOk result ↔ IsOwner value }
         ensures value { IfOk result (λ owner. owner ≡ value) }

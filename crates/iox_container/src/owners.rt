@@ -1,4 +1,4 @@
-//! Who had each place last, and the list by which the places of one owner are found.
+//! The owner that had each place last, and the sorted list by which the places of one owner are found.
 ghost use Rattle.std.specs.Prelude.{◌≡◌, ◌≢◌, ◌≤◌, ◌<◌, ◌^◌, ℕ, length, slice_get, Some, true, false, IfOk, IfSome, IfNone};
 ghost use Rattle.std.specs.List.{Contains};
 ghost use Rattle.std.specs.Vec.{vec_capacity};
@@ -8,16 +8,16 @@ use crate::owner::OwnerId;
 use std::alloc::{AllocError, Global};
 use std::marker::Model;
 
-/// Who had each place last, of places that come into use one after the other, and all of it in order of owner and place,
-/// so that the places of one owner are found at once.
+/// The owner that had each place last, for places that come into use one after the other, and a list of these owners with their places,
+/// sorted by owner and place, so that the places of one owner are found quickly.
 ///
-/// A place that is given back stays on the list of who had it last, so giving back costs nothing here. The room for all
-/// places is taken when the list is made, and none of it is touched before it is used.
+/// A released place stays in the list under the owner that had it last, so a release costs nothing here. The memory for all places is
+/// allocated by `new`, and none of it is touched before it is used.
 #[derive(Drop)]
 pub(crate) struct Owners {
-    // Who had each place last.
+    // The owner that had each place last.
     last: Vec<u64>,
-    // The same with the places, in order.
+    // The same owners with their places, sorted by owner and place.
     entries: Vec<(u64, usize)>,
     room: usize,
 }
@@ -36,7 +36,7 @@ impl Model for Owners {
 }
 
 impl Owners {
-    /// Nobody had a place so far, of so many. It fails only where an allocation fails.
+    /// A record in which no place had an owner so far, for up to `room` places. It fails only where an allocation fails.
     pub(crate) fn new(alloc: Global, room: usize) -> Result<Self, AllocError>
         ensures { IfOk result (λ owners. owners ≡ new_owners room) }
     {
@@ -47,7 +47,7 @@ impl Owners {
         })
     }
 
-    /// The owner has a place now: one that was had before, or the next one.
+    /// Records that the owner has a place now: one that had an owner before, or the next place.
     pub(crate) fn set(&mut self, place: usize, owner: OwnerId)
         requires within { place < self.old.room }
         requires next { place ≤ length self.old.last }
@@ -67,8 +67,8 @@ impl Owners {
         insert(&mut self.entries, owner, place);
     }
 
-    /// The first place from one on that the owner had last; `None` where there is none. The list is looked into at `near`
-    /// before it is searched; where a place is found, `near` becomes the position behind it.
+    /// The first place, at or behind `from`, that the owner had last; `None` if there is none. The list is tried at position `near` before
+    /// it is searched. If a place is found, `near` becomes the position behind it.
     pub(crate) fn next(&self, owner: OwnerId, from: usize, near: &mut usize) -> Option<usize>
         ensures some { IfSome result (λ place. IsNext self.now.last owner from place) }
         ensures none { IfNone result ((place : ℕ) → from ≤ place → slice_get self.now.last place ≢ Some owner) }
@@ -77,7 +77,7 @@ impl Owners {
     }
 }
 
-// The first place from one on that stands with the owner; it is looked for as `Owners::next` says.
+// The first place, at or behind `from`, that is listed with the owner. It is looked up as `Owners::next` says.
 fn next_of(entries: &[(u64, usize)], owner: u64, from: usize, near: &mut usize) -> Option<usize>
     requires { Rises entries.now }
     ensures some { IfSome result (λ place. Contains entries.now (owner, place) × (from ≤ place)
@@ -97,7 +97,7 @@ fn next_of(entries: &[(u64, usize)], owner: u64, from: usize, near: &mut usize) 
     Some(found.1)
 }
 
-// One comes among them. There is room.
+// Inserts an entry in order. There must be capacity for it.
 fn insert(entries: &mut Vec<(u64, usize)>, owner: u64, place: usize)
     requires rises { Rises entries.old.items }
     requires new { Contains entries.old.items (owner, place) → ⊥ }
@@ -110,7 +110,7 @@ fn insert(entries: &mut Vec<(u64, usize)>, owner: u64, place: usize)
     let _ = entries.insert(at, (owner, place));
 }
 
-// One leaves them.
+// Removes an entry.
 fn remove(entries: &mut Vec<(u64, usize)>, owner: u64, place: usize)
     requires rises { Rises entries.old.items }
     requires listed { Contains entries.old.items (owner, place) }
@@ -121,7 +121,8 @@ fn remove(entries: &mut Vec<(u64, usize)>, owner: u64, place: usize)
     let _ = entries.remove(at);
 }
 
-// Where an owner with a place stands among them, or would. A position is tried before they are searched.
+// The position of an entry in the sorted list, or the position at which it would be inserted. The position `near` is tried before the list
+// is searched.
 fn search_near(entries: &[(u64, usize)], owner: u64, place: usize, near: usize) -> usize
     requires { Rises entries.now }
     ensures { StandsAt entries.now (owner, place) result }
@@ -133,7 +134,7 @@ fn search_near(entries: &[(u64, usize)], owner: u64, place: usize, near: usize) 
     }
 }
 
-// Whether an owner with a place stands at this position, or would.
+// Whether an entry has this position in the sorted list, or would be inserted there.
 fn stands_at(entries: &[(u64, usize)], owner: u64, place: usize, at: usize) -> bool
     requires { Rises entries.now }
     ensures { result ≡ true → StandsAt entries.now (owner, place) at }
@@ -147,7 +148,7 @@ fn stands_at(entries: &[(u64, usize)], owner: u64, place: usize, at: usize) -> b
     at == entries.len() || !is_before(entries[at], owner, place)
 }
 
-// Where an owner with a place stands among them, or would.
+// The position of an entry in the sorted list, or the position at which it would be inserted.
 fn search(entries: &[(u64, usize)], owner: u64, place: usize) -> usize
     requires { Rises entries.now }
     ensures { StandsAt entries.now (owner, place) result }

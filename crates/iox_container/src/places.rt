@@ -1,4 +1,4 @@
-//! Places in a row that take memory as they are first used.
+//! A row of places that touches its memory only as places are first used.
 ghost use Rattle.std.specs.Prelude.{◌≡◌, ◌+◌, ◌-◌, ◌<◌, ◌≤◌, ◌++◌, IsSome, length, replicate, slice_set, Some, None, IfOk, option_copied};
 ghost use Rattle.std.specs.Vec.{vec_capacity};
 ghost use Rattle.std.specs.Borrow.{sem};
@@ -8,8 +8,8 @@ ghost use Rattle.iox_container.specs.Places.{padded};
 use std::alloc::{AllocError, Global};
 use std::marker::Model;
 
-/// So many places, each with one value or none. The room for all is taken when they are made, but none of it is touched
-/// before it is used: those behind the last place that ever had a value are empty, and have no cell.
+/// A row of `count` places, each with a value or none. The memory for all of them is allocated by `new`, but none of it is touched before
+/// it is used: the places behind the last one that ever had a value are empty, and have no cell.
 #[derive(Drop)]
 pub(crate) struct Places<T> {
     cells: Vec<Option<T>>,
@@ -31,7 +31,7 @@ impl<T> Model for Places<T> {
 impl<T> Places<T> {
     ghost use Rattle.iox_container.specs.PlacesLends.{LendsPlace};
 
-    /// So many empty places. It fails only where an allocation fails.
+    /// `count` empty places. It fails only where an allocation fails.
     pub(crate) fn new(alloc: Global, count: usize) -> Result<Self, AllocError>
         ensures { IfOk result (λ places. places ≡ replicate count None) }
     {
@@ -66,7 +66,7 @@ impl<T> Places<T> {
         }
     }
 
-    /// The value at a place that has one, to be changed there.
+    /// The value at a place that has one, for modification in place.
     pub(crate) fn value_mut(&mut self, index: usize) -> &mut T
         requires { IsSome (value_at self.old index) }
         ensures* writes_back { sem 𝓛 (LendsPlace T.row self.entry index result) }
@@ -75,7 +75,7 @@ impl<T> Places<T> {
         self.cells[index].as_mut().unwrap()
     }
 
-    /// Puts a value to a place. The one that it had is dropped.
+    /// Puts a value at a place. A value that the place had before is dropped.
     pub(crate) fn put(&mut self, index: usize, value: T)
     where
         T: Drop,
@@ -86,7 +86,7 @@ impl<T> Places<T> {
         self.cells[index] = Some(value);
     }
 
-    /// Takes the value of a place, if it has one.
+    /// Takes the value out of a place, if it has one.
     pub(crate) fn take(&mut self, index: usize) -> Option<T>
         ensures value { result ≡ value_at self.old index }
         ensures after { self.new ≡ slice_set self.old index None }
@@ -99,7 +99,7 @@ impl<T> Places<T> {
     }
 }
 
-// Makes the cells up to one, each of them empty.
+// Makes the cells up to `index`, each of them empty.
 fn make_up_to<T>(index: usize, cells: &mut Vec<Option<T>>)
     requires { index < vec_capacity cells.old }
     ensures items { cells.new.items ≡ cells.old.items ++ replicate (index + 1 - length cells.old.items) None }

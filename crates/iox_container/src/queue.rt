@@ -1,4 +1,4 @@
-//! First in, first out, with a fixed number of places.
+//! First-in, first-out queues of fixed capacity.
 ghost use Rattle.std.specs.Prelude.{◌≡◌, ℕ, ◌+◌, ◌<◌, ◌≤◌, ◌↔◌, List, [], ◌∷◌, ◌++◌, length, drop, IsTrue, IsSome, IsOk, IfOk, IfNone};
 ghost use Rattle.std.specs.Prelude.{Option, Some, None, slice_get, slice_index_or, if◌then◌else◌};
 ghost use Rattle.std.specs.Option.{option_copied, option_copied_mut, option_to_list};
@@ -16,7 +16,7 @@ mod fixed_size_queue;
 
 pub use fixed_size_queue::FixedSizeQueue;
 
-/// A queue of at most `capacity` items. `new` takes all its memory, and no other call takes any.
+/// A queue of at most `capacity` items. `new` allocates all its memory, and no other call allocates.
 ///
 /// Contracts see it as its `items`, the oldest first, and its `capacity`.
 ///
@@ -42,7 +42,7 @@ impl<T> Model for Queue<T> {
 impl<T> Queue<T> {
     ghost use Rattle.iox_container.specs.QueueLends.{LendsOldest};
 
-    /// An empty queue of this capacity. It fails only where an allocation fails, and never at capacity 0.
+    /// An empty queue with this capacity. It fails only where an allocation fails, and never at capacity 0.
     pub fn new(alloc: Global, capacity: usize) -> Result<Self, AllocError>
         ensures empty { IfOk result (λ q. q.items ≡ []) }
         ensures capacity { IfOk result (λ q. q.capacity ≡ capacity) }
@@ -62,7 +62,7 @@ impl<T> Queue<T> {
         self.ring.len()
     }
 
-    /// How many items fit.
+    /// The maximum number of items.
     pub fn capacity(&self) -> usize
         ensures { result ≡ self.now.capacity }
     {
@@ -83,7 +83,7 @@ impl<T> Queue<T> {
         self.len() == self.capacity
     }
 
-    /// Appends the item and answers true, or drops it and answers false if the queue is full.
+    /// Appends the item and returns true. If the queue is full, drops the item and returns false.
     pub fn push(&mut self, value: T) -> bool
     where
         T: Drop,
@@ -98,7 +98,7 @@ impl<T> Queue<T> {
         true
     }
 
-    /// Appends the item. If the queue is full, its oldest item makes room and is returned; at capacity 0 the new one is.
+    /// Appends the item. If the queue is full, its oldest item is removed and returned; at capacity 0 the new item itself is returned.
     pub fn push_with_overflow(&mut self, value: T) -> Option<T>
         ensures overflow { result ≡ overflow_of self.old.capacity self.old.items value }
         ensures items { self.new.items ≡ pushed_with_overflow self.old.capacity self.old.items value }
@@ -128,7 +128,7 @@ impl<T> Queue<T> {
         self.ring.front()
     }
 
-    /// The oldest item, if there is one, to be changed in its place.
+    /// The oldest item for modification in place, if there is one.
     pub fn peek_mut(&mut self) -> Option<&mut T>
         ensures* writes_back { sem 𝓛 (LendsOldest T.row self.entry result) }
         ensures value { option_copied_mut result ≡ slice_get self.old.items 0 }
@@ -136,7 +136,7 @@ impl<T> Queue<T> {
         self.ring.front_mut()
     }
 
-    /// The item at `index`, counted from the oldest, which has 0.
+    /// The item at `index`, counted from the oldest, which has index 0.
     pub fn get(&self, index: usize) -> T
     where
         T: Copy,
@@ -157,7 +157,7 @@ impl<T> Queue<T> {
     }
 }
 
-/// Queues are equal where their items are, in order.
+/// Two queues are equal if their items are equal, in order.
 impl<T: PartialEq> PartialEq for Queue<T> {
     ghost eq = { λ p q. pointwise T.eq p.items q.items };
 
@@ -172,7 +172,7 @@ impl<T: Eq> Eq for Queue<T> {
     ghost laws = { on_equiv (λ q. q.items) (lists_equiv T.Eq.laws) };
 }
 
-/// The items as a list, the oldest first.
+/// Shows the items as a list, the oldest first.
 impl<T: fmt::Debug> fmt::Debug for Queue<T> {
     fn fmt<W: fmt::Write>(&self, f: &mut fmt::Formatter<W>) -> fmt::Result {
         fmt::Debug::fmt(&self.ring, f)

@@ -1,4 +1,4 @@
-//! How an index is released, and what that leaves.
+//! The modes of a release, and whether the set is locked after it.
 
 /// Whether the release of the last held index locks the set.
 ///
@@ -8,7 +8,7 @@ pub enum ReleaseMode {
     /// The set is locked for good if no index is held any longer.
     LockIfLastIndex,
 
-    /// The set stays open.
+    /// The release doesn't lock the set.
     Default,
 }
 

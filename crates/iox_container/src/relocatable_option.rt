@@ -1,4 +1,4 @@
-//! An option whose shape is its own and not the compiler's.
+//! An option with a memory layout of its own, which the compiler doesn't choose.
 ghost use Rattle.std.specs.Prelude.{◌≡◌, ◌↔◌, Bool, IsTrue, IsSome, IsNone, IfSome, IfNone, MatchOption, MatchBool, IsSomeAnd, unwrap_or};
 ghost use Rattle.std.specs.Prelude.{Some, None};
 ghost use Rattle.std.specs.Fn.{FnOnceReturnsAt, FnOnceTakesAt, FnOnceTakesAtMut};
@@ -16,8 +16,7 @@ use std::ops::{AsDeref, DerefMut};
 
 /// A value, or none.
 ///
-/// Contracts see it as the `Option` that says the same, `option_of`; each method means what `Option`'s method of that
-/// name does.
+/// Contracts see it as the equivalent `Option`, `option_of`. Each method does what the method of `Option` with the same name does.
 ///
 /// Ported from `iceoryx2_bb_container::relocatable_option::RelocatableOption`.
 #[derive(Clone, Copy, Debug, PartialEq, Eq, Drop)]
@@ -32,7 +31,7 @@ pub enum RelocatableOption<T> {
 impl<T> RelocatableOption<T> {
     ghost use Rattle.iox_container.specs.RelocatableOptionLends.{LendsValue};
 
-    /// The `Option` that says the same.
+    /// The equivalent `Option`.
     pub fn to_option(self) -> Option<T>
         ensures { result ≡ option_of self }
     {
@@ -42,7 +41,7 @@ impl<T> RelocatableOption<T> {
         }
     }
 
-    /// The value, if there is one.
+    /// A reference to the value, if there is one.
     pub fn as_option_ref(&self) -> Option<&T>
         ensures { option_copied result ≡ option_of self.now }
     {
@@ -52,7 +51,7 @@ impl<T> RelocatableOption<T> {
         }
     }
 
-    /// The value, if there is one, to be changed in its place.
+    /// The value for modification in place, if there is one.
     pub fn as_option_mut(&mut self) -> Option<&mut T>
         ensures* writes_back { sem 𝓛 (LendsValue T.row self.entry result) }
         ensures value { option_copied_mut result ≡ option_of self.old }
@@ -63,14 +62,14 @@ impl<T> RelocatableOption<T> {
         }
     }
 
-    /// The value, if there is one.
+    /// A reference to the value, if there is one.
     pub fn as_ref(&self) -> RelocatableOption<&T>
         ensures { option_copied (option_of result) ≡ option_of self.now }
     {
         RelocatableOption::from(self.as_option_ref())
     }
 
-    /// The value, if there is one, to be changed in its place.
+    /// The value for modification in place, if there is one.
     pub fn as_mut(&mut self) -> RelocatableOption<&mut T>
         ensures* writes_back { sem 𝓛 (LendsValue T.row self.entry (option_of result)) }
         ensures value { option_copied_mut (option_of result) ≡ option_of self.old }
@@ -81,7 +80,7 @@ impl<T> RelocatableOption<T> {
         }
     }
 
-    /// What the value dereferences to, if there is a value.
+    /// The target of the value's dereference, if there is a value.
     pub fn as_deref<'a>(&'a self) -> RelocatableOption<T::Shown>
     where
         T: AsDeref<'a>,
@@ -93,9 +92,10 @@ impl<T> RelocatableOption<T> {
         }
     }
 
-    /// What the value dereferences to, to be changed in its place, if there is a value.
+    /// The target of the value's dereference for modification in place, if there is a value.
     ///
-    /// The contract says what is shown. What a write through it leaves, `DerefMut` doesn't say of a type in general.
+    /// The contract says what the reference shows at first. It doesn't say what a write through the reference leaves, since `DerefMut` says
+    /// nothing of it for a type in general.
     pub fn as_deref_mut(&mut self) -> RelocatableOption<&mut T::Target>
     where
         T: DerefMut,
@@ -131,7 +131,7 @@ impl<T> RelocatableOption<T> {
         RelocatableOption::from(self.to_option().inspect(f))
     }
 
-    /// What `f` makes of the value, if there is one.
+    /// The result of `f` applied to the value, if there is one.
     pub fn map<U, F: FnOnce(T) -> U>(self, f: F) -> RelocatableOption<U>
         requires { ForSome (option_of self) (F.pre f) }
         ensures { MatchOption (option_of self) (option_of result ≡ None) (λ x. IsSomeAnd (option_of result) (F.post f x)) }
@@ -139,7 +139,7 @@ impl<T> RelocatableOption<T> {
         RelocatableOption::from(self.to_option().map(f))
     }
 
-    /// Puts a value in the place of what was there, which is returned.
+    /// Replaces the content by a value, and returns the content before.
     pub fn replace(&mut self, value: T) -> RelocatableOption<T>
         ensures before { result ≡ self.old }
         ensures after { option_of self.new ≡ Some value }
@@ -155,7 +155,7 @@ impl<T> RelocatableOption<T> {
         mem::replace(self, RelocatableOption::None)
     }
 
-    /// Takes the value out if there is one and `predicate`, which may change it, answers true.
+    /// Takes the value out if there is one and `predicate`, which may change the value, returns true.
     pub fn take_if<P: FnOnce(&mut T) -> bool>(&mut self, predicate: P) -> RelocatableOption<T>
         requires { ForSome (option_of self.old) (FnOnceTakesAtMut P.FnOnce predicate) }
         ensures none { IfNone (option_of self.old) ((option_of result ≡ None) × (option_of self.new ≡ None)) }
@@ -184,7 +184,7 @@ impl<T> RelocatableOption<T> {
         self.to_option().unwrap_or(default)
     }
 
-    /// The value, or what `f` makes.
+    /// The value, or what `f` returns.
     pub fn unwrap_or_else<F: FnOnce() -> T>(self, f: F) -> T
         requires { ForNone (option_of self) (F.pre f) }
         ensures { MatchOption (option_of self) (F.post f result) (λ x. result ≡ x) }
@@ -201,7 +201,7 @@ impl<T> RelocatableOption<T> {
         self.to_option().unwrap_or_default()
     }
 
-    /// The value, which must be there; `is_some` says so.
+    /// The value, which must exist: `is_some` must hold.
     pub fn unwrap(self) -> T
         requires { IsSome (option_of self) }
         ensures { option_of self ≡ Some result }
@@ -209,7 +209,7 @@ impl<T> RelocatableOption<T> {
         self.to_option().unwrap()
     }
 
-    /// The value, which must be there; `is_some` says so, and the message is for the reader of the code.
+    /// The value, which must exist: `is_some` must hold. The message is for readers of the code and has no effect.
     pub fn expect(self, _message: &str) -> T
         requires { IsSome (option_of self) }
         ensures { option_of self ≡ Some result }
@@ -237,7 +237,7 @@ impl<T> From<RelocatableOption<T>> for Option<T> {
     }
 }
 
-/// Its value is sent, or null.
+/// The value is serialized, or null if there is none.
 impl<T: Described> Described for RelocatableOption<T> {
     ghost writes = { λ option. WritesOption T.writes (option_of option) };
 }

@@ -1,4 +1,4 @@
-//! Sets that know their holders.
+//! Index sets that know the owner of each held index.
 ghost use Rattle.std.specs.Prelude.{◌≡◌, ℕ, List, [], Option, length, slice_set, Some, IfOk, OnErr, IfSome, IfNone, true, false};
 ghost use Rattle.std.specs.List.{FoldsTo};
 ghost use Rattle.iox_container.specs.Release.{state_of};
@@ -14,19 +14,19 @@ use crate::release::{ReleaseMode, ReleaseState};
 use std::alloc::{AllocError, Global};
 use std::marker::Model;
 
-/// A set of the indices below a capacity, which are handed out lowest first and know their holders.
+/// A set of the indices below a capacity, which hands out the lowest free index and knows the owner of each held index.
 ///
-/// `find` and `recover` search a list of owners and places once, by the logarithm of all. Then each index that the owner
-/// holds, or was the last to hold, costs the same at any size. `release` costs the same at any size. `acquire` goes over the
-/// indices below the one that it hands out; where another owner held that last, it also moves what stands behind either in
-/// the list.
+/// `find` and `recover` search a sorted list of owners and indices once, in logarithmic time. After that, each index that the owner holds,
+/// or was the last to hold, costs the same at any size. `release` costs the same at any size. `acquire` scans the indices below the one
+/// that it hands out. If another owner held that index last, `acquire` also moves the entries of the list that lie behind the old and the
+/// new position.
 ///
 /// Ported from `iceoryx2_bb_lock_free::mpmc::robust_unique_index_set::RobustUniqueIndexSet`.
 #[derive(Drop)]
 pub struct RobustUniqueIndexSet {
-    // Who holds each index.
+    // The owner of each held index.
     cells: Places<OwnerId>,
-    // Who held each last, by which those of one owner are found.
+    // The owner that held each index last, by which the indices of one owner are found.
     owners: Owners,
     locked: bool,
 }
@@ -45,7 +45,7 @@ impl Model for RobustUniqueIndexSet {
 }
 
 impl RobustUniqueIndexSet {
-    /// A set of the indices below `capacity`, of which none is held. It fails only where an allocation fails.
+    /// A set of the indices below `capacity`, none of which is held. It fails only where an allocation fails.
     pub fn new(alloc: Global, capacity: usize) -> Result<Self, AllocError>
         ensures { IfOk result (λ set. set ≡ new_robust_set capacity) }
     {
@@ -56,9 +56,9 @@ impl RobustUniqueIndexSet {
         })
     }
 
-    /// Hands the lowest free index to the owner.
+    /// Hands the lowest free index to the owner, and returns it.
     ///
-    /// Refused with `IsLocked` if the set is locked, else with `OutOfIndices` if each index is held.
+    /// Refused with `IsLocked` if the set is locked, else with `OutOfIndices` if every index is held.
     pub fn acquire(&mut self, owner: OwnerId) -> Result<usize, UniqueIndexSetAcquireFailure>
         ensures answer { result ≡ answer_of self.old.locked (lowest_free self.old) }
         ensures ok { IfOk result (λ index. self.new ≡ record self.old { holders = slice_set self.old.holders index (Some owner) }) }
@@ -74,14 +74,14 @@ impl RobustUniqueIndexSet {
         Ok(index)
     }
 
-    /// Whether the index is held: the condition of `release`.
+    /// Whether the index is held, which `release` requires.
     pub fn is_held(&self, index: usize) -> bool
         ensures { result ≡ is_held index self.now }
     {
         self.cells.get(index).is_some()
     }
 
-    /// Frees an index that is held. With `LockIfLastIndex`, the set is then locked for good if no index is held any longer.
+    /// Releases a held index. With `LockIfLastIndex`, the set is then locked for good if no index is held any longer.
     pub fn release(&mut self, index: usize, mode: ReleaseMode) -> ReleaseState
         requires { is_held index self.old ≡ true }
         ensures after { self.new ≡ settled mode (freed index self.old) }
@@ -91,7 +91,7 @@ impl RobustUniqueIndexSet {
         self.settle(mode)
     }
 
-    // Locks the set if this is how its last index was released.
+    // Locks the set if its last index was released in this mode.
     fn settle(&mut self, mode: ReleaseMode) -> ReleaseState
         ensures after { self.new ≡ settled mode self.old }
         ensures answer { result ≡ state_of self.new.locked }
@@ -106,7 +106,7 @@ impl RobustUniqueIndexSet {
         }
     }
 
-    /// Calls `callback` with each index that the owner holds, rising.
+    /// Calls `callback` with each index that the owner holds, in rising order.
     pub fn find<F: FnMut(usize)>(&self, owner: OwnerId, callback: &mut F)
         requires { F.IsAlwaysCallable callback.old }
         ensures called { FoldsTo (λ p x q. F.step p x tt q) callback.old (held_by owner self.now.holders) callback.new }
@@ -115,8 +115,8 @@ impl RobustUniqueIndexSet {
         call_held(callback, owner, &self.owners, &self.cells);
     }
 
-    /// Asks `decide` about each index that the owner holds, rising, and frees those for which it answers true. With
-    /// `LockIfLastIndex`, the set is then locked for good if no index is held any longer, also where none was freed.
+    /// Calls `decide` for each index that the owner holds, in rising order, and releases the indices for which it returns true. With
+    /// `LockIfLastIndex`, the set is then locked for good if no index is held any longer, even if this call released none.
     pub fn recover<F: FnMut(usize) -> bool>(
         &mut self,
         owner: OwnerId,
@@ -151,7 +151,7 @@ impl RobustUniqueIndexSet {
         self.locked
     }
 
-    /// All indices are below this.
+    /// The capacity: every index is below it.
     pub fn capacity(&self) -> usize
         ensures { result ≡ length self.now.holders }
     {
@@ -168,7 +168,7 @@ fn is_of(owner: OwnerId, cell: Option<OwnerId>) -> bool
     }
 }
 
-// The owner's first index from one on; it is looked for as `Owners::next` says.
+// The owner's first index at or behind `from`. It is looked up as `Owners::next` says.
 fn next_held(
     owner: OwnerId,
     owners: &Owners,
@@ -190,7 +190,7 @@ fn next_held(
     None
 }
 
-// Calls `callback` with each index that the owner holds, rising.
+// Calls `callback` with each index that the owner holds, in rising order.
 fn call_held<F: FnMut(usize)>(
     callback: &mut F,
     owner: OwnerId,
@@ -210,7 +210,7 @@ fn call_held<F: FnMut(usize)>(
     }
 }
 
-// Frees each index that the owner holds and for which `decide` answers true.
+// Releases each index that the owner holds and for which `decide` returns true.
 fn free_where<F: FnMut(usize) -> bool>(
     decide: &mut F,
     owner: OwnerId,

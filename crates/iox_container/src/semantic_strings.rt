@@ -1,10 +1,10 @@
-//! Semantic strings: texts of fixed capacity that always obey the rules of their kind.
+//! Semantic strings: texts of fixed capacity that always obey the rules of their type.
 //!
 //! | Module | What it has |
 //! |---|---|
-//! | `rules` | `Rules`: what a kind of text refuses, and its normal form |
+//! | `rules` | `Rules`: which texts a type refuses, and their normal form |
 //! | `semantic` | `Semantic`: a text that its rules accept |
-//! | `error` | why a text was refused |
+//! | `error` | why a semantic string wasn't created or changed |
 //!
 //! No call allocates, and a refused call changes nothing.
 //!

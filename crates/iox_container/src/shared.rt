@@ -1,8 +1,8 @@
-//! Sets of indices that threads share.
+//! Index sets that threads share.
 //!
-//! Each acquire and each release makes its accesses to the set's words one after the other: the head, and the link of
-//! an index to the next free one. Every call is safe and returns; its refusals are those that the capacity and the lock
-//! allow. Which index a call gets beside other threads is not claimed.
+//! `acquire` and the release of a guard access the words of the set one after the other: the head, and the link of an index to the next
+//! free one. Every call is memory-safe and returns, and is refused only if the set is locked, out of indices, or after 2^20 lost exchanges.
+//! Which index a call gets while other threads call isn't proved.
 ghost use Rattle.std.specs.Prelude.{◌≡◌, ◌<◌, ◌^◌, length, true, false, IfOk, IfErr, IsErrOf};
 ghost use Rattle.iox_container.specs.Shared.{SharedSetState, shared_form};
 ghost use Rattle.iox_container.specs.declared.error.UniqueIndexSetAcquireFailure.TheVariants.{OutOfIndices, IsLocked};
@@ -14,10 +14,10 @@ use std::alloc::{AllocError, Global};
 use std::marker::Model;
 use std::sync::atomic::{AtomicU64, Ordering};
 
-/// How many lost exchanges end a call.
+/// After how many lost exchanges a call gives up.
 const LOST_TURNS: u32 = 1 << 20;
 
-/// The link behind the last free index: the largest that a head has room for, so no set of that many indices is shared.
+/// The link behind the last free index. It is the largest index that a head can store, so a set of that many indices can't be shared.
 const END: u32 = (1 << 24) - 1;
 
 /// A set of fewer than 2^24 indices that threads share.
@@ -40,8 +40,8 @@ impl Model for SharedIndexSet {
 }
 
 impl UniqueIndexSet {
-    /// The set with its free indices as they are, to be shared. The set itself comes back where an allocation fails, or
-    /// where it has 2^24 indices or more, for which a head has no room.
+    /// Makes a shared set with the same free indices. The set is returned unchanged if an allocation fails, or if it has 2^24 indices or
+    /// more, which a head can't store.
     pub fn share(self, alloc: Global) -> Result<SharedIndexSet, UniqueIndexSet>
         ensures shared { IfOk result (λ set. set ≡ shared_form self) }
         ensures room { IfOk result (λ set. self.capacity < 2 ^ 24) }
@@ -76,7 +76,7 @@ impl UniqueIndexSet {
     }
 }
 
-// As many links, each behind the last free index.
+// `count` links, each of which marks the end of the free indices.
 fn ends(alloc: Global, count: usize) -> Result<Vec<AtomicU64>, AllocError>
     ensures { IfOk result (λ links. length links.items ≡ count) }
 {
@@ -88,10 +88,10 @@ fn ends(alloc: Global, count: usize) -> Result<Vec<AtomicU64>, AllocError>
 }
 
 impl SharedIndexSet {
-    /// Hands out the next free index, which comes back when the guard is dropped.
+    /// Hands out the next free index, which is released when the guard is dropped.
     ///
-    /// Refused with `IsLocked` if the set was locked when it was shared, else with `OutOfIndices` if each index is held,
-    /// or after 2^20 lost exchanges.
+    /// Refused with `IsLocked` if the set was locked when it was shared, else with `OutOfIndices` if every index is held, or after 2^20
+    /// lost exchanges.
     pub fn acquire(&self) -> Result<UniqueIndex<'_>, UniqueIndexSetAcquireFailure>
         ensures locked { self.now.locked ≡ true → IsErrOf result IsLocked }
         ensures out { self.now.locked ≡ false → IfErr result (λ failure. failure ≡ OutOfIndices) }
@@ -126,12 +126,12 @@ impl SharedIndexSet {
         self.head().borrowed_indices as usize
     }
 
-    /// The head as it stands: the next free index, the changes so far, how many indices are held.
+    /// The current head: the next free index, the count of changes, and how many indices are held.
     pub fn head(&self) -> HeadDetails {
         HeadDetails::from(self.head.load(Ordering::SeqCst))
     }
 
-    /// All indices are below this.
+    /// The capacity: every index is below it.
     pub fn capacity(&self) -> usize
         ensures { result ≡ self.now.capacity }
     {
@@ -145,7 +145,7 @@ impl SharedIndexSet {
         self.locked
     }
 
-    // Gives the index back, unless 2^20 exchanges are lost; then it stays held.
+    // Releases the index, unless 2^20 exchanges are lost; then the index stays held.
     fn release(&self, index: u32) {
         let Some(link) = self.links.get(index as usize) else {
             return;

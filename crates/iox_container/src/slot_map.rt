@@ -1,4 +1,4 @@
-//! Tables that give out the keys of their values.
+//! Maps that generate the keys of their values.
 ghost use Rattle.std.specs.Prelude.{◌≡◌, ℕ, ◌+◌, ◌<◌, ◌≤◌, ◌↔◌, [], ◌∷◌, length, drop, replicate, IsTrue, IsSome, IfOk, IfSome, IfNone};
 ghost use Rattle.std.specs.Prelude.{OnSome, Some, None, slice_get, option_copied};
 ghost use Rattle.std.specs.Bool.{OnTrue, OnFalse};
@@ -22,15 +22,15 @@ pub use fixed_size_slot_map::FixedSizeSlotMap;
 pub use iter::Iter;
 pub use key::SlotMapKey;
 
-/// Values under keys that the map gives out, at most `capacity` of them. `new` takes all its memory, and no other call
-/// takes any. It is touched as it is used: a key costs memory once it, or one above it, held a value, so a map of many
-/// keys that holds few values is small, and quickly made and gone over.
+/// Values under keys that the map generates, at most `capacity` of them. `new` allocates all its memory, and no other call allocates. The
+/// memory is touched only as it is used: a key costs memory once it, or one above it, held a value. So a map of many keys that holds few
+/// values is small, and it is created and iterated quickly.
 ///
-/// Contracts see it as its `values`, one or none at each key below the capacity, and its `free` keys in the order in
-/// which they will be given out: rising at first, and a key whose value is removed goes to the front. `insert`,
-/// `insert_at` and `remove` touch at most 5 cells, whatever the capacity. Only `insert_at` at a key beyond `reached`
-/// touches more, 3 for each key between, which it makes ready, once in the life of a map: 3,000,000 at key 1,000,000 of
-/// a new one, and in all at most 3 for each key. That is the price of a `new` that touches none.
+/// Contracts see it as its `values`, one or none at each key below the capacity, and its `free` keys in the order in which they will be
+/// given out: rising at first, and the key of a removed value goes to the front. `insert`, `insert_at` and `remove` touch at most 5 cells,
+/// at any capacity. Only `insert_at` at a key beyond `reached` touches more: 3 cells for each key between, which it prepares once in the
+/// lifetime of the map. At key 1,000,000 of a new map these are 3,000,000 cells, and over the map's lifetime at most 3 for each key. In
+/// return, `new` touches none.
 ///
 /// Ported from `iceoryx2_bb_container::slotmap::SlotMap`.
 #[derive(Drop)]
@@ -53,7 +53,7 @@ impl<T> Model for SlotMap<T> {
 impl<T> SlotMap<T> {
     ghost use Rattle.iox_container.specs.SlotMapLends.{LendsAt, LendsHeld};
 
-    /// An empty map of this capacity. It fails only where an allocation fails.
+    /// An empty map with this capacity. It fails only where an allocation fails.
     pub fn new(alloc: Global, capacity: usize) -> Result<Self, AllocError>
         ensures empty { IfOk result (λ m. m.values ≡ replicate capacity None) }
         ensures free { IfOk result (λ m. m.free ≡ range_with_len 0 capacity) }
@@ -74,7 +74,7 @@ impl<T> SlotMap<T> {
         self.values.len() - self.free.len()
     }
 
-    /// How many values fit.
+    /// The maximum number of values.
     pub fn capacity(&self) -> usize
         ensures { result ≡ length self.now.values }
     {
@@ -88,7 +88,7 @@ impl<T> SlotMap<T> {
         self.len() == 0
     }
 
-    /// Whether each key holds a value.
+    /// Whether every key holds a value.
     pub fn is_full(&self) -> bool
         ensures none_free { IsTrue result ↔ (self.now.free ≡ []) }
         ensures all_held { IsTrue result ↔ (held_count self.now ≡ length self.now.values) }
@@ -97,7 +97,7 @@ impl<T> SlotMap<T> {
         self.free.len() == 0
     }
 
-    /// The key that `insert` would give out, or None if the map is full.
+    /// The key that `insert` would give out; `None` if the map is full.
     pub fn next_free_key(&self) -> Option<SlotMapKey>
         ensures first { result ≡ slice_get self.now.free 0 }
         ensures free_keys { FreeKeysAreExact self.now }
@@ -122,7 +122,7 @@ impl<T> SlotMap<T> {
         self.values.get(key.value())
     }
 
-    /// The value at the key, if it holds one, to be changed in its place.
+    /// The value at the key for modification in place, if the key holds one.
     pub fn get_mut(&mut self, key: SlotMapKey) -> Option<&mut T>
         ensures* writes_back { sem 𝓛 (LendsAt T.row self.entry key result) }
         ensures value { option_copied_mut result ≡ value_at self.old.values key }
@@ -142,8 +142,7 @@ impl<T> SlotMap<T> {
         self.values.value_mut(key.value())
     }
 
-    /// Stores the value under the key that `next_free_key` returns, and returns it. If the map is full, the value is
-    /// dropped.
+    /// Stores the value under the key that `next_free_key` returns, and returns this key. If the map is full, the value is dropped.
     pub fn insert(&mut self, value: T) -> Option<SlotMapKey>
     where
         T: Drop,
@@ -159,10 +158,10 @@ impl<T> SlotMap<T> {
         Some(key)
     }
 
-    /// Stores the value under the key, in the place of the one that it held, which is dropped, and answers true. If the
-    /// key is not below the capacity, the value is dropped, and the answer is false.
+    /// Stores the value under the key and returns true; a value that the key held before is dropped. If the key isn't below the capacity,
+    /// drops the new value and returns false.
     ///
-    /// At a key beyond `reached` it makes each key between ready, which touches 3 cells for each.
+    /// At a key beyond `reached`, this call prepares each key between, which touches 3 cells for each.
     pub fn insert_at(&mut self, key: SlotMapKey, value: T) -> bool
     where
         T: Drop,
@@ -182,8 +181,8 @@ impl<T> SlotMap<T> {
         true
     }
 
-    /// Drops the value at the key and answers true, or answers false if it holds none. The key is then the next that is
-    /// given out.
+    /// Drops the value at the key and returns true; the key is then the next one that is given out. Returns false if the key holds no
+    /// value.
     pub fn remove(&mut self, key: SlotMapKey) -> bool
     where
         T: Drop,
@@ -194,7 +193,7 @@ impl<T> SlotMap<T> {
         self.take(key).is_some()
     }
 
-    // What `remove` drops.
+    // Takes out the value that `remove` drops.
     pub(crate) fn take(&mut self, key: SlotMapKey) -> Option<T>
         ensures value { result ≡ value_at self.old.values key }
         ensures some { OnSome result (self.new ≡ released self.old key) }
@@ -209,8 +208,7 @@ impl<T> SlotMap<T> {
         value
     }
 
-    /// How many keys, from the first on, were ever used: none from this one on holds a value, so who looks at each key
-    /// that may hold one stops there.
+    /// How many keys, from key 0 on, were ever used. No key at or above this number holds a value, so a scan of all keys can stop there.
     ///
     /// New in this port.
     pub fn reached(&self) -> usize
@@ -220,7 +218,7 @@ impl<T> SlotMap<T> {
         self.values.used().len()
     }
 
-    // What lies at each key that was reached.
+    // The content of each key that was reached.
     pub(crate) fn places(&self) -> &[Option<T>]
         ensures whole { padded (length self.now.values) result.now ≡ self.now.values }
         ensures bound { length result.now ≤ length self.now.values }
@@ -228,7 +226,7 @@ impl<T> SlotMap<T> {
         self.values.used()
     }
 
-    /// The keys that hold a value with it, each once, by rising key.
+    /// An iterator over the keys that hold a value, with the values, each key once, in rising order.
     pub fn iter(&self) -> Iter<'_, T>
         ensures items { result ≡ held_from 0 self.now.values }
         ensures each_once { ListsHeldKeys self.now.values result }
@@ -240,7 +238,7 @@ impl<T> SlotMap<T> {
     }
 }
 
-/// Goes over the keys that hold a value, with it, by rising key.
+/// Iterates over the keys that hold a value, with the values, in rising order.
 impl<'a, T> IntoIterator for &'a SlotMap<T> {
     type Item = (SlotMapKey, &'a T);
 
@@ -253,7 +251,7 @@ impl<'a, T> IntoIterator for &'a SlotMap<T> {
     }
 }
 
-/// The values beside the numbers of their keys as a map, by rising key.
+/// Shows the values with the numbers of their keys as a map, in rising order.
 impl<T: fmt::Debug> fmt::Debug for SlotMap<T> {
     fn fmt<W: fmt::Write>(&self, f: &mut fmt::Formatter<W>) -> fmt::Result {
         let mut out = f.debug_map();

@@ -2,15 +2,15 @@
 //!
 //! | Module | What it has |
 //! |---|---|
-//! | `string_trait` | `String`: what every string does, wherever its bytes lie |
-//! | `static_string` | `StaticString`: a string that lies in the value itself |
-//! | `polymorphic_string` | `PolymorphicString`: a string whose capacity is chosen when it is made |
-//! | `bytes` | questions on bytes that may be no text |
-//! | `row` | what both strings lie in: a text, and then zeros |
-//! | `text_form` | a `StaticString` written as text, and read from it |
-//! | `error` | why a string was not changed |
+//! | `string_trait` | `String`: the operations of every string, wherever its bytes are stored |
+//! | `static_string` | `StaticString`: a string whose bytes are stored in the value itself |
+//! | `polymorphic_string` | `PolymorphicString`: a string whose capacity is chosen when it is created |
+//! | `bytes` | functions on bytes that may not be a text |
+//! | `row` | how both strings store their text: the bytes, followed by zeros |
+//! | `text_form` | a `StaticString` serialized as text, and deserialized from it |
+//! | `error` | why a string wasn't changed |
 //!
-//! Each takes all its memory when it is made. A call that would pass the capacity is refused whole, and a refused call
+//! Each string allocates all its memory when it is created. A call that would exceed the capacity is refused as a whole, and a refused call
 //! changes nothing.
 //!
 //! A first call:

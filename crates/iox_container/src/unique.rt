@@ -1,4 +1,4 @@
-//! Sets that hand out the last released index first.
+//! Index sets that hand out the index released last first.
 ghost use Rattle.std.specs.Prelude.{◌≡◌, ◌≤◌, ◌<◌, ◌+◌, ℕ, length, true, false, IfOk, OnErr};
 ghost use Rattle.std.specs.List.{count_by, range_with_len};
 ghost use Rattle.iox_container.specs.Release.{locks, state_of};
@@ -9,12 +9,12 @@ use crate::release::{ReleaseMode, ReleaseState};
 use std::alloc::{AllocError, Global};
 use std::marker::Model;
 
-/// A set of the indices below a capacity. They are handed out 0, 1, 2 and so on, and later the last released first.
+/// A set of the indices below a capacity. They are handed out in the order 0, 1, 2 and so on; a released index is the next one handed out.
 ///
 /// Ported from `iceoryx2_bb_lock_free::mpmc::unique_index_set::UniqueIndexSet`.
 #[derive(Drop)]
 pub struct UniqueIndexSet {
-    // The free indices; the last of them is handed out next.
+    // The free indices; the last one in the list is handed out next.
     free: Vec<usize>,
     // Whether each index is held.
     held: Vec<bool>,
@@ -36,7 +36,7 @@ impl Model for UniqueIndexSet {
 }
 
 impl UniqueIndexSet {
-    /// A set of the indices below `capacity`, of which none is held. It fails only where an allocation fails.
+    /// A set of the indices below `capacity`, none of which is held. It fails only where an allocation fails.
     pub fn new(alloc: Global, capacity: usize) -> Result<Self, AllocError>
         ensures { IfOk result (λ set. set ≡ new_unique_set capacity) }
     {
@@ -54,7 +54,7 @@ impl UniqueIndexSet {
 
     /// Hands out the next free index.
     ///
-    /// Refused with `IsLocked` if the set is locked, else with `OutOfIndices` if each index is held.
+    /// Refused with `IsLocked` if the set is locked, else with `OutOfIndices` if every index is held.
     pub fn acquire_raw_index(&mut self) -> Result<usize, UniqueIndexSetAcquireFailure>
         ensures answer { result ≡ answer_of self.old.locked self.old.free }
         ensures ok { IfOk result (λ index. self.new ≡ acquired self.old) }
@@ -72,14 +72,14 @@ impl UniqueIndexSet {
         Ok(index)
     }
 
-    /// Whether the index is held: the condition of `release_raw_index`.
+    /// Whether the index is held, which `release_raw_index` requires.
     pub fn is_held(&self, index: usize) -> bool
         ensures { result ≡ is_held index self.now }
     {
         index < self.held.len() && self.held[index]
     }
 
-    /// Frees an index that is held. With `LockIfLastIndex`, the set is then locked for good if no index is held any longer.
+    /// Releases a held index. With `LockIfLastIndex`, the set is then locked for good if no index is held any longer.
     pub fn release_raw_index(&mut self, index: usize, mode: ReleaseMode) -> ReleaseState
         requires { is_held index self.old ≡ true }
         ensures after { self.new ≡ settled mode (freed index self.old) }
@@ -91,7 +91,7 @@ impl UniqueIndexSet {
         self.settle(mode)
     }
 
-    // The index becomes the next one that is handed out.
+    // Makes the index the next one that is handed out.
     fn put_back(&mut self, index: usize)
         requires { is_held index self.old ≡ true }
         ensures after { self.new ≡ freed index self.old }
@@ -102,7 +102,7 @@ impl UniqueIndexSet {
         self.free.push_reserved(index);
     }
 
-    // Locks the set if this is how its last index was released.
+    // Locks the set if its last index was released in this mode.
     fn settle(&mut self, mode: ReleaseMode) -> ReleaseState
         ensures after { self.new ≡ settled mode self.old }
         ensures answer { result ≡ state_of self.new.locked }
@@ -117,7 +117,7 @@ impl UniqueIndexSet {
         }
     }
 
-    // The free indices; the last of them is handed out next.
+    // The free indices; the last one in the list is handed out next.
     pub(crate) fn free_indices(&self) -> &[usize] {
         self.free.as_slice()
     }
@@ -139,7 +139,7 @@ impl UniqueIndexSet {
         self.locked
     }
 
-    /// All indices are below this.
+    /// The capacity: every index is below it.
     pub fn capacity(&self) -> usize
         ensures { result ≡ self.now.capacity }
     {

@@ -1,4 +1,4 @@
-//! Vectors with a fixed number of places.
+//! Vectors of fixed capacity.
 mod error;
 mod list_form;
 mod polymorphic_vec;

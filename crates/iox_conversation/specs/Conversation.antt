@@ -1,5 +1,5 @@
--- What is written for what is read. `answers` says what one line is answered, and what becomes of who answers; `used` counts how many of
--- the numbers below 2^64 they have given out.
+-- What is written for what is read. `answers` says what the answer to a line is, and how it changes the machine that answers; `used` counts
+-- how many of the numbers below 2^64 the machine has given.
 use Rattle.std.specs.Prelude.{◌≡◌, ◌⊎◌, ℕ, ◌+◌, ◌^◌, ◌<◌, ◌≤◌, ◌==◌, Bool, true, false, not, List, [], ◌∷◌, ◌++◌, Option, length}
 use Rattle.std.specs.List.{list_all}
 use Rattle.std.specs.Io.KnownBytes.{Consumes, Appends, IsAtEnd}
@@ -7,23 +7,23 @@ use Rattle.iox_conversation.specs.Lines.{heard_whole}
 use Rattle.iox_conversation.specs.declared.error.ServeError.{ServeError}
 use Rattle.iox_conversation.specs.declared.error.ServeError.TheVariants.{ReadFault, WriteFault, OutOfMemory}
 
--- these bytes answer these lines, one line for each, in order
+-- The output answers these lines, one output line for each, in order.
 abbrev pub Served : {M : Type 0} → (M → List ℕ → List ℕ → M → Type 0) → M → List (List ℕ) → List ℕ → M → Type 0
 Served answers old [] out new = (out ≡ []) × (new ≡ old)
 Served {M} answers old (line ∷ lines) out new =
     (text : List ℕ) × (rest : List ℕ) × (mid : M) × answers old line text mid × Served answers mid lines rest new
     × (out ≡ text ++ (10 ∷ rest))
 
--- the output answers each line of the input, from here on
+-- The output answers each line of the input, from this state of the machine on.
 abbrev pub IsConversation : {M : Type 0} → (M → List ℕ → List ℕ → M → Type 0) → M → List ℕ → List ℕ → Type 0
 IsConversation {M} answers start input out = (final : M) × Served answers start (heard_whole true input) out final
 
--- a conversation under way: who answers, and what was heard of the line that isn't whole yet
+-- A conversation under way: the machine that answers, and what was heard of the line that isn't whole yet.
 pub record SessionState (M : Type 0) : Type 0 where
   pub machine : M
   pub line : List ℕ
 
--- these bytes came, and those answer each line that is whole by them, whatever comes next
+-- The bytes were read, and the output answers each line that is whole by them, whatever comes next.
 pub record Advances {M : Type 0} (answers : M → List ℕ → List ℕ → M → Type 0) (used : M
     → ℕ) (old : SessionState M) (bytes out : List ℕ) (new : SessionState M) : Type 0 where
   pub done : List (List ℕ)
@@ -31,7 +31,7 @@ pub record Advances {M : Type 0} (answers : M → List ℕ → List ℕ → M �
   pub lines : (rest : List ℕ) → heard_whole true (old.line ++ (bytes ++ rest)) ≡ done ++ heard_whole true (new.line ++ rest)
   pub counts : used new.machine ≤ used old.machine + length bytes
 
--- Those bytes answer each line that is whole by the first of these, and the others end a line.
+-- The output answers each line that is whole by the first of the bytes, and the others end a line.
 pub record StopsShort {M : Type 0} (answers : M → List ℕ → List ℕ → M → Type 0) (used : M
     → ℕ) (old : SessionState M) (bytes out : List ℕ) : Type 0 where
   pub first : List ℕ
@@ -42,13 +42,13 @@ pub record StopsShort {M : Type 0} (answers : M → List ℕ → List ℕ → M 
   pub whole : list_all (λ b. not (b == 10)) mid.line ≡ true
   pub due : list_all (λ b. not (b == 10)) more ≡ false
 
--- these bytes came last, and those answer each line
+-- The bytes were read last, and the output answers each line.
 pub record Ends {M : Type 0} (answers : M → List ℕ → List ℕ → M → Type 0) (old : SessionState M) (bytes out : List ℕ) : Type 0 where
   pub final : M
   pub served : Served answers old.machine (heard_whole true (old.line ++ bytes)) out final
 
--- A conversation from here to the end of the input: what was left, of 2^36 bytes at most, was read to its end, and what was written answers
--- it.
+-- A conversation from this state to the end of the input: what the reader still had, of at most 2^36 bytes, was read to its end, and what
+-- was written answers it.
 pub record Converses {M : Type 0} (answers : M → List ℕ → List ℕ → M → Type 0) (used : M
     → ℕ) (old : SessionState M) (left leaves held holds : Option (List ℕ)) : Type 0 where
   pub bytes : List ℕ
@@ -62,21 +62,21 @@ pub record Converses {M : Type 0} (answers : M → List ℕ → List ℕ → M �
   pub advances : Advances answers used old bytes text mid
   pub ends : Ends answers mid [] last
 
--- These bytes are a beginning of what answers the lines that are whole by a last piece, or by its first bytes where no memory was found for
--- the next line, or at the end of the input the last line.
+-- The bytes are a beginning of the answers to the lines that are whole by a last piece, or by its first bytes if memory ran out for the
+-- next line, or, at the end of the input, for the last line.
 abbrev pub AreBegun : {M : Type 0} → (M → List ℕ → List ℕ → M → Type 0) → (M → ℕ) → Bool → SessionState M → List ℕ → List ℕ → Type 0
 AreBegun {M} answers used ended old piece part =
     (rest : List ℕ) × (((first : List ℕ) × (more : List ℕ) × (new : SessionState M) × (piece ≡ first ++ more)
     × Advances answers used old first (part ++ rest) new × (list_all (λ b. not (b == 10)) new.line ≡ true))
     ⊎ ((piece ≡ []) × (ended ≡ true) × Ends answers old [] (part ++ rest)))
 
--- a line has to be answered next: these bytes end it, or it is the last one and isn't empty
+-- A line has to be answered next: these bytes end it, or it is the last one and isn't empty.
 abbrev pub IsDue : {M : Type 0} → Bool → SessionState M → List ℕ → Type 0
 IsDue ended session piece = (list_all (λ b. not (b == 10)) piece ≡ false) ⊎ ((piece ≡ []) × (ended ≡ true) × (0 < length session.line))
 
--- A conversation from here that broke off, of 2^36 bytes at most. All that was read before a last piece is answered. After a read fault
--- there is no such piece, and after a write fault a beginning of what answers it is written. Where memory was wanting, nothing was read
--- yet, or that piece ends the first line that isn't answered.
+-- A conversation from this state that broke off, of at most 2^36 bytes. All that was read before a last piece is answered. After a read
+-- fault there is no such piece, and after a write fault a beginning of its answers is written. If memory ran out, nothing was read yet, or
+-- that piece ends the first line that isn't answered.
 pub record BreaksOff {M : Type 0} (answers : M → List ℕ → List ℕ → M → Type 0) (used : M → ℕ) (error : ServeError) (ended : Bool)
     (old : SessionState M) (left leaves held holds : Option (List ℕ)) : Type 0 where
   pub bytes : List ℕ
@@ -94,8 +94,8 @@ pub record BreaksOff {M : Type 0} (answers : M → List ℕ → List ℕ → M �
   pub begun : (part ≡ []) ⊎ ((error ≡ WriteFault) × AreBegun answers used ended mid piece part)
   pub due : error ≡ OutOfMemory → IsDue ended mid piece ⊎ ((bytes ≡ []) × (piece ≡ []))
 
--- What was written is a beginning of the reply lines, in order, of lines that were read whole: the first ones, one reply line for each. Of
--- the input at most 2^36 bytes were read.
+-- What was written is a beginning of the reply lines, in order, to lines that were read whole: the first of them, one reply line for each.
+-- At most 2^36 bytes of the input were read.
 pub record WritesABeginning {M : Type 0} (answers : M → List ℕ → List ℕ → M
     → Type 0) (ended : Bool) (start : M) (left leaves held holds : Option (List ℕ)) : Type 0 where
   pub read : List ℕ

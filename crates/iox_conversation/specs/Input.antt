@@ -1,14 +1,14 @@
--- A reader, and what its calls answered so far.
+-- A reader, and what its calls have returned so far.
 use Rattle.std.specs.Prelude.{ℕ, Bool, false, ◌==◌, Option, None, Some, Result, Ok, Err}
 
--- the reader, how many read calls were made, whether one failed, and whether the last gave no bytes
+-- The reader, how many read calls were made, whether one failed, and whether the last returned no bytes.
 pub record InputState (R : Type 0) : Type 0 where
   pub reader : R
   pub calls : ℕ
   pub failed : Bool
   pub ended : Bool
 
--- a read call went well and gave no bytes
+-- Whether a read call succeeded and returned no bytes.
 abbrev pub is_end : {E : Type 0} → Result (Option ℕ) E → Bool
 is_end (Ok (Some count)) = count == 0
 is_end (Ok None) = false

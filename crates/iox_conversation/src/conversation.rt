@@ -13,23 +13,23 @@ use crate::write_all::write_all;
 use std::alloc::Global;
 use std::io::{Read, Write};
 
-/// How many read calls a conversation makes at most.
+/// The maximum number of read calls of a conversation.
 pub const READ_CALLS: u64 = 1 << 20;
 
 /// How many bytes one read call asks for.
 const PIECE: usize = 65536;
 
-/// Answers each line of the input by one line of output, until a read gives no bytes.
+/// Answers each line of the input by one line of output, until a read returns no bytes.
 ///
-/// Of a line of more than 1,024 bytes its first 1,025 are heard. A last line without a newline counts if it isn't empty. The
-/// lines of one read are answered before the next read, and their replies are written together.
+/// Only the first 1,025 bytes of a longer line are heard. A last line without a newline counts if it isn't empty. The lines of one read are
+/// answered before the next read, and their replies are written together.
 ///
-/// After an error, what is written is a beginning of the replies, in order, to the lines that were read whole. After `ReadFault`
-/// those are all of them; after `WriteFault` all to what was read before the last read, and a beginning of the others; after
-/// `OutOfMemory` those to all lines before the one for which no memory was found.
+/// After an error, what is written is a beginning of the replies, in order, to the lines that were read whole: after `ReadFault` all of
+/// them; after `WriteFault` those to all that was read before the last read, and a beginning of the others; after `OutOfMemory` those to
+/// all lines before the one at which memory ran out.
 ///
-/// A read or write that a signal interrupts is made again. Each such read counts as a read call, and a write that is interrupted
-/// 2^20 times one after the other has failed.
+/// A read or write that a signal interrupts is repeated. Each such read counts as a read call, and a write that is interrupted 2^20 times
+/// in sequence has failed.
 pub fn serve<M: AnswersLines, R: Read, W: Write>(
     alloc: Global,
     machine: M,
@@ -38,11 +38,11 @@ pub fn serve<M: AnswersLines, R: Read, W: Write>(
 ) -> Result<(), ServeError>
     requires calls { input.old.calls + 2 ^ 20 < 2 ^ 64 }
     requires used { M.used machine + 2 ^ 36 < 2 ^ 64 }
-    // The premise is that the reader tells the bytes that it has left.
+    // The premise is that the reader says which bytes it still has.
     ensures conversation { OnOk result (IfSome (R.remaining input.old.reader) (λ bytes.
         (text : List ℕ) × Appends (W.contents output.old.writer) (W.contents output.new.writer) text
         × IsConversation M.answers machine bytes text)) }
-    // As many bytes are read at most as so many read calls give.
+    // At most as many bytes are read as the maximum number of read calls returns.
     ensures few { OnOk result (IfSome (R.remaining input.old.reader) (λ bytes. length bytes ≤ 2 ^ 36)) }
     ensures broken { IfErr result (λ error. BreaksOff M.answers M.used error input.new.ended (record { machine = machine; line = [] })
         (R.remaining input.old.reader) (R.remaining input.new.reader) (W.contents output.old.writer) (W.contents output.new.writer)) }

@@ -1,4 +1,4 @@
-//! Why a conversation ended before its input did, and how a program says so.
+//! Why a conversation ended before its input did, and how a program reports it.
 ghost use Rattle.std.specs.Prelude.{◌≡◌};
 ghost use Rattle.iox_conversation.specs.Ending.{words_of_error, status_of_error, status_of};
 
@@ -12,12 +12,12 @@ pub enum ServeError {
     ReadFault,
     /// A write call failed, took no bytes, or was interrupted 2^20 times.
     WriteFault,
-    /// No memory was found for a reply.
+    /// An allocation failed for a reply.
     OutOfMemory,
 }
 
 impl ServeError {
-    /// What it displays as.
+    /// The text that the error displays.
     pub fn text(&self) -> &'static str
         ensures { result.now ≡ words_of_error self.now }
     {
@@ -28,7 +28,7 @@ impl ServeError {
         }
     }
 
-    /// The status with which a program ends that met it: 1 after a read or write fault, 2 where an allocation failed.
+    /// The status with which a program ends after this error: 1 after a read or write fault, 2 if an allocation failed.
     pub fn status(&self) -> u8
         ensures { result ≡ status_of_error self.now }
     {
@@ -39,7 +39,7 @@ impl ServeError {
     }
 }
 
-/// The status with which a program ends after a conversation: 0 at the end of its input, else that of the error.
+/// The status with which a program ends after a conversation: 0 at the end of its input, otherwise that of the error.
 pub fn status(ending: Result<(), ServeError>) -> u8
     ensures { result ≡ status_of ending }
 {

@@ -1,4 +1,4 @@
-//! A reader, with what its calls answered so far.
+//! A reader, with what its calls have returned so far.
 ghost use Rattle.std.specs.Prelude.{◌≡◌, ◌≢◌, ◌+◌, ◌||◌, ◌<◌, ◌≤◌, ◌^◌, true, false, not, Ok, Some, take, length, IfOk, IfErr, OnErr};
 ghost use Rattle.std.specs.Prelude.{IfSome, IfNone, is_err};
 ghost use Rattle.std.specs.Io.KnownBytes.{Consumes, IsAtEnd, Keeps};
@@ -9,7 +9,7 @@ use std::io;
 use std::io::{ErrorKind, Read};
 use std::marker::Model;
 
-/// A reader that counts its read calls and remembers whether one failed or gave no bytes.
+/// A reader that counts its read calls and remembers whether one failed or returned no bytes.
 #[derive(Drop)]
 pub struct Input<R> {
     reader: R,
@@ -27,7 +27,7 @@ impl<R> Model for Input<R> {
 }
 
 impl<R> Input<R> {
-    /// A reader of which nothing was read yet.
+    /// A reader from which nothing was read yet.
     pub fn new(reader: R) -> Self
         ensures { result ≡ record { reader = reader; calls = 0; failed = false; ended = false } }
     {
@@ -53,14 +53,14 @@ impl<R> Input<R> {
         self.calls
     }
 
-    /// Whether a read call failed. One that a signal interrupted didn't.
+    /// Whether a read call failed. A call that a signal interrupted hasn't failed.
     pub fn has_failed(&self) -> bool
         ensures { result ≡ self.now.failed }
     {
         self.failed
     }
 
-    /// Whether the last read call gave no bytes.
+    /// Whether the last read call returned no bytes.
     pub fn has_ended(&self) -> bool
         ensures { result ≡ self.now.ended }
     {
@@ -69,8 +69,8 @@ impl<R> Input<R> {
 }
 
 impl<R: Read> Input<R> {
-    /// One read call: how many bytes it gave, or `None` where a signal interrupted it. One that was interrupted or failed took
-    /// no byte from the reader.
+    /// Makes one read call: the answer is how many bytes it returned, or `None` if a signal interrupted it. A call that was interrupted or
+    /// failed took no byte from the reader.
     pub(crate) fn read(&mut self, buffer: &mut [u8]) -> io::Result<Option<usize>>
         requires { self.old.calls + 1 < 2 ^ 64 }
         ensures bound { IfOk result (λ given. IfSome given (λ count. count ≤ length buffer.new)) }

@@ -1,17 +1,17 @@
-//! Lines in, lines out: a conversation of anybody who answers lines, over any reader and writer.
+//! Lines in, lines out: a conversation of any machine that answers lines, over any reader and writer.
 //!
-//! The contract of `serve` says that, for any reader and writer whose contracts say which bytes passed, what was written are the
-//! answers, in order, to the lines read: `specs/Conversation.antt`. What a line is answered is a member of who answers.
+//! The contract of `serve` says that, for any reader and writer whose contracts say which bytes they moved, what was written are the
+//! answers, in order, to the lines read: `specs/Conversation.antt`. The answer to a line is a member of the machine.
 //!
 //! | Module | What it has |
 //! |---|---|
-//! | `machine` | who answers lines |
-//! | `input` | a reader, with what its calls answered |
-//! | `output` | a writer, with what its calls answered |
+//! | `machine` | a machine that answers lines |
+//! | `input` | a reader, with what its calls have returned |
+//! | `output` | a writer, with what its calls have returned |
 //! | `write_all` | all of a text, in as many write calls as it takes |
-//! | `session` | who answers, and the line that isn't whole yet |
+//! | `session` | the machine that answers, and the line that isn't whole yet |
 //! | `conversation` | all lines of an input |
-//! | `error` | why a conversation ended, and how a program says so |
+//! | `error` | why a conversation ended, and how a program reports it |
 //!
 //! A first call:
 //!

@@ -1,22 +1,22 @@
-//! Who answers lines.
+//! Machines that answer lines.
 ghost use Rattle.std.specs.Prelude.{◌≡◌, ℕ, ◌+◌, ◌≤◌, ◌<◌, ◌^◌, ◌++◌, List, OnOk, OnErr};
 ghost use Rattle.std.specs.Io.{StartsWith};
 
 use std::alloc::{AllocError, Global};
 
-/// Who answers lines, one after the other.
+/// A machine that answers lines, one after the other.
 ///
-/// This port's own.
+/// Not in `iceoryx2`.
 pub trait AnswersLines: Drop {
-    // what a line is answered, without a newline, and what becomes of who answers
+    // the answer to a line, without a newline, and the machine afterwards
     ghost answers: { Self → List ℕ → List ℕ → Self → Type 0 };
 
-    // how many of the numbers below 2^64 were given out
+    // how many of the numbers below 2^64 the machine has given
     ghost used: { Self → ℕ };
 
-    /// Answers a line, of which at most its first 1,025 bytes are given, and appends the answer without a newline.
+    /// Answers a line, of which at most the first 1,025 bytes are given, and appends the answer without a newline.
     ///
-    /// Fails only where an allocation fails. What stood there before stays; what was appended then is taken away again.
+    /// Fails only if an allocation fails. Then what was there before stays; a part of the answer may follow it, which the caller removes.
     fn answer_line(
         &mut self,
         alloc: Global,

@@ -1,4 +1,4 @@
-//! A writer, with what its calls answered so far.
+//! A writer, with what its calls have returned so far.
 ghost use Rattle.std.specs.Prelude.{◌≡◌, ◌≢◌, ◌||◌, ◌<◌, ◌≤◌, true, false, take, length, IfOk, IfErr, OnErr, IfSome, IfNone, is_none};
 ghost use Rattle.std.specs.Prelude.{is_err};
 ghost use Rattle.std.specs.Io.KnownBytes.{Appends, Keeps};
@@ -53,7 +53,7 @@ impl<W> Output<W> {
         writer
     }
 
-    /// Whether a write call failed, or took none of the bytes that it was given. One that a signal interrupted did neither.
+    /// Whether a write call failed, or took none of the bytes that it was given. A call that a signal interrupted did neither.
     pub fn has_failed(&self) -> bool
         ensures { result ≡ self.now.failed }
     {
@@ -62,8 +62,8 @@ impl<W> Output<W> {
 }
 
 impl<W: Write> Output<W> {
-    /// A write call that isn't interrupted: how many bytes it took, or `None` where it failed or took none. Then the writer holds
-    /// what it held. Interrupted 2^20 times one after the other, it has failed.
+    /// Makes write calls until one isn't interrupted: the answer is how many bytes it took, or `None` if it failed or took none, and then
+    /// the writer is as it was. After 2^20 interruptions in sequence it has failed.
     pub(crate) fn write(&mut self, bytes: &[u8]) -> Option<usize>
         ensures bound { IfSome result (λ count. (0 < count) × (count ≤ length bytes.now)) }
         ensures taken { IfSome result (λ count. Appends (W.contents self.old.writer) (W.contents self.new.writer) (take count bytes.now)) }
@@ -82,7 +82,7 @@ impl<W: Write> Output<W> {
         None
     }
 
-    /// One write call: how many bytes it took, or `None` where a signal interrupted it. One that took none has failed.
+    /// Makes one write call: the answer is how many bytes it took, or `None` if a signal interrupted it. A call that took none has failed.
     fn write_once(&mut self, bytes: &[u8]) -> io::Result<Option<usize>>
         ensures bound { IfOk result (λ took. IfSome took (λ count. (0 < count) × (count ≤ length bytes.now))) }
         ensures taken { IfOk result (λ took. IfSome took

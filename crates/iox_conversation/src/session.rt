@@ -1,4 +1,4 @@
-//! A conversation under way: who answers, and what was heard of the line that isn't whole yet.
+//! A conversation under way: the machine that answers, and what was heard of the line that isn't whole yet.
 ghost use Rattle.std.specs.Prelude.{◌≡◌, ◌==◌, ℕ, List, ◌+◌, ◌++◌, ◌∷◌, [], ◌<◌, ◌≤◌, ◌^◌, true, not, length, take, OnOk, OnErr, IfOk};
 ghost use Rattle.std.specs.Io.{StartsWith};
 ghost use Rattle.std.specs.List.{list_all};
@@ -12,7 +12,7 @@ use std::marker::Model;
 /// The most bytes of a line, without its newline.
 const LINE_LIMIT: usize = 1024;
 
-/// Who answers, and the bytes of the line under way. Of a line that is too long no more is kept than tells that.
+/// The machine that answers, and the bytes of the line under way. Of a line that is too long only as much is kept as shows that.
 #[derive(Drop)]
 pub(crate) struct Session<M> {
     machine: M,
@@ -33,7 +33,7 @@ impl<M> Model for Session<M> {
 }
 
 impl<M: AnswersLines> Session<M> {
-    /// Nothing was heard yet.
+    /// A session that has heard nothing yet.
     pub fn new(alloc: Global, machine: M) -> Result<Self, AllocError>
         ensures { IfOk result (λ session. session ≡ record { machine = machine; line = [] }) }
     {
@@ -57,8 +57,8 @@ impl<M: AnswersLines> Session<M> {
         };
     }
 
-    /// Ends the line under way by these bytes, and appends its reply line, or nothing where memory is wanting for it. A line that
-    /// lies there whole isn't copied.
+    /// Ends the line under way with these bytes, and appends its reply line, or nothing if memory runs out for it. A line that is whole in
+    /// these bytes isn't copied.
     fn end_line(&mut self, alloc: Global, part: &[u8], out: &mut Vec<u8>) -> Result<(), AllocError>
         requires unbroken { list_all (λ b. not (b == 10)) part.now ≡ true }
         requires used { M.used self.old.machine + 1 < 2 ^ 64 }
@@ -78,8 +78,7 @@ impl<M: AnswersLines> Session<M> {
         Ok(())
     }
 
-    /// Takes the bytes of one read, and appends the reply line of each line that they end, up to the first for which memory is
-    /// wanting.
+    /// Takes the bytes of one read, and appends the reply line of each line that they end, up to the first at which memory runs out.
     pub fn take_bytes(
         &mut self,
         alloc: Global,
@@ -103,7 +102,7 @@ impl<M: AnswersLines> Session<M> {
         Ok(())
     }
 
-    /// Ends the input: a last line without a newline is answered if it isn't empty. Nothing is appended where memory is wanting.
+    /// Ends the input: a last line without a newline is answered if it isn't empty. Nothing is appended if memory runs out.
     pub fn finish(&mut self, alloc: Global, out: &mut Vec<u8>) -> Result<(), AllocError>
         requires { M.used self.old.machine + 1 < 2 ^ 64 }
         ensures answers { OnOk result ((text : List ℕ) × (out.new.items ≡ out.old.items ++ text) × Ends M.answers self.old [] text) }
@@ -117,7 +116,7 @@ impl<M: AnswersLines> Session<M> {
     }
 }
 
-/// Answers one line, and appends the answer and a newline, or nothing where memory is wanting for it.
+/// Answers one line, and appends the answer and a newline, or nothing if memory runs out for it.
 fn answer<M: AnswersLines>(
     alloc: Global,
     machine: &mut M,
@@ -138,7 +137,7 @@ fn answer<M: AnswersLines>(
     answered
 }
 
-/// The same, but that something of the answer may stand there where memory is wanting for it.
+/// Answers one line, and appends the answer and a newline. If memory runs out, a part of the answer may have been appended.
 fn append_answer<M: AnswersLines>(
     alloc: Global,
     machine: &mut M,

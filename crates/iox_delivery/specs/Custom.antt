@@ -1,4 +1,4 @@
--- What the calls of ports do to their home whose values are the bytes of a payload: only the description tells how many an element has.
+-- The calls of ports whose values are the bytes of a payload: only the description says how many bytes an element has.
 use Rattle.std.specs.Prelude.{ℕ, ◌*◌, ◌-◌, ◌^◌, ◌≡◌, min, Option, None, Some, Result}
 use Rattle.iox_domain.specs.DomainValues.declared.port_error.LoanError.{LoanError}
 use Rattle.iox_delivery.specs.DomainPorts.declared.publisher_port.PublisherPort.{PublisherPort}
@@ -10,16 +10,16 @@ use Rattle.iox_delivery.specs.declared.loan.Loan.{Loan as Lent}
 use Rattle.iox_delivery.specs.declared.loan.Uninit.{Uninit}
 use Rattle.iox_delivery.specs.declared.port_id.PortId.{PortId}
 
--- how many values an element of a publisher has; none without one
+-- How many values an element of the publisher has; 0 if there is no publisher.
 abbrev pub unit_of : {T U : Type 0} → Option (PublisherPort T U) → ℕ
 unit_of None = 0
 unit_of (Some port) = port.unit
 
--- how many values so many elements of the publisher of a number have, counted up to 2^64 - 1: no slot has room for as many
+-- How many values these elements of the publisher with this number have, counted up to 2^64 - 1: no slot has room for as many.
 abbrev pub values_of : {T U : Type 0} → ℕ → ℕ → Option (ServicePorts T U) → ℕ
 values_of number elements ports = min (elements * unit_of (publisher_found number ports)) (2 ^ 64 - 1)
 
--- A publisher lends so many elements to be written, as all of their values; the header tells so many elements.
+-- What the loan of `elements` elements, with all of their values, answers and changes; the header says so many elements.
 abbrev pub LendsElements : {T U K H : Type 0} → (DomainId → H → Option (ServicePorts T U)) → (DomainId → ServicePorts T U → H → H)
     → PortId → ℕ → H → Result (Lent T U K Uninit) LoanError → H → Type 0
 LendsElements ports_of with_ports port elements old answer new =

@@ -1,4 +1,5 @@
--- What a home has of a port, a loan or a sample: the conditions of its calls. `ports` are the ports of its domain, if the home has them.
+-- What a home has of a port, a loan or a sample, which the calls of these require. `ports` are the ports of the domain, if the
+-- home contains it.
 use Rattle.std.specs.Prelude.{ℕ, ◌==◌, ◌&&◌, Bool, true, false, is_some, slice_get, Option, None, Some, Result, Ok, Err}
 use Rattle.iox_domain.specs.DomainPorts.Messages.{Loan, Message}
 use Rattle.iox_domain.specs.DomainPorts.MessagesSending.{is_written_loan}
@@ -13,62 +14,62 @@ use Rattle.iox_domain.specs.Reading.{sample_in}
 use Rattle.iox_domain.specs.Subscribers.{subscriber_of}
 use Rattle.iox_domain.specs.declared.ports.service_ports.ServicePorts.{ServicePorts}
 
--- the publisher of a number
+-- The publisher with this number, if the home has it.
 abbrev pub publisher_found : {T U : Type 0} → ℕ → Option (ServicePorts T U) → Option (PublisherPort T U)
 publisher_found number None = None
 publisher_found number (Some ports) = port_of number ports.publishers
 
--- whether the publisher of a number is there, and didn't leave
+-- Whether the publisher with this number exists and is open.
 abbrev pub publisher_stands : {T U : Type 0} → ℕ → Option (ServicePorts T U) → Bool
 publisher_stands number ports = passes_port (λ port. port.stands) (publisher_found number ports)
 
--- whether a send of the publisher of a number waits
+-- Whether the publisher with this number exists and a send of it waits.
 abbrev pub publisher_blocked : {T U : Type 0} → ℕ → Option (ServicePorts T U) → Bool
 publisher_blocked number ports = passes_port is_blocked (publisher_found number ports)
 
--- the loan in a slot of the publisher of a number
+-- The loan in this slot of the publisher with this number, if the home has it.
 abbrev pub loan_found : {T U : Type 0} → ℕ → ℕ → Option (ServicePorts T U) → Option (Loan T U)
 loan_found number slot ports = loan_at_port slot (publisher_found number ports)
 
--- whether a loan may be sent and read: each of its values is written, and it has one
+-- Whether the loan may be sent and read as a single value: it is completely written, and it has a value.
 abbrev pub is_sample : {T U : Type 0} → Option (Loan T U) → Bool
 is_sample loan = is_written_loan loan && is_some (value_at 0 loan)
 
--- the subscriber of a number
+-- The subscriber with this number, if the home has it.
 abbrev pub subscriber_found : {T U : Type 0} → ℕ → Option (ServicePorts T U) → Option SubscriberPort
 subscriber_found number None = None
 subscriber_found number (Some ports) = subscriber_of number ports.subscribers
 
--- whether a subscriber didn't leave; none did
+-- Whether the subscriber exists and is open.
 abbrev pub stands_there : Option SubscriberPort → Bool
 stands_there None = false
 stands_there (Some port) = port.stands
 
--- whether the subscriber of a number is there, and didn't leave
+-- Whether the subscriber with this number exists and is open.
 abbrev pub subscriber_stands : {T U : Type 0} → ℕ → Option (ServicePorts T U) → Bool
 subscriber_stands number ports = stands_there (subscriber_found number ports)
 
--- the message of a sample that is held
+-- The message of a held sample, if the home has it.
 abbrev pub message_found : {T U : Type 0} → Taken → Option (ServicePorts T U) → Option (Message T U)
 message_found taken None = None
 message_found taken (Some ports) = sample_in taken ports
 
--- the value of a message at a place
+-- The value at this place of the message, if both exist.
 abbrev pub value_found : {T U : Type 0} → ℕ → Option (Message T U) → Option T
 value_found place None = None
 value_found place (Some message) = slice_get message.values place
 
--- whether a sample that the subscriber of a number received is held, and has a value
+-- Whether the subscriber with this number received the sample and holds it, and the sample has a value.
 abbrev pub holds_sample : {T U : Type 0} → ℕ → Taken → Option (ServicePorts T U) → Bool
 holds_sample number taken ports =
     (is_some (subscriber_found number ports) && is_some (value_found 0 (message_found taken ports))) && (taken.subscriber == number)
 
--- whether a message that the subscriber of a number received is held
+-- Whether the subscriber with this number received the sample and holds it.
 abbrev pub holds_message : {T U : Type 0} → ℕ → Taken → Option (ServicePorts T U) → Bool
 holds_message number taken ports =
     (is_some (subscriber_found number ports) && is_some (message_found taken ports)) && (taken.subscriber == number)
 
--- what letting a port go answers: nothing where it left, else the port itself
+-- What dropping a port answers: Ok if the port was closed, and otherwise the port itself.
 abbrev pub left_or_given_back : {P : Type 0} → Bool → P → Result (Unit {0}) P
 left_or_given_back true port = Ok tt
 left_or_given_back false port = Err port

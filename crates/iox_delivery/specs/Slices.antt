@@ -1,4 +1,4 @@
--- What the calls of ports of slices do to their home, where they differ from those of single values.
+-- What the calls of ports of slices answer and change in their home, where they differ from those of single values.
 use Rattle.std.specs.Prelude.{ℕ, ◌+◌, ◌≡◌, length, replicate, List, [], ◌∷◌, Option, Some, Result, Ok, Err}
 use Rattle.iox_domain.specs.DomainValues.declared.backpressure.BackpressureDecision.{BackpressureDecision}
 use Rattle.iox_domain.specs.DomainValues.declared.backpressure.BackpressureInfo.{BackpressureInfo}
@@ -27,13 +27,13 @@ use Rattle.iox_delivery.specs.declared.loan.Written.{Written}
 use Rattle.iox_delivery.specs.declared.port_id.PortId.{PortId}
 use Rattle.iox_delivery.specs.declared.sent.Sent.{Sent}
 
--- A publisher lends so many values to be written; the header tells as many elements.
+-- What the loan of `len` values that aren't written answers and changes; the header says as many elements.
 abbrev pub LendsSlice : {T U K H : Type 0} → (DomainId → H → Option (ServicePorts T U)) → (DomainId → ServicePorts T U → H → H) → PortId
     → ℕ → H → Result (Lent T U K Uninit) LoanError → H → Type 0
 LendsSlice ports_of with_ports port len old answer new =
     (lent : Result ℕ LoanError) × LendsSlot ports_of with_ports port len len old lent new × (answer ≡ lent_of len port lent)
 
--- The value at a place of a loan is written, if the loan has that place.
+-- The home after the value at this place of the loan was written, if the loan has that place.
 abbrev pub WritesAt : {T U H : Type 0} → (DomainId → H → Option (ServicePorts T U)) → (DomainId → ServicePorts T U → H → H) → PortId → ℕ
     → ℕ → T → H → H → Type 0
 WritesAt ports_of with_ports port slot place value old new =
@@ -41,7 +41,7 @@ WritesAt ports_of with_ports port slot place value old new =
     (written_in port.number (λ publisher. has_place slot place publisher.sender.uses) slot (write_value place value))
     (ports_of port.domain old) old
 
--- All values of a loan are written, if it has as many.
+-- The home after all values of the loan were written, if it has as many.
 abbrev pub WritesAll : {T U H : Type 0} → (DomainId → H → Option (ServicePorts T U)) → (DomainId → ServicePorts T U → H → H) → PortId
     → ℕ → List T → H → H → Type 0
 WritesAll ports_of with_ports port slot values old new =
@@ -49,17 +49,18 @@ WritesAll ports_of with_ports port slot values old new =
     (written_in port.number (λ publisher. has_length slot (length values) publisher.sender.uses) slot (write_all values))
     (ports_of port.domain old) old
 
--- Values are written from a place of the loan in a slot on, one after the other, each where the loan has its place.
+-- The publisher after these values were written from `place` of the loan in this slot on, one after the other, each if the loan
+-- has its place.
 abbrev pub each_written : {T U : Type 0} → ℕ → ℕ → List T → PublisherPort T U → PublisherPort T U
 each_written slot place [] port = port
 each_written slot place (value ∷ values) port
     = each_written slot (place + 1) values (changed_if (has_place slot place port.sender.uses) slot (write_value place value) port)
 
--- values are written from the first place of a loan on
+-- The ports after these values were written from the first place of the loan on.
 abbrev pub each_written_in : {T U : Type 0} → ℕ → ℕ → List T → ServicePorts T U → ServicePorts T U
 each_written_in number slot values ports = record ports { publishers = changed number (each_written slot 0 values) ports.publishers }
 
--- Values are written in the loan in a slot; a loan of as many has just these then.
+-- The home after these values were written into the loan in this slot; a loan that has as many values has just these then.
 abbrev pub WritesEach : {T U H : Type 0} → (DomainId → H → Option (ServicePorts T U)) → (DomainId → ServicePorts T U → H → H) → PortId
     → ℕ → List T → H → H → Type 0
 WritesEach {T} {U} ports_of with_ports port slot values old new =
@@ -67,13 +68,13 @@ WritesEach {T} {U} ports_of with_ports port slot values old new =
     × ((loan : Loan T U) → loan_found port.number slot (ports_of port.domain old) ≡ Some loan → length loan.values ≡ length values
     → loan_found port.number slot (ports_of port.domain new) ≡ Some (write_all values loan))
 
--- so many values are written in the loan in a slot, all the same, and the slot is answered
+-- `len` equal values are written into the loan in this slot, and the slot is answered.
 abbrev pub FillsLent : {T U H : Type 0} → (DomainId → H → Option (ServicePorts T U)) → (DomainId → ServicePorts T U → H → H) → PortId
     → ℕ → T → ℕ → H → Result ℕ LoanError → H → Type 0
 FillsLent ports_of with_ports port len value slot old answer new
     = WritesEach ports_of with_ports port slot (replicate len value) old new × (answer ≡ Ok slot)
 
--- A publisher lends a slot for so many values, each of which is written: all the same.
+-- What the loan of a slot for `len` values, each of which is written as `value`, answers and changes.
 abbrev pub LendsFilled : {T U H : Type 0} → (DomainId → H → Option (ServicePorts T U)) → (DomainId → ServicePorts T U → H → H) → PortId
     → ℕ → T → H → Result ℕ LoanError → H → Type 0
 LendsFilled {T} {U} {H} ports_of with_ports port len value old answer new =
@@ -81,14 +82,14 @@ LendsFilled {T} {U} {H} ports_of with_ports port len value old answer new =
     × LendsSlot ports_of with_ports port len len old lent middle
     × AfterLoan Err (FillsLent ports_of with_ports port len value) lent middle answer new
 
--- A publisher lends so many values that are written: each is one default.
+-- What the loan of `len` values that are written, each as the same default, answers and changes.
 abbrev pub LendsDefaults : {T U K H : Type 0} → (DomainId → H → Option (ServicePorts T U)) → (DomainId → ServicePorts T U → H → H)
     → (T → Type 0) → PortId → ℕ → H → Result (Lent T U K Written) LoanError → H → Type 0
 LendsDefaults {T} {U} {K} {H} ports_of with_ports is_default port len old answer new =
     (value : T) × is_default value × (lent : Result ℕ LoanError) × LendsFilled ports_of with_ports port len value old lent new
     × (answer ≡ written_of port lent)
 
--- the values are written in the loan in a slot, which is sent then
+-- What the call answers and changes: it writes the values into the loan in this slot, and sends it.
 abbrev pub SendsAll : {T U H : Type 0} → (DomainId → H → Option (ServicePorts T U)) → (DomainId → ServicePorts T U → H → H)
     → (DomainId → ℕ → H → DegradationInfo → DegradationAction → Type 0)
     → (DomainId → ℕ → H → BackpressureInfo → BackpressureDecision → Type 0) → PortId → List T → ℕ → H → Result (Sent T U) SendError → H
@@ -97,7 +98,7 @@ SendsAll {T} {U} {H} ports_of with_ports degrades decides port values slot old a
     (middle : H) × WritesAll ports_of with_ports port slot values old middle
     × SendsSample ports_of with_ports degrades decides port slot middle answer new
 
--- Values are lent, written and sent.
+-- What the call answers and changes: it loans values, writes them and sends them.
 abbrev pub SendsSlice : {T U H : Type 0} → (DomainId → H → Option (ServicePorts T U)) → (DomainId → ServicePorts T U → H → H)
     → (DomainId → ℕ → H → DegradationInfo → DegradationAction → Type 0)
     → (DomainId → ℕ → H → BackpressureInfo → BackpressureDecision → Type 0) → PortId → List T → H → Result (Sent T U) SendError → H → Type 0
@@ -106,7 +107,7 @@ SendsSlice {T} {U} {H} ports_of with_ports degrades decides port values old answ
     × LendsSlot ports_of with_ports port (length values) (length values) old lent middle
     × AfterLoan (λ error. Err (refusal.LoanError error)) (SendsAll ports_of with_ports degrades decides port values) lent middle answer new
 
--- the values are written in the loan in a slot, so that it has just these, and it is sent then; the answer is what the send came to
+-- The values are written into the loan in this slot, so that it has just these, and it is sent; the answer is that of the send.
 abbrev pub WritesAndSends : {T U H : Type 0} → (DomainId → H → Option (ServicePorts T U)) → (DomainId → ServicePorts T U → H → H)
     → (DomainId → ℕ → H → DegradationInfo → DegradationAction → Type 0)
     → (DomainId → ℕ → H → BackpressureInfo → BackpressureDecision → Type 0) → PortId → List T → ℕ → H → Result Sending SendError → H
@@ -118,7 +119,8 @@ WritesAndSends {T} {U} {H} ports_of with_ports degrades decides port values slot
     (SendsBy (degrades port.domain port.number middle) (decides port.domain port.number middle) port.number slot)
     (ports_of port.domain middle) middle (Some answer) new
 
--- Values are lent, written and sent, as `SendsSlice` says; the answer is what the send came to, or the loan's refusal.
+-- What the call answers and changes: it loans values, writes them and sends them, as `SendsSlice` says. The answer is that of
+-- the send, or the error of the loan.
 abbrev pub SendsValues : {T U H : Type 0} → (DomainId → H → Option (ServicePorts T U)) → (DomainId → ServicePorts T U → H → H)
     → (DomainId → ℕ → H → DegradationInfo → DegradationAction → Type 0)
     → (DomainId → ℕ → H → BackpressureInfo → BackpressureDecision → Type 0) → PortId → List T → H → Result Sending SendError → H → Type 0

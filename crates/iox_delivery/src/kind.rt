@@ -15,42 +15,42 @@ use iox_domain_ports::Taken;
 
 /// A kind of payload: which loans may be sent, and which messages may be read.
 pub trait Kind<T, U> {
-    // whether a loan may be sent and read
+    // Whether the loan may be sent and read.
     ghost is_ready: { Option (Loan T U) → Bool };
 
-    // whether a message that the subscriber of a number received may be read
+    // Whether the message that the subscriber with this number received may be read.
     ghost is_held: { ℕ → Taken → Option (ServicePorts T U) → Bool };
 
-    /// Whether the loan of a publisher in a slot may be sent and read; false where none is out.
+    /// Whether the publisher's loan in this slot may be sent and read; false if there is no such loan.
     ///
-    /// This port's own.
+    /// Not in `iceoryx2`.
     /// Example: `let may_be_sent = K::is_ready_in(port, slot, home);`
     fn is_ready_in<H: Home<T, U>>(port: PortId, slot: usize, home: &H) -> bool
         ensures { result ≡ is_ready (loan_found port.number slot (homes.ports_of H.domain_of port.domain home.now)) };
 
-    /// Whether a message that a subscriber received is held, and may be read.
+    /// Whether the message that the subscriber received is held, and may be read.
     ///
-    /// This port's own.
+    /// Not in `iceoryx2`.
     /// Example: `let may_be_read = K::is_held_in(port, taken, home);`
     fn is_held_in<H: Home<T, U>>(port: PortId, taken: Taken, home: &H) -> bool
         ensures { result ≡ is_held port.number taken (homes.ports_of H.domain_of port.domain home.now) };
 
-    // what may be sent is written
+    // A loan that may be sent is completely written.
     ghost ready_is_written: { (loan : Option (Loan T U)) → is_ready loan ≡ true → is_written_loan loan ≡ true };
 
-    // what may be sent is a loan
+    // A loan that may be sent exists.
     ghost ready_is_loan: { (loan : Option (Loan T U)) → is_ready loan ≡ true → is_some loan ≡ true };
 
-    // what may be read is a message that is held
+    // A message that may be read is held.
     ghost held_is_message: { (number : ℕ) (taken : Taken) (ports : Option (ServicePorts T U)) → is_held number taken ports ≡ true
         → holds_message number taken ports ≡ true };
 }
 
-/// Single values: what is lent and received has one value.
+/// Single values: each loan and each sample has one value.
 #[derive(Clone, Copy)]
 pub struct Single;
 
-/// Slices: what is lent and received has any number of values.
+/// Slices: each loan and each sample has any number of values.
 #[derive(Clone, Copy)]
 pub struct Slice;
 

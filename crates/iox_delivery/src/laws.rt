@@ -1,4 +1,4 @@
-//! Laws of the calls of ports, in other words than their steps. They are the contracts of functions that do nothing.
+//! Theorems about the calls of ports. They are the contracts of functions that do nothing.
 ghost use Rattle.std.specs.Prelude.{◌≡◌, ℕ, Option, is_some};
 ghost use Rattle.iox_domain.specs.declared.ports.service_ports.ServicePorts.{ServicePorts};
 ghost use Rattle.iox_domain.specs.DomainPorts.Messages.{Loan as Lent};
@@ -10,19 +10,20 @@ ghost use Rattle.iox_delivery.specs.Lent.{LoanIsFresh};
 use crate::kind::{Kind, Single, Slice};
 use crate::loan::{LoanState, Uninit, Written};
 
-/// A loan that was just made is found in its slot: none of its values is written, it has the user header that its publisher gives
-/// new loans, and its header names that publisher and no sequence number. The publisher still stands, and no send of it waits.
+/// A loan that was just made is found in its slot: none of its values is written, it has the user header that its publisher
+/// gives new loans, and its header says that publisher and no sequence number. The publisher is open, and no send of it waits.
 pub fn loan_is_fresh<T, U>()
     ensures { LoanIsFresh T U }
 {}
 
-/// A loan may be sent where each of its values is written; one of a single value also has a value.
+/// A loan may be sent if each of its values is written; a loan of a single value must also have a value.
 pub fn what_may_be_sent<T: Copy, U: Copy>()
     ensures slice { (loan : Option (Lent T U)) → ⟦<Slice as Kind<T, U>>⟧.is_ready loan ≡ is_written_loan loan }
     ensures single { (loan : Option (Lent T U)) → ⟦<Single as Kind<T, U>>⟧.is_ready loan ≡ is_sample loan }
 {}
 
-/// A message may be read where the subscriber that received it is there and holds it; one of a single value also has a value.
+/// A message may be read if the subscriber that received it exists and holds it; a message of a single value must also have a
+/// value.
 pub fn what_may_be_read<T: Copy, U: Copy>()
     ensures slice { (number : ℕ) (taken : Taken) (ports : Option (ServicePorts T U))
         → ⟦<Slice as Kind<T, U>>⟧.is_held number taken ports ≡ holds_message number taken ports }
@@ -30,7 +31,7 @@ pub fn what_may_be_read<T: Copy, U: Copy>()
         → ⟦<Single as Kind<T, U>>⟧.is_held number taken ports ≡ holds_sample number taken ports }
 {}
 
-/// A loan that is to be written is one that is out; one that is written may be sent, too.
+/// The calls of a loan that isn't written require that it exists; those of a written one require that it may be sent.
 pub fn how_far_a_loan_is<T: Copy, U: Copy, K: Kind<T, U>>()
     ensures uninit { (loan : Option (Lent T U)) → ⟦<Uninit as LoanState<T, U, K>>⟧.is_held loan ≡ is_some loan }
     ensures written { (loan : Option (Lent T U)) → ⟦<Written as LoanState<T, U, K>>⟧.is_held loan ≡ K.is_ready loan }

@@ -1,4 +1,4 @@
-//! What loans of values and of slices have in common: their calls, by port and slot.
+//! The calls that loans of single values and of slices have in common, by port and slot.
 ghost use Rattle.iox_domain.specs.Homes as homes;
 ghost use Rattle.std.specs.Prelude.{◌≡◌, true, false, Some, is_some, option_map};
 ghost use Rattle.std.specs.Borrow.{sem, LendsIf};
@@ -16,9 +16,9 @@ use iox_domain::{Home, calls};
 use iox_domain_values::SendError;
 use std::alloc::Global;
 
-/// Whether the loan of a publisher in a slot is out.
+/// Whether the publisher has a loan in this slot.
 ///
-/// This port's own.
+/// Not in `iceoryx2`.
 /// Example: `let is_there = lending::is_out(port, slot, home);`
 pub fn is_out<T: Copy, U: Copy, H: Home<T, U>>(port: PortId, slot: usize, home: &H) -> bool
     ensures { result ≡ is_some (loan_found port.number slot (homes.ports_of H.domain_of port.domain home.now)) }
@@ -32,9 +32,9 @@ pub fn is_out<T: Copy, U: Copy, H: Home<T, U>>(port: PortId, slot: usize, home: 
     }
 }
 
-/// Whether each value of the loan in a slot is written; false where none is out.
+/// Whether each value of the loan in this slot is written; false if there is no such loan.
 ///
-/// This port's own.
+/// Not in `iceoryx2`.
 /// Example: `let may_be_sent = lending::is_written(port, slot, home);`
 pub fn is_written<T: Copy, U: Copy, H: Home<T, U>>(port: PortId, slot: usize, home: &H) -> bool
     ensures { result ≡ is_written_loan (loan_found port.number slot (homes.ports_of H.domain_of port.domain home.now)) }
@@ -45,7 +45,7 @@ pub fn is_written<T: Copy, U: Copy, H: Home<T, U>>(port: PortId, slot: usize, ho
     }
 }
 
-/// The user header of the loan in a slot.
+/// The user header of the loan in this slot.
 ///
 /// Ported from `iceoryx2::sample_mut_uninit::SampleMutUninit::user_header`.
 /// Example: `let stamp = *lending::user_header(port, slot, home);`
@@ -70,7 +70,8 @@ where
     }
 }
 
-/// What the header of the loan in a slot tells: who is to send it, and how many elements it has. A loan has no number.
+/// What the header of the loan in this slot says: the node and the publisher that will send it, and how many elements it has. A
+/// loan has no sequence number.
 ///
 /// Ported from `iceoryx2::sample_mut_uninit::SampleMutUninit::header`.
 /// Example: `let header = lending::header(port, slot, home);`
@@ -87,7 +88,7 @@ pub fn header<T: Copy, U: Copy, H: Home<T, U>>(port: PortId, slot: usize, home: 
     }
 }
 
-/// Writes the user header of the loan in a slot; nothing happens where none is out.
+/// Writes the user header of the loan in this slot; nothing happens if there is no such loan.
 ///
 /// Ported from writing through `iceoryx2::sample_mut_uninit::SampleMutUninit::user_header_mut`.
 /// Example: `lending::write_user_header(port, slot, home, 150);`
@@ -104,7 +105,8 @@ pub fn write_user_header<T: Copy, U: Copy, H: Home<T, U>>(
     }
 }
 
-/// The value at a place of the loan in a slot, to be changed there, if the loan is out, and has that place, and it is written.
+/// A mutable reference to the value at this place of the loan in this slot; None if there is no such loan, or if it doesn't
+/// have this place, or if the value there isn't written.
 ///
 /// Ported from changing it through `iceoryx2::sample_mut::SampleMut::payload_mut`.
 /// Example: `let value = lending::value_mut(home, port, slot, 0)?;`
@@ -129,7 +131,7 @@ where
     }
 }
 
-/// The user header of the loan in a slot, to be changed there, if the loan is out.
+/// A mutable reference to the user header of the loan in this slot; None if there is no such loan.
 ///
 /// Ported from `iceoryx2::sample_mut_uninit::SampleMutUninit::user_header_mut`.
 /// Example: `let stamp = lending::user_header_mut(home, port, slot)?;`
@@ -150,8 +152,8 @@ where
     calls::ports_mut(home, port.domain)?.user_header_mut(port.number, slot)
 }
 
-/// Sends the loan in a slot, each of whose values is written: `ServicePorts::send` says which connections take it, and when it is
-/// refused. The loan is spent in every case.
+/// Sends the loan in this slot, each of whose values is written: `ServicePorts::send` says which connections take the message,
+/// and when the call fails. The loan is consumed in every case.
 ///
 /// Ported from `iceoryx2::sample_mut::SampleMut::send`.
 /// Example: `let sent = lending::send(port, slot, alloc, home)?;`
@@ -173,7 +175,7 @@ pub fn send<T: Copy, U: Copy, H: Home<T, U>>(
     }
 }
 
-/// Gives the loan in a slot up; nothing happens where none is out.
+/// Drops the loan in this slot; nothing happens if there is no such loan.
 ///
 /// Ported from dropping an `iceoryx2::sample_mut::SampleMut`.
 /// Example: `lending::drop_loan(port, slot, home);`

@@ -1,22 +1,24 @@
-//! The ports of a service as values: a publisher lends what is to be sent, and sends it; a subscriber receives it, and it is read and
-//! released. Each call is handed the home that has the domain of the port.
+//! The ports of a service as values: a publisher loans a sample, which is written and sent; a subscriber receives it, and the
+//! sample is read and released. Each call takes the home that contains the domain of the port.
 //!
-//! - [`port_id`]: which port of which domain.
-//! - [`kind`]: single values and slices, the kinds that each of the following is of.
+//! - [`port_id`]: the id of a port.
+//! - [`kind`]: single values and slices, the kinds of payload of all types below.
 //! - [`port`]: what publishers and subscribers have in common.
 //! - [`publisher`]: a publisher.
 //! - [`loan`]: what loans have in common.
-//! - [`sample_mut_uninit`]: a loan that is to be written.
+//! - [`sample_mut_uninit`]: a loan that isn't written yet.
 //! - [`sample_mut`]: a loan that is written.
-//! - [`sent`]: what a send came to, and a send that waits.
+//! - [`sent`]: what a send answers, and a send that waits.
 //! - [`subscriber`]: a subscriber.
 //! - [`sample`]: a message that was received.
-//! - [`update_connections`]: what follows the ports of the other side.
-//! - [`publishing`], [`lending`], [`subscribing`]: what ports of slices have in common with these, by port, slot and message.
+//! - [`update_connections`]: the trait of ports that follow those of the other side.
+//! - [`publishing`], [`lending`], [`subscribing`]: what ports of single values and of slices have in common, by port, slot and
+//!   message.
 //! - [`slices`]: publishers, subscribers, loans and samples of slices.
-//! - [`laws`]: what a loan comes to that was just made; what may be sent, and what may be read.
+//! - [`laws`]: what a loan is that was just made; what may be sent, and what may be read.
 //!
-//! Publishers and subscribers are copied, as numbers are. A loan, a sample and a waiting send are spent by the call that ends them.
+//! Publishers and subscribers are copied, as numbers are. A loan, a sample and a waiting send are consumed by the call that
+//! ends them.
 //!
 //! First calls, of a publisher and of a subscriber; a hub is a home, too:
 //!

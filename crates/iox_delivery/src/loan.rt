@@ -1,4 +1,4 @@
-//! What each loan is, as a value.
+//! Loans as values.
 ghost use Rattle.iox_domain.specs.Homes as homes;
 ghost use Rattle.std.specs.Prelude.{◌≡◌, Bool, Option, true, Some, is_ok, is_some, option_map};
 ghost use Rattle.std.specs.Borrow.{sem, LendsIf};
@@ -14,29 +14,29 @@ use iox_describe_base::Header;
 use iox_domain::Home;
 use std::marker::PhantomData;
 
-/// How far a loan is: to be written, or written.
+/// The state of a loan: not written yet, or written.
 pub trait LoanState<T, U, K> {
-    // whether a loan is as far
+    // Whether the loan is in this state.
     ghost is_held: { Option (Lent T U) → Bool };
 
-    /// Whether the loan of a publisher in a slot is out, and as far.
+    /// Whether the publisher has a loan in this slot, in this state.
     ///
-    /// This port's own.
+    /// Not in `iceoryx2`.
     /// Example: `let is_there = S::is_held_in(port, slot, home);`
     fn is_held_in<H: Home<T, U>>(port: PortId, slot: usize, home: &H) -> bool
         ensures { result ≡ is_held (loan_found port.number slot (homes.ports_of H.domain_of port.domain home.now)) };
 
-    // what is held is a loan
+    // A loan in this state exists.
     ghost held_is_loan: { (loan : Option (Lent T U)) → is_held loan ≡ true → is_some loan ≡ true };
 }
 
-/// To be written, with so many values.
+/// Not written yet; the loan has `len` values.
 #[derive(Clone, Copy)]
 pub struct Uninit {
     pub(crate) len: usize,
 }
 
-/// Written: it may be sent.
+/// Written, so that the loan may be sent.
 #[derive(Clone, Copy)]
 pub struct Written;
 
@@ -60,7 +60,7 @@ impl<T: Copy, U: Copy, K: Kind<T, U>> LoanState<T, U, K> for Written {
     ghost held_is_loan = { λ loan held. K.ready_is_loan loan held };
 }
 
-/// A loan of a publisher in a slot as a value, for payloads of one kind, as far as its state says.
+/// A loan of a publisher in a slot as a value, for payloads of one kind, in one state.
 pub struct Loan<T, U, K, S> {
     pub(crate) port: PortId,
     pub(crate) slot: usize,
@@ -69,7 +69,7 @@ pub struct Loan<T, U, K, S> {
 }
 
 impl<T: Copy, U: Copy, K, S: LoanState<T, U, K> + Copy> Loan<T, U, K, S> {
-    /// Whether the loan is out in this home, and written if its state says so: the condition of its calls.
+    /// Whether the loan exists in this home, and is written if its state says so, which its calls require.
     /// Example: `let is_there = loan.holds(home);`
     pub fn holds<H: Home<T, U>>(&self, home: &H) -> bool
         ensures { result ≡ S.is_held (loan_found self.now.port.number self.now.slot
@@ -78,7 +78,8 @@ impl<T: Copy, U: Copy, K, S: LoanState<T, U, K> + Copy> Loan<T, U, K, S> {
         S::is_held_in(self.port, self.slot, home)
     }
 
-    /// What its header tells: who is to send it, and how many elements it has. It has no number: its send gives it one.
+    /// What the loan's header says: the node and the publisher that will send it, and how many elements it has. It has no
+    /// sequence number yet: its send gives it one.
     ///
     /// Ported from `iceoryx2::sample_mut_uninit::SampleMutUninit::header` and `iceoryx2::sample_mut::SampleMut::header`.
     /// Example: `let header = loan.header(home);`
@@ -107,7 +108,7 @@ impl<T: Copy, U: Copy, K, S: LoanState<T, U, K> + Copy> Loan<T, U, K, S> {
         lending::user_header(self.port, self.slot, home)
     }
 
-    /// The user header, to be changed, if the loan is out.
+    /// A mutable reference to the user header; None if the loan doesn't exist in this home.
     ///
     /// Ported from `user_header_mut` of `iceoryx2::sample_mut_uninit::SampleMutUninit` and `iceoryx2::sample_mut::SampleMut`.
     /// Example: `let stamp = SampleMutUninit::user_header_mut(home, &loan)?;`
@@ -125,9 +126,9 @@ impl<T: Copy, U: Copy, K, S: LoanState<T, U, K> + Copy> Loan<T, U, K, S> {
         lending::user_header_mut(home, sample.port, sample.slot)
     }
 
-    /// Writes the user header.
+    /// Writes the user header, if the loan exists in this home.
     ///
-    /// Ported from writing through what `user_header_mut` gives there.
+    /// Ported from writing through what `user_header_mut` returns there.
     /// Example: `loan.user_header_write(home, 150);`
     pub fn user_header_write<H: Home<T, U>>(&mut self, home: &mut H, user_header: U)
         ensures writes { WritesUserHeader (homes.ports_of H.domain_of) (homes.with_ports H.changed) self.old.port self.old.slot
@@ -137,7 +138,7 @@ impl<T: Copy, U: Copy, K, S: LoanState<T, U, K> + Copy> Loan<T, U, K, S> {
         lending::write_user_header(self.port, self.slot, home, user_header);
     }
 
-    /// Lets it go: it is given up, if it is out. Else nothing happens, and it is given back: its own home can give it up.
+    /// Drops the loan, if it is out. Otherwise nothing happens, and the loan is given back: its own home can drop it.
     ///
     /// Ported from dropping an `iceoryx2::sample_mut_uninit::SampleMutUninit` or an `iceoryx2::sample_mut::SampleMut`.
     /// Example: `let stays = loan.drop_with(home).err();`
@@ -155,9 +156,9 @@ impl<T: Copy, U: Copy, K, S: LoanState<T, U, K> + Copy> Loan<T, U, K, S> {
         Ok(())
     }
 
-    /// What it names: its port, and the slot. It isn't given up.
+    /// The loan's port and slot. The loan stays out.
     ///
-    /// This port's own.
+    /// Not in `iceoryx2`.
     /// Example: `let (port, slot) = loan.into_slot();`
     pub fn into_slot(self) -> (PortId, usize)
         ensures { result ≡ (self.port, self.slot) }

@@ -1,11 +1,11 @@
-//! Which port of which domain.
+//! The id of a port.
 use iox_domain::DomainId;
 
-/// Which port of which domain.
+/// The id of a port: its domain, and its number there.
 #[derive(Clone, Copy, Debug, PartialEq, Eq)]
 pub struct PortId {
     /// The domain.
     pub domain: DomainId,
-    /// The number of the port there.
+    /// The number of the port in that domain.
     pub number: u64,
 }

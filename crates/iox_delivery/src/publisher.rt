@@ -1,4 +1,4 @@
-//! A publisher of single values, and what it has in common with one of slices.
+//! A publisher of single values, and what it has in common with a publisher of slices.
 ghost use Rattle.iox_domain.specs.Homes as homes;
 ghost use Rattle.std.specs.Prelude.{◌≡◌, ◌&&◌, ◌∷◌, [], true, false, not, IfOk, is_ok};
 ghost use Rattle.iox_domain.specs.Steps.{UpdatesBy};
@@ -19,12 +19,12 @@ use iox_domain_values::{BackpressureStrategy, ConnectionFailure, LoanError, Send
 use std::alloc::Global;
 use std::marker::PhantomData;
 
-/// A publisher: of single values, where no other kind is named. It stands until it leaves.
+/// A publisher, of single values if no other kind is given. It is open until it is closed.
 ///
 /// Ported from `iceoryx2::port::publisher::Publisher`.
 pub type Publisher<T, U, K = Single> = Port<T, U, K, PublisherSide>;
 
-/// What a publisher is made with.
+/// With what a publisher was created.
 #[derive(Clone, Copy)]
 pub struct PublisherSide {
     pub(crate) strategy: BackpressureStrategy,
@@ -32,9 +32,10 @@ pub struct PublisherSide {
 }
 
 impl<T: Copy, U: Copy, K> Publisher<T, U, K> {
-    /// The publisher that was made under a number, as a value, whose loans might have so many values at first: 1 of single values.
+    /// The publisher with this id as a value. `initial_max_slice_len` is how many elements its loans may have at first: 1 for
+    /// single values.
     ///
-    /// This port's own: what makes ports by number hands them out so.
+    /// Not in `iceoryx2`: code that creates ports by number returns them in this way.
     /// Example: `let publisher = Publisher::of_port(port, BackpressureStrategy::DiscardData, 1);`
     pub fn of_port(
         port: PortId,
@@ -55,7 +56,7 @@ impl<T: Copy, U: Copy, K> Publisher<T, U, K> {
         }
     }
 
-    /// What it does at a full mailbox where no handler decides.
+    /// What a send does at a full mailbox if no handler decides.
     ///
     /// Ported from `iceoryx2::port::publisher::Publisher::backpressure_strategy`.
     /// Example: `let strategy = publisher.backpressure_strategy();`
@@ -65,7 +66,7 @@ impl<T: Copy, U: Copy, K> Publisher<T, U, K> {
         self.side.strategy
     }
 
-    /// Whether it stands in this home: the condition of its calls.
+    /// Whether the publisher is open in this home, which its calls require.
     /// Example: `let is_there = publisher.holds(home);`
     pub fn holds<H: Home<T, U>>(&self, home: &H) -> bool
         ensures { result ≡ publisher_stands self.now.port.number (homes.ports_of H.domain_of self.now.port.domain home.now) }
@@ -73,7 +74,7 @@ impl<T: Copy, U: Copy, K> Publisher<T, U, K> {
         publishing::holds(self.port, home)
     }
 
-    /// Whether a send of it waits: that it doesn't is the condition of its calls.
+    /// Whether a send of the publisher waits; its calls require that none does.
     /// Example: `let waits = publisher.is_blocked(home);`
     pub fn is_blocked<H: Home<T, U>>(&self, home: &H) -> bool
         ensures { result ≡ publisher_blocked self.now.port.number (homes.ports_of H.domain_of self.now.port.domain home.now) }
@@ -81,8 +82,8 @@ impl<T: Copy, U: Copy, K> Publisher<T, U, K> {
         publishing::is_blocked(self.port, home)
     }
 
-    /// Lets it go: it leaves as by `leave`, if it exists and no send of it waits. Else nothing happens, and it is given back: it can leave
-    /// its own home once that send has ended.
+    /// Drops the publisher: it is closed as by `leave`, if it is open in this home and no send of it waits. Otherwise nothing
+    /// happens, and the publisher is returned, so that it can be closed in its own home, or once that send has ended.
     ///
     /// Ported from dropping an `iceoryx2::port::publisher::Publisher`.
     /// Example: `let stays = publisher.drop_with(home).err();`
@@ -101,7 +102,7 @@ impl<T: Copy, U: Copy, K> Publisher<T, U, K> {
         }
     }
 
-    /// Leaves: what was sent stays to be read, and what is lent can't be sent any longer. Its handlers are dropped.
+    /// Closes the publisher: what was sent can still be read, and its loans can't be sent any longer. Its handlers are dropped.
     ///
     /// Ported from dropping an `iceoryx2::port::publisher::Publisher`.
     /// Example: `publisher.leave(home);`
@@ -116,8 +117,8 @@ impl<T: Copy, U: Copy, K> Publisher<T, U, K> {
 }
 
 impl<T: Copy, U: Copy> Publisher<T, U> {
-    /// Lends a value to be written. It is refused as `ServicePorts::loan` says: with `ExceedsMaxLoans` where as many loans are
-    /// out as it may have, else with `OutOfMemory` where each of its slots is in use.
+    /// Loans a value that isn't written. The call fails as `ServicePorts::loan` does: with `ExceedsMaxLoans` if as many loans
+    /// exist as the limit allows, and otherwise with `OutOfMemory` if each of the publisher's slots is in use.
     ///
     /// Ported from `iceoryx2::port::publisher::Publisher::loan_uninit`.
     /// Example: `let loan = publisher.loan_uninit(alloc, home)?;`
@@ -134,7 +135,7 @@ impl<T: Copy, U: Copy> Publisher<T, U> {
         Ok(SampleMutUninit::of_loan(self.port, slot, 1))
     }
 
-    /// Lends a value that is written: a default. It is refused as `loan_uninit` is. It may be sent at once: it is a loan that is
+    /// Loans a value that is written with a default. The call fails as `loan_uninit` does. The loan can be sent at once: it is
     /// written, and no send waits.
     ///
     /// Ported from `iceoryx2::port::publisher::Publisher::loan`.
@@ -157,8 +158,8 @@ impl<T: Copy, U: Copy> Publisher<T, U> {
         Ok(SampleMut::of_loan(self.port, slot))
     }
 
-    /// Lends a value, writes it and sends it. A loan that is refused as `loan_uninit` is, is `SendError::LoanError`, and nothing
-    /// is sent; else it answers as `SampleMut::send` does.
+    /// Loans a value, writes it and sends it. If the loan fails, as `loan_uninit` does, the error is `SendError::LoanError`,
+    /// and nothing is sent; otherwise the call answers as `SampleMut::send` does.
     ///
     /// Ported from `iceoryx2::port::publisher::Publisher::send_copy`.
     /// Example: `let sent = publisher.send_copy(alloc, home, 7)?;`

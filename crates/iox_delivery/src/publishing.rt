@@ -1,4 +1,4 @@
-//! What a publisher of values and one of slices have in common: their calls, by port.
+//! The calls that a publisher of single values and one of slices have in common, by port.
 ghost use Rattle.iox_domain.specs.Homes as homes;
 ghost use Rattle.std.specs.Prelude.{◌≡◌, ◌&&◌, ◌∷◌, [], true, false, not, IfOk};
 ghost use Rattle.iox_delivery.specs.Lent.{IsReady};
@@ -11,9 +11,9 @@ use iox_domain::{Home, calls};
 use iox_domain_values::{ConnectionFailure, LoanError};
 use std::alloc::Global;
 
-/// Whether a publisher stands.
+/// Whether the publisher is open.
 ///
-/// This port's own.
+/// Not in `iceoryx2`.
 /// Example: `let is_there = publishing::holds(port, home);`
 pub fn holds<T: Copy, U: Copy, H: Home<T, U>>(port: PortId, home: &H) -> bool
     ensures { result ≡ publisher_stands port.number (homes.ports_of H.domain_of port.domain home.now) }
@@ -27,9 +27,9 @@ pub fn holds<T: Copy, U: Copy, H: Home<T, U>>(port: PortId, home: &H) -> bool
     }
 }
 
-/// Whether a send of a publisher waits.
+/// Whether a send of the publisher waits.
 ///
-/// This port's own.
+/// Not in `iceoryx2`.
 /// Example: `let waits = publishing::is_blocked(port, home);`
 pub fn is_blocked<T: Copy, U: Copy, H: Home<T, U>>(port: PortId, home: &H) -> bool
     ensures { result ≡ publisher_blocked port.number (homes.ports_of H.domain_of port.domain home.now) }
@@ -43,10 +43,10 @@ pub fn is_blocked<T: Copy, U: Copy, H: Home<T, U>>(port: PortId, home: &H) -> bo
     }
 }
 
-/// A publisher lends a slot for so many values; the header of the message says so many elements. It is refused as
-/// `ServicePorts::loan` says: with `ExceedsMaxLoanSize` where that is more than its room allows and the room doesn't grow, else
-/// with `ExceedsMaxLoans` where as many loans are out as it may have, else with `OutOfMemory` where each slot is in use or a new
-/// segment isn't made.
+/// The publisher loans a slot for `values` values; the header of the message says `elements` elements. The call fails as
+/// `ServicePorts::loan` does: with `ExceedsMaxLoanSize` if the loan is longer than a slot and the strategy is static; otherwise
+/// with `ExceedsMaxLoans` if as many loans exist as the limit allows; otherwise with `OutOfMemory` if each slot is in use or a
+/// new segment can't be opened.
 ///
 /// Ported from `iceoryx2::port::publisher::Publisher::loan_slice_uninit`.
 /// Example: `let slot = publishing::loan(port, alloc, home, 4, 4)?;`
@@ -67,7 +67,7 @@ pub fn loan<T: Copy, U: Copy, H: Home<T, U>>(
     }
 }
 
-// A publisher lends a slot for one value, which is written there.
+// The publisher loans a slot for one value, which is written there.
 pub(crate) fn loan_value<T: Copy, U: Copy, H: Home<T, U>>(
     port: PortId,
     alloc: Global,
@@ -84,7 +84,7 @@ pub(crate) fn loan_value<T: Copy, U: Copy, H: Home<T, U>>(
     Ok(slot)
 }
 
-/// A publisher follows the subscribers that came and left: `ServicePorts::update_publisher` says what that does, and when it fails.
+/// The publisher follows the list of subscribers: `ServicePorts::update_publisher` says what that does, and when it fails.
 ///
 /// Ported from `iceoryx2::port::update_connections::UpdateConnections`.
 /// Example: `publishing::update(port, alloc, home)?;`
@@ -104,10 +104,10 @@ pub fn update<T: Copy, U: Copy, H: Home<T, U>>(
     }
 }
 
-/// A send of a publisher ends, if it waits, and how many connections took the message is the answer. None, and nothing happens, where none
+/// Gives up the send of a publisher that waits, and answers how many connections took the message. None, and nothing happens, if no send
 /// waits.
 ///
-/// This port's own.
+/// Not in `iceoryx2`.
 /// Example: `let delivered = publishing::end_send(port, home)?;`
 pub fn end_send<T: Copy, U: Copy, H: Home<T, U>>(port: PortId, home: &mut H) -> Option<usize>
     ensures { EndsSend (homes.ports_of H.domain_of) (homes.with_ports H.changed) port home.old result home.new }
@@ -115,8 +115,8 @@ pub fn end_send<T: Copy, U: Copy, H: Home<T, U>>(port: PortId, home: &mut H) -> 
     calls::ports_mut(home, port.domain)?.give_up(port.number)
 }
 
-/// A publisher that is let go leaves, and its handlers are dropped, if it exists and no send of it waits; else nothing happens.
-/// Whether it left is the answer.
+/// Drops the publisher: it is closed, and its handlers are dropped, if it is open and no send of it waits; otherwise nothing
+/// happens. The call answers whether the publisher was closed.
 ///
 /// Ported from dropping an `iceoryx2::port::publisher::Publisher`.
 /// Example: `let has_left = publishing::drop_port(port, home);`
@@ -130,7 +130,7 @@ pub fn drop_port<T: Copy, U: Copy, H: Home<T, U>>(port: PortId, home: &mut H) ->
     calls::leave_publisher(home, port.domain, port.number)
 }
 
-/// A publisher leaves, and its handlers are dropped.
+/// Closes the publisher, and drops its handlers.
 ///
 /// Ported from dropping an `iceoryx2::port::publisher::Publisher`.
 /// Example: `publishing::leave(port, home);`

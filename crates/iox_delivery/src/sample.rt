@@ -12,8 +12,8 @@ use iox_domain::Home;
 use iox_domain_ports::Taken;
 use std::marker::PhantomData;
 
-/// A message that was received: of a single value, where no other kind is named. It stays as it was sent until it is released, whatever
-/// ports leave.
+/// A message that was received: a single value, if no other kind is given. It stays as it was sent until it is released,
+/// whatever ports are closed.
 ///
 /// Ported from `iceoryx2::sample::Sample`.
 pub struct Sample<T, U, K = Single> {
@@ -23,7 +23,7 @@ pub struct Sample<T, U, K = Single> {
 }
 
 impl<T: Copy, U: Copy, K: Kind<T, U>> Sample<T, U, K> {
-    /// Whether the message is held in this home: the condition of its calls.
+    /// Whether the message is held in this home, which its calls require.
     /// Example: `let is_held = sample.holds(home);`
     pub fn holds<H: Home<T, U>>(&self, home: &H) -> bool
         ensures { result ≡ K.is_held self.now.port.number self.now.taken (homes.ports_of H.domain_of self.now.port.domain home.now) }
@@ -46,7 +46,8 @@ impl<T: Copy, U: Copy, K: Kind<T, U>> Sample<T, U, K> {
         subscribing::user_header(self.port, self.taken, home)
     }
 
-    /// What its header tells: who sent it, how many elements it has, and its number, where the service numbers messages.
+    /// What the header says: the node and the publisher that sent the message, how many elements it has, and its sequence
+    /// number, if the service numbers messages.
     ///
     /// Ported from `iceoryx2::sample::Sample::header`.
     /// Example: `let header = sample.header(home);`
@@ -57,7 +58,7 @@ impl<T: Copy, U: Copy, K: Kind<T, U>> Sample<T, U, K> {
         subscribing::header(self.port, self.taken, home)
     }
 
-    /// The number of the publisher that sent it.
+    /// The number of the publisher that sent the message.
     ///
     /// Ported from `iceoryx2::sample::Sample::origin`, with a number of 64 bits.
     /// Example: `let publisher = sample.origin(home);`
@@ -69,7 +70,8 @@ impl<T: Copy, U: Copy, K: Kind<T, U>> Sample<T, U, K> {
         self.header(home).publisher_id
     }
 
-    /// Lets it go: the message is released, if it is held. Else nothing happens, and it is given back: its own home can release it.
+    /// Drops the sample: the message is released, if it is held. Otherwise nothing happens, and the sample is given back: its own home can
+    /// release it.
     ///
     /// Ported from dropping an `iceoryx2::sample::Sample`.
     /// Example: `let stays = sample.drop_with(home).err();`
@@ -86,9 +88,9 @@ impl<T: Copy, U: Copy, K: Kind<T, U>> Sample<T, U, K> {
         }
     }
 
-    /// What it names: the port that received it, and which message. That isn't released.
+    /// The port that received the sample, and which message it is. The message stays held.
     ///
-    /// This port's own.
+    /// Not in `iceoryx2`.
     /// Example: `let (port, taken) = sample.into_taken();`
     pub fn into_taken(self) -> (PortId, Taken)
         ensures { result ≡ (self.port, self.taken) }
@@ -97,7 +99,7 @@ impl<T: Copy, U: Copy, K: Kind<T, U>> Sample<T, U, K> {
         (port, taken)
     }
 
-    /// Releases the message: its slot may be lent again once nothing else refers to it.
+    /// Releases the message: its slot may be loaned again once nothing else uses it.
     ///
     /// Ported from dropping an `iceoryx2::sample::Sample`.
     /// Example: `sample.release(home);`

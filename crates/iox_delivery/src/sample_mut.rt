@@ -18,7 +18,7 @@ use iox_domain_values::SendError;
 use std::alloc::Global;
 use std::marker::PhantomData;
 
-/// A loan that is written, and may be sent: of a single value, where no other kind is named.
+/// A loan that is written, and may be sent: of a single value, if no other kind is given.
 ///
 /// Ported from `iceoryx2::sample_mut::SampleMut`.
 pub type SampleMut<T, U, K = Single> = Loan<T, U, K, Written>;
@@ -36,7 +36,7 @@ impl<T: Copy, U: Copy, K: Kind<T, U>> SampleMut<T, U, K> {
         }
     }
 
-    /// Whether a send of its publisher waits: that none does is the condition of `send`.
+    /// Whether a send of the loan's publisher waits; `send` requires that none does.
     /// Example: `let waits = sample.is_blocked(home);`
     pub fn is_blocked<H: Home<T, U>>(&self, home: &H) -> bool
         ensures { result ≡ publisher_blocked self.now.port.number (homes.ports_of H.domain_of self.now.port.domain home.now) }
@@ -44,7 +44,8 @@ impl<T: Copy, U: Copy, K: Kind<T, U>> SampleMut<T, U, K> {
         publishing::is_blocked(self.port, home)
     }
 
-    /// Sends the message: `ServicePorts::send` says which connections take it, and when it is refused. The loan is spent in every case.
+    /// Sends the message: `ServicePorts::send` says which connections take it, and when the call fails. The loan is consumed in
+    /// every case.
     ///
     /// Ported from `iceoryx2::sample_mut::SampleMut::send`.
     /// Example: `let sent = sample.send(alloc, home)?;`
@@ -88,7 +89,7 @@ impl<T: Copy, U: Copy> SampleMut<T, U> {
         }
     }
 
-    /// The value, to be changed, if the loan is out and written.
+    /// A mutable reference to the value; None if the loan doesn't exist in this home, or if the value isn't written.
     ///
     /// Ported from `iceoryx2::sample_mut::SampleMut::payload_mut`.
     /// Example: `let value = SampleMut::payload_mut(home, &sample)?;`

@@ -1,4 +1,4 @@
-//! A loan that is to be written.
+//! A loan that isn't written yet.
 ghost use Rattle.iox_domain.specs.Homes as homes;
 ghost use Rattle.std.specs.Prelude.{◌≡◌, true, option_copied};
 ghost use Rattle.iox_domain.specs.DomainPorts.Writing.{value_at};
@@ -12,7 +12,7 @@ use crate::sample_mut::SampleMut;
 use iox_domain::{Home, calls};
 use std::marker::PhantomData;
 
-/// A loan that is to be written: of a single value, where no other kind is named.
+/// A loan that isn't written yet: of a single value, if no other kind is given.
 ///
 /// Ported from `iceoryx2::sample_mut_uninit::SampleMutUninit`.
 pub type SampleMutUninit<T, U, K = Single> = Loan<T, U, K, Uninit>;
@@ -30,7 +30,7 @@ impl<T: Copy, U: Copy, K: Kind<T, U>> SampleMutUninit<T, U, K> {
         }
     }
 
-    /// Whether each value is written: the condition of `assume_init`.
+    /// Whether each value is written, which `assume_init` requires.
     /// Example: `let may_be_sent = loan.is_written(home);`
     pub fn is_written<H: Home<T, U>>(&self, home: &H) -> bool
         ensures { result ≡ K.is_ready (loan_found self.now.port.number self.now.slot
@@ -39,7 +39,7 @@ impl<T: Copy, U: Copy, K: Kind<T, U>> SampleMutUninit<T, U, K> {
         K::is_ready_in(self.port, self.slot, home)
     }
 
-    /// It is a loan that is written.
+    /// Turns the loan into one that is written.
     ///
     /// Ported from `iceoryx2::sample_mut_uninit::SampleMutUninit::assume_init`.
     /// Example: `let sample = loan.assume_init(home);`
@@ -61,7 +61,7 @@ impl<T: Copy, U: Copy, K: Kind<T, U>> SampleMutUninit<T, U, K> {
 impl<T: Copy, U: Copy> SampleMutUninit<T, U> {
     /// The value, if it is written.
     ///
-    /// Ported from `iceoryx2::sample_mut_uninit::SampleMutUninit::payload`, which gives a `MaybeUninit`.
+    /// Ported from `iceoryx2::sample_mut_uninit::SampleMutUninit::payload`, which returns a `MaybeUninit`.
     /// Example: `let value = loan.payload(home);`
     pub fn payload<'a, H: Home<T, U>>(&self, home: &'a H) -> Option<&'a T>
     where
@@ -76,7 +76,7 @@ impl<T: Copy, U: Copy> SampleMutUninit<T, U> {
         }
     }
 
-    /// Writes the value.
+    /// Writes the value, if the loan exists in this home.
     ///
     /// Ported from writing through `iceoryx2::sample_mut_uninit::SampleMutUninit::payload_mut`.
     /// Example: `loan.payload_write(home, 7);`
@@ -88,7 +88,7 @@ impl<T: Copy, U: Copy> SampleMutUninit<T, U> {
         write(self.port, self.slot, home, value);
     }
 
-    /// Writes the value, and is a loan that is written.
+    /// Writes the value, and turns the loan into one that is written.
     ///
     /// Ported from `iceoryx2::sample_mut_uninit::SampleMutUninit::write_payload`.
     /// Example: `let sample = loan.write_payload(home, 7);`

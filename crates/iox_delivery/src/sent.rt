@@ -1,4 +1,4 @@
-//! What a send came to, and a send that waits.
+//! What a send answers, and a send that waits.
 ghost use Rattle.iox_domain.specs.Homes as homes;
 ghost use Rattle.std.specs.Prelude.{◌≡◌, true, IfErr};
 ghost use Rattle.std.specs.Result.{result_ok};
@@ -12,26 +12,27 @@ use iox_domain_ports::Sent as Sending;
 use iox_domain_values::SendError;
 use std::marker::PhantomData;
 
-/// What a send came to.
+/// What a send answers.
 ///
 /// Ported from what `iceoryx2::sample_mut::SampleMut::send` answers, which waits itself.
 pub enum Sent<T, U> {
-    /// So many connections took the message.
+    /// The send is finished, and so many connections took the message.
     Delivered(usize),
     /// The send waits at a full mailbox.
     Blocked(BlockedSend<T, U>),
 }
 
-/// A send that waits at a full mailbox: it is tried again, or given up. Till then its publisher lends, sends and follows nothing.
+/// A send that waits at a full mailbox, until it is tried again or given up. Until then its publisher can't loan, send or
+/// update.
 ///
-/// This port's own: `iceoryx2::port::publisher::Publisher::send` waits itself.
+/// Not in `iceoryx2`: `iceoryx2::port::publisher::Publisher::send` waits itself.
 pub struct BlockedSend<T, U> {
     port: PortId,
     of: PhantomData<(T, U)>,
 }
 
 impl<T: Copy, U: Copy> BlockedSend<T, U> {
-    /// Whether the send waits in this home: the condition of its calls.
+    /// Whether the send waits in this home, which its calls require.
     /// Example: `let waits = blocked.holds(home);`
     pub fn holds<H: Home<T, U>>(&self, home: &H) -> bool
         ensures { result ≡ publisher_blocked self.now.port.number (homes.ports_of H.domain_of self.now.port.domain home.now) }
@@ -39,10 +40,10 @@ impl<T: Copy, U: Copy> BlockedSend<T, U> {
         publishing::is_blocked(self.port, home)
     }
 
-    /// Tries the mailbox again at which the send waits, after so many nanoseconds since it was first found full, and goes on: it answers
-    /// as the send did. The mailbox's count of retries is one higher.
+    /// Tries the mailbox at which the send waits once more, `elapsed_ns` nanoseconds after it was first found full, and
+    /// continues; the call answers as the send did. The count of retries at the mailbox is one higher.
     ///
-    /// This port's own.
+    /// Not in `iceoryx2`.
     /// Example: `let sent = blocked.retry(home, 1_000)?;`
     pub fn retry<H: Home<T, U>>(
         self,
@@ -60,10 +61,10 @@ impl<T: Copy, U: Copy> BlockedSend<T, U> {
         }
     }
 
-    /// Lets it go: the send ends as by `give_up`, if it waits, and how many connections took the message is the answer. Else nothing
-    /// happens, and it is given back: its own home can end it.
+    /// Drops the send: it is given up as by `give_up`, if it waits, and the call answers how many connections took the message. Otherwise
+    /// nothing happens, and the send is given back: its own home can give it up.
     ///
-    /// This port's own.
+    /// Not in `iceoryx2`.
     /// Example: `let delivered = blocked.drop_with(home).ok();`
     pub fn drop_with<H: Home<T, U>>(self, home: &mut H) -> Result<usize, Self>
         ensures ends { EndsSend (homes.ports_of H.domain_of) (homes.with_ports H.changed) self.port home.old (result_ok result) home.new }
@@ -78,9 +79,9 @@ impl<T: Copy, U: Copy> BlockedSend<T, U> {
         }
     }
 
-    /// The port whose send it is. That isn't ended.
+    /// The port whose send it is. The send goes on waiting.
     ///
-    /// This port's own.
+    /// Not in `iceoryx2`.
     /// Example: `let port = blocked.into_port();`
     pub fn into_port(self) -> PortId
         ensures { result ≡ self.port }
@@ -89,9 +90,9 @@ impl<T: Copy, U: Copy> BlockedSend<T, U> {
         port
     }
 
-    /// Ends the send, and answers how many connections took the message.
+    /// Gives up the send, and answers how many connections took the message.
     ///
-    /// This port's own.
+    /// Not in `iceoryx2`.
     /// Example: `let delivered = blocked.give_up(home);`
     pub fn give_up<H: Home<T, U>>(self, home: &mut H) -> usize
         requires { publisher_blocked self.port.number (homes.ports_of H.domain_of self.port.domain home.old) ≡ true }
@@ -108,7 +109,7 @@ impl<T: Copy, U: Copy> BlockedSend<T, U> {
     }
 }
 
-// What a send of a publisher came to, as a value.
+// The answer of a send, with a waiting send as a value.
 pub(crate) fn sent_of<T, U>(
     port: PortId,
     sent: Result<Sending, SendError>,

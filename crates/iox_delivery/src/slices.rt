@@ -1,13 +1,13 @@
-//! The ports of a service of slices as values, as those of single values are in the root.
+//! The ports of a service of slices as values, like those of single values in the crate's root.
 //!
 //! - [`publisher`]: a publisher of slices.
-//! - [`sample_mut_uninit`]: a slice that is lent to be written.
-//! - [`sample_mut`]: a slice that is lent and written.
+//! - [`sample_mut_uninit`]: a loaned slice that isn't written yet.
+//! - [`sample_mut`]: a loaned slice that is written.
 //! - [`subscriber`]: a subscriber of slices.
 //! - [`sample`]: a slice that was received.
-//! - [`filling`]: slices that are lent and written at once, by port.
+//! - [`filling`]: slices that are loaned and written at once, by port.
 //!
-//! Publishers and subscribers are copied, as numbers are. A loan and a sample are spent by the call that ends them.
+//! Publishers and subscribers are copied, as numbers are. A loan and a sample are consumed by the call that ends them.
 //!
 //! First calls, of a publisher:
 //!

@@ -16,21 +16,21 @@ use iox_domain_values::{ConnectionFailure, ReceiveError};
 use std::alloc::Global;
 use std::marker::PhantomData;
 
-/// A subscriber: of single values, where no other kind is named. It stands until it leaves.
+/// A subscriber, of single values if no other kind is given. It is open until it is closed.
 ///
 /// Ported from `iceoryx2::port::subscriber::Subscriber`.
 pub type Subscriber<T, U, K = Single> = Port<T, U, K, SubscriberSide>;
 
-/// What a subscriber is made with.
+/// With what a subscriber was created.
 #[derive(Clone, Copy)]
 pub struct SubscriberSide {
     pub(crate) buffer_size: usize,
 }
 
 impl<T: Copy, U: Copy, K> Subscriber<T, U, K> {
-    /// The subscriber that was made under a number, as a value.
+    /// The subscriber with this id as a value.
     ///
-    /// This port's own: what makes ports by number hands them out so.
+    /// Not in `iceoryx2`: code that creates ports by number returns them in this way.
     /// Example: `let subscriber = Subscriber::of_port(port, 4);`
     pub fn of_port(port: PortId, buffer_size: usize) -> Self
         ensures port { result.port ≡ port }
@@ -43,7 +43,7 @@ impl<T: Copy, U: Copy, K> Subscriber<T, U, K> {
         }
     }
 
-    /// How many messages of one publisher may wait for it.
+    /// The maximum number of messages of one publisher that wait for the subscriber.
     ///
     /// Ported from `iceoryx2::port::subscriber::Subscriber::buffer_size`.
     /// Example: `let most = subscriber.buffer_size();`
@@ -53,7 +53,7 @@ impl<T: Copy, U: Copy, K> Subscriber<T, U, K> {
         self.side.buffer_size
     }
 
-    /// Whether it stands in this home: the condition of its calls.
+    /// Whether the subscriber is open in this home, which its calls require.
     /// Example: `let is_there = subscriber.holds(home);`
     pub fn holds<H: Home<T, U>>(&self, home: &H) -> bool
         ensures { result ≡ subscriber_stands self.now.port.number (homes.ports_of H.domain_of self.now.port.domain home.now) }
@@ -61,7 +61,8 @@ impl<T: Copy, U: Copy, K> Subscriber<T, U, K> {
         subscribing::holds(self.port, home)
     }
 
-    /// Whether some connection of it has data, after it followed the publishers: it fails where that does.
+    /// Whether some connection of the subscriber has data, after it followed the list of publishers. The call fails if
+    /// following the list does.
     ///
     /// Ported from `iceoryx2::port::subscriber::Subscriber::has_samples`.
     /// Example: `let has = subscriber.has_samples(alloc, home)?;`
@@ -77,8 +78,8 @@ impl<T: Copy, U: Copy, K> Subscriber<T, U, K> {
         subscribing::has_samples(self.port, alloc, home)
     }
 
-    /// Receives the next message, if one waits: `ServicePorts::receive` says which, and when it is refused. It is held until it
-    /// is released.
+    /// Receives the next message, if one waits: `ServicePorts::receive` says which one, and when the call fails. The message is
+    /// held until it is released.
     ///
     /// Ported from `iceoryx2::port::subscriber::Subscriber::receive`.
     /// Example: `let sample = subscriber.receive(alloc, home)?;`
@@ -101,7 +102,8 @@ impl<T: Copy, U: Copy, K> Subscriber<T, U, K> {
         }
     }
 
-    /// Lets it go: it leaves as by `leave`, if it exists. Else nothing happens, and it is given back: it can leave its own home.
+    /// Drops the subscriber: it is closed as by `leave`, if it is open in this home. Otherwise nothing happens, and the
+    /// subscriber is returned, so that it can be closed in its own home.
     ///
     /// Ported from dropping an `iceoryx2::port::subscriber::Subscriber`.
     /// Example: `let stays = subscriber.drop_with(home).err();`
@@ -119,7 +121,7 @@ impl<T: Copy, U: Copy, K> Subscriber<T, U, K> {
         }
     }
 
-    /// Leaves: the samples that it holds stay to be read and released. Its handler is dropped.
+    /// Closes the subscriber: samples that it holds can still be read and released. Its handler is dropped.
     ///
     /// Ported from dropping an `iceoryx2::port::subscriber::Subscriber`.
     /// Example: `subscriber.leave(home);`

@@ -1,4 +1,4 @@
-//! What a subscriber of values and one of slices have in common, and what their samples have: their calls, by port and message.
+//! The calls that a subscriber of single values and one of slices, and their samples, have in common, by port and message.
 ghost use Rattle.iox_domain.specs.Homes as homes;
 ghost use Rattle.std.specs.Prelude.{◌≡◌, true, Some, option_map};
 ghost use Rattle.iox_delivery.specs.Holding.{subscriber_stands, message_found, holds_message};
@@ -12,9 +12,9 @@ use iox_domain_ports::Taken;
 use iox_domain_values::{ConnectionFailure, ReceiveError};
 use std::alloc::Global;
 
-/// Whether a subscriber stands.
+/// Whether the subscriber is open.
 ///
-/// This port's own.
+/// Not in `iceoryx2`.
 /// Example: `let is_there = subscribing::holds(port, home);`
 pub fn holds<T: Copy, U: Copy, H: Home<T, U>>(port: PortId, home: &H) -> bool
     ensures { result ≡ subscriber_stands port.number (homes.ports_of H.domain_of port.domain home.now) }
@@ -28,7 +28,8 @@ pub fn holds<T: Copy, U: Copy, H: Home<T, U>>(port: PortId, home: &H) -> bool
     }
 }
 
-/// Whether some connection of a subscriber has data, after it followed the publishers: it fails where that does.
+/// Whether some connection of the subscriber has data, after it followed the list of publishers. The call fails if following
+/// the list does.
 ///
 /// Ported from `iceoryx2::port::subscriber::Subscriber::has_samples`.
 /// Example: `let has = subscribing::has_samples(port, alloc, home)?;`
@@ -47,7 +48,7 @@ pub fn has_samples<T: Copy, U: Copy, H: Home<T, U>>(
     }
 }
 
-/// A subscriber receives the next message, if one waits: `ServicePorts::receive` says which, and when it is refused.
+/// The subscriber receives the next message, if one waits: `ServicePorts::receive` says which one, and when the call fails.
 ///
 /// Ported from `iceoryx2::port::subscriber::Subscriber::receive`.
 /// Example: `let taken = subscribing::take(port, alloc, home)?;`
@@ -66,7 +67,7 @@ pub fn take<T: Copy, U: Copy, H: Home<T, U>>(
     }
 }
 
-/// A subscriber follows the publishers that came and left: `ServicePorts::update_subscriber` says what that does, and when it fails.
+/// The subscriber follows the list of publishers: `ServicePorts::update_subscriber` says what that does, and when it fails.
 ///
 /// Ported from `iceoryx2::port::update_connections::UpdateConnections`.
 /// Example: `subscribing::update(port, alloc, home)?;`
@@ -85,7 +86,8 @@ pub fn update<T: Copy, U: Copy, H: Home<T, U>>(
     }
 }
 
-/// A subscriber that is let go leaves, and its handler is dropped, if it exists; else nothing happens. Whether it left is the answer.
+/// Drops the subscriber: it is closed, and its handler is dropped, if it is open; otherwise nothing happens. The call answers
+/// whether the subscriber was closed.
 ///
 /// Ported from dropping an `iceoryx2::port::subscriber::Subscriber`.
 /// Example: `let has_left = subscribing::drop_port(port, home);`
@@ -98,7 +100,7 @@ pub fn drop_port<T: Copy, U: Copy, H: Home<T, U>>(port: PortId, home: &mut H) ->
     calls::leave_subscriber(home, port.domain, port.number)
 }
 
-/// A subscriber leaves, and its handler is dropped.
+/// Closes the subscriber, and drops its handler.
 ///
 /// Ported from dropping an `iceoryx2::port::subscriber::Subscriber`.
 /// Example: `subscribing::leave(port, home);`
@@ -112,7 +114,7 @@ pub fn leave<T: Copy, U: Copy, H: Home<T, U>>(port: PortId, home: &mut H)
     }
 }
 
-/// The values of a message that is held.
+/// The values of a held message.
 ///
 /// Ported from `iceoryx2::sample::Sample::payload`.
 /// Example: `let first = subscribing::values(port, taken, home).get(0);`
@@ -137,7 +139,7 @@ where
     }
 }
 
-/// The user header of a message that is held.
+/// The user header of a held message.
 ///
 /// Ported from `iceoryx2::sample::Sample::user_header`.
 /// Example: `let stamp = *subscribing::user_header(port, taken, home);`
@@ -162,8 +164,8 @@ where
     }
 }
 
-/// What the header of a message that is held tells: who sent it, how many elements it has, and its number, where the service numbers
-/// messages.
+/// What the header of a held message says: the node and the publisher that sent the message, how many elements it has, and its
+/// sequence number, if the service numbers messages.
 ///
 /// Ported from `iceoryx2::sample::Sample::header`.
 /// Example: `let header = subscribing::header(port, taken, home);`
@@ -180,7 +182,7 @@ pub fn header<T: Copy, U: Copy, H: Home<T, U>>(port: PortId, taken: Taken, home:
     }
 }
 
-/// A message that is held is released.
+/// Releases a held message.
 ///
 /// Ported from dropping an `iceoryx2::sample::Sample`.
 /// Example: `subscribing::release(port, taken, home);`
@@ -196,7 +198,7 @@ pub fn release<T: Copy, U: Copy, H: Home<T, U>>(port: PortId, taken: Taken, home
     }
 }
 
-/// A message that is let go is released, if it is held; else nothing happens. Whether it was released is the answer.
+/// Drops a message: it is released, if it is held; otherwise nothing happens. The call answers whether it was released.
 ///
 /// Ported from dropping an `iceoryx2::sample::Sample`.
 /// Example: `let was_held = subscribing::drop_sample(port, taken, home);`
@@ -213,9 +215,9 @@ pub fn drop_sample<T: Copy, U: Copy, H: Home<T, U>>(
     }
 }
 
-/// Whether a message that this subscriber received is held.
+/// Whether this subscriber received the message and holds it.
 ///
-/// This port's own.
+/// Not in `iceoryx2`.
 /// Example: `let is_held = subscribing::holds_message(port, taken, home);`
 pub fn holds_message<T: Copy, U: Copy, H: Home<T, U>>(port: PortId, taken: Taken, home: &H) -> bool
     ensures { result ≡ holds_message port.number taken (homes.ports_of H.domain_of port.domain home.now) }

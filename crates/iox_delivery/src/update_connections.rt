@@ -1,4 +1,4 @@
-//! What follows the ports of the other side.
+//! The trait of ports that follow those of the other side.
 ghost use Rattle.iox_domain.specs.Homes as homes;
 ghost use Rattle.std.specs.Prelude.{◌≡◌, ℕ, Bool, Option, Some, Result, true};
 ghost use Rattle.iox_domain.specs.AtHomes.{AtDomain};
@@ -17,17 +17,19 @@ use std::alloc::Global;
 ///
 /// Ported from `iceoryx2::port::update_connections::UpdateConnections`.
 pub trait UpdateConnections<T, U> {
-    // which port it is
+    // The id of the port.
     ghost port_of: { Self → PortId };
 
-    // whether the port of a number may follow: it stands, and no send of it waits
+    // Whether the port with this number may follow: it is open, and no send of it waits.
     ghost may_follow: { ℕ → Option (ServicePorts T U) → Bool };
 
-    // how the port of a number follows, where publishers and subscribers decide so about a connection that failed
+    // What following answers and changes at the port with this number, if the handlers of publishers and of subscribers may
+    // answer so about a failed connection.
     ghost follows: { (DegradationInfo → DegradationAction → Type 0) → (DegradationInfo → DegradationAction → Type 0) → ℕ
         → ServicePorts T U → Option (Result (Unit {0}) ConnectionFailure) → ServicePorts T U → Type 0 };
 
-    /// Follows the ports of the other side that came and left since. It fails as a handler says where a connection isn't made.
+    /// Follows the ports of the other side that were created and closed since the last call. If a connection fails, the handler
+    /// says whether the call does.
     ///
     /// Ported from `iceoryx2::port::update_connections::UpdateConnections::update_connections`.
     /// Example: `publisher.update_connections(alloc, home)?;`

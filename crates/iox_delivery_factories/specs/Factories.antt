@@ -1,4 +1,4 @@
--- How ports are made by builders.
+-- How builders create ports.
 use Rattle.std.specs.Prelude.{ℕ, Option, None, Some, Result, Ok, Err}
 use Rattle.iox_domain.specs.DomainValues.Sizes.{buffer_of}
 use Rattle.iox_domain.specs.DomainValues.declared.backpressure_handler.BackpressureHandler.{BackpressureHandler}
@@ -30,11 +30,12 @@ use Rattle.iox_delivery_factories.specs.Elements.{room_of}
 use Rattle.iox_delivery_factories.specs.declared.publisher.PortFactoryPublisher.{PortFactoryPublisher}
 use Rattle.iox_delivery_factories.specs.declared.subscriber.PortFactorySubscriber.{PortFactorySubscriber}
 
--- who decides for a publisher of this strategy where nobody is named: no handler at a full mailbox, and a warning where a connection fails
+-- The handlers of a publisher with this strategy for which none is set: no handler for full mailboxes, and `Warn` for failed
+-- connections.
 abbrev pub nobody_named : {X Y : Type 0} {F : X → Type 0} {G : Y → Type 0} → BackpressureStrategy → Handlers X Y F G
 nobody_named strategy = record { strategy = strategy; backpressure = None; degradation = Fixed Warn }
 
--- a builder of publishers of elements of so many values, where nothing is named
+-- A builder of publishers whose elements have `unit` values, with all defaults.
 abbrev pub new_publisher_builder : {T U X Y Z : Type 0} {F : X → Type 0} {G : Y → Type 0} {K : Z → Type 0} → DomainId → ℕ → ℕ → ℕ
     → PortFactoryPublisher T U (Handlers X Y F G) (PreallocatedSamplesOverride Z K)
 new_publisher_builder domain unit node_id owner =
@@ -49,7 +50,7 @@ new_publisher_builder domain unit node_id owner =
       of = record {};
     }
 
--- a builder of subscribers where nothing is named
+-- A builder of subscribers with all defaults.
 abbrev pub new_subscriber_builder : {T U Y : Type 0} {G : Y → Type 0} → DomainId → ℕ → ℕ
     → PortFactorySubscriber T U (DegradationHandler Y G)
 new_subscriber_builder domain node_id owner =
@@ -62,34 +63,34 @@ new_subscriber_builder domain node_id owner =
       of = record {};
     }
 
--- a builder with this strategy
+-- The builder with this strategy.
 abbrev pub with_strategy : {T U X Y O : Type 0} {F : X → Type 0} {G : Y → Type 0} → BackpressureStrategy
     → PortFactoryPublisher T U (Handlers X Y F G) O → PortFactoryPublisher T U (Handlers X Y F G) O
 with_strategy strategy builder = record builder
     { settings = record builder.settings { strategy = strategy }; handlers = record builder.handlers { strategy = strategy } }
 
--- a builder where this one is asked where a connection failed
+-- The builder with this handler for failed connections.
 abbrev pub with_degradation : {T U X Y O : Type 0} {F : X → Type 0} {G : Y → Type 0} → DegradationHandler Y G
     → PortFactoryPublisher T U (Handlers X Y F G) O → PortFactoryPublisher T U (Handlers X Y F G) O
 with_degradation handler builder = record builder { handlers = record builder.handlers { degradation = handler } }
 
--- a builder where this one is asked at a full mailbox
+-- The builder with this handler for full mailboxes.
 abbrev pub with_backpressure : {T U X Y O : Type 0} {F : X → Type 0} {G : Y → Type 0} → Option (BackpressureHandler X F)
     → PortFactoryPublisher T U (Handlers X Y F G) O → PortFactoryPublisher T U (Handlers X Y F G) O
 with_backpressure handler builder = record builder { handlers = record builder.handlers { backpressure = handler } }
 
--- the same settings with nobody asked
+-- The builder with the same settings, but without handlers and with as many slots as the worst case needs.
 abbrev pub cloned : {T U X Y Z : Type 0} {F : X → Type 0} {G : Y → Type 0} {K : Z → Type 0}
     → PortFactoryPublisher T U (Handlers X Y F G) (PreallocatedSamplesOverride Z K)
     → PortFactoryPublisher T U (Handlers X Y F G) (PreallocatedSamplesOverride Z K)
 cloned builder = record builder { handlers = nobody_named builder.settings.strategy; overriding = WorstCase }
 
--- the same settings with a warning where a connection fails
+-- The builder with the same settings, but with `Warn` for failed connections.
 abbrev pub subscriber_cloned : {T U Y : Type 0} {G : Y → Type 0} → PortFactorySubscriber T U (DegradationHandler Y G)
     → PortFactorySubscriber T U (DegradationHandler Y G)
 subscriber_cloned builder = record builder { handler = Fixed Warn }
 
--- what a publisher of single values is made with
+-- With what a publisher of single values is created.
 abbrev pub single_config : PortOwner → PublisherSettings → PublisherConfig
 single_config owner settings = record {
   owner = owner;
@@ -100,7 +101,7 @@ single_config owner settings = record {
   first_sequence = settings.first_sequence;
 }
 
--- what a publisher of slices of elements of so many values is made with
+-- With what a publisher of slices is created whose elements have `unit` values.
 abbrev pub slice_config : PortOwner → ℕ → PublisherSettings → PublisherConfig
 slice_config owner unit settings =
     record {
@@ -113,21 +114,22 @@ slice_config owner unit settings =
       first_sequence = settings.first_sequence;
     }
 
--- what a subscriber is made with
+-- With what a subscriber is created.
 abbrev pub subscriber_config : PortOwner → SubscriberSettings → SubscriberConfig
 subscriber_config owner settings = record { owner = owner; buffer_size = settings.buffer_size }
 
--- how many messages may wait for a subscriber, where the service allows them
+-- How many messages may wait for a subscriber, if the service allows its buffer size; otherwise 0.
 abbrev pub allowed : Result ℕ SubscriberCreateError → ℕ
 allowed (Ok buffer_size) = buffer_size
 allowed (Err refusal) = 0
 
--- how many messages of one publisher may wait for a subscriber, in the service that is found
+-- How many messages of one publisher may wait for a subscriber in this service, if the home has the service and it allows that;
+-- otherwise 0.
 abbrev pub buffer_at : {T U : Type 0} → SubscriberSettings → Option (ServicePorts T U) → ℕ
 buffer_at settings None = 0
 buffer_at settings (Some ports) = allowed (buffer_of settings.buffer_size ports.sizes)
 
--- the publisher that came, as a value
+-- The answer of the call, with the created publisher as a value.
 abbrev pub publisher_of : {T U : Type 0} → DomainId → PublisherSettings → Result ℕ PublisherCreateError
     → Result (Port T U Single PublisherSide) PublisherCreateError
 publisher_of domain settings (Ok number) =
@@ -139,7 +141,7 @@ publisher_of domain settings (Ok number) =
     })
 publisher_of domain settings (Err error) = Err error
 
--- the publisher of slices that came, as a value
+-- The answer of the call, with the created publisher of slices as a value.
 abbrev pub slice_publisher_of : {T U : Type 0} → DomainId → PublisherSettings → Result ℕ PublisherCreateError
     → Result (Port T U Slice PublisherSide) PublisherCreateError
 slice_publisher_of domain settings (Ok number) =
@@ -150,7 +152,7 @@ slice_publisher_of domain settings (Ok number) =
     })
 slice_publisher_of domain settings (Err error) = Err error
 
--- the subscriber that came, as a value
+-- The answer of the call, with the created subscriber as a value.
 abbrev pub subscriber_of : {T U K : Type 0} → DomainId → ℕ → Result ℕ SubscriberCreateError
     → Result (Port T U K SubscriberSide) SubscriberCreateError
 subscriber_of domain buffer_size (Ok number) =

@@ -1,4 +1,4 @@
-//! A builder for the ports of a domain.
+//! Builders for the ports of a domain.
 ghost use Rattle.std.specs.Prelude.{◌≡◌};
 ghost use Rattle.iox_delivery_factories.specs.Elements.{values_each};
 ghost use Rattle.iox_delivery_factories.specs.Factories.{new_publisher_builder, new_subscriber_builder};
@@ -14,10 +14,10 @@ use iox_domain_values::{
 };
 use std::marker::PhantomData;
 
-/// What makes publishers of a domain, for a node and an owner: two loans, sends that wait for room, slices of one value, a room
-/// that doesn't grow, numbers from 1 on, as many slots as are needed in the worst case, nobody asked at a full mailbox, and a
-/// warning where a connection fails. An element has as many values as its agreed size has of theirs: more than one only where they
-/// are the bytes of a payload that the description tells.
+/// A builder of publishers of a domain, for a node and an owner. Its defaults are two loans, sends that wait at a full mailbox,
+/// slices of one value, slots that don't grow, sequence numbers from 1 on, as many slots as the worst case needs, no handler
+/// for full mailboxes, and `Warn` for failed connections. An element has more than one value only if the values are the bytes
+/// of a payload that the description defines.
 ///
 /// Ported from `iceoryx2::service::port_factory::publish_subscribe::PortFactory::publisher_builder`.
 /// Example: `let builder = publisher_builder(&domain, 5, 9);`
@@ -49,8 +49,8 @@ pub fn publisher_builder<T: ZeroCopySend, U, B, D>(
     }
 }
 
-/// What makes subscribers of a domain, for a node and an owner: as many messages may wait as the service allows, and a warning comes where
-/// a connection fails.
+/// A builder of subscribers of a domain, for a node and an owner. Its defaults are the service's limit of waiting messages, and
+/// `Warn` for failed connections.
 ///
 /// Ported from `iceoryx2::service::port_factory::publish_subscribe::PortFactory::subscriber_builder`.
 /// Example: `let builder = subscriber_builder(&domain, 5, 9);`
@@ -73,7 +73,7 @@ pub fn subscriber_builder<T, U, B, D>(
     }
 }
 
-// How many values of this size an element of a size has.
+// How many values of size `value` an element of size `element` has.
 fn values_each(element: u64, value: u64) -> usize
     ensures { result ≡ values_each element value }
 {

@@ -1,8 +1,8 @@
-//! Laws of builders, in other words than theirs. They are the contracts of functions that do nothing.
+//! Theorems about builders. They are the contracts of functions that do nothing.
 ghost use Rattle.iox_delivery_factories.specs.Elements.{ElementsHaveValues};
 
-/// How many values an element of a service has that a builder makes publishers of: as many as its size has bytes, where values
-/// are bytes of any payload; else one.
+/// How many values an element of a service has for which a builder creates publishers: as many as it has bytes, if values are
+/// the bytes of any payload; otherwise one.
 pub fn elements_have_values()
     ensures { ElementsHaveValues }
 {}

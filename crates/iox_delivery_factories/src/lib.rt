@@ -1,12 +1,12 @@
-//! How ports are made: builders that name what a port is to have, and make it in the home of its domain.
+//! How ports are created: builders that set what a port is to have, and create it in the home of its domain.
 //!
 //! | Module | What it has |
 //! |---|---|
-//! | `builders` | a builder for the ports of a domain |
-//! | `laws` | what builders come to, in other words |
+//! | `builders` | builders for the ports of a domain |
+//! | `laws` | theorems about builders |
 //! | `prelude` | what a program without a hub needs |
-//! | `publisher` | makes a publisher of single values, or of slices |
-//! | `subscriber` | makes a subscriber of single values, or of slices |
+//! | `publisher` | the builder of a publisher of single values, or of slices |
+//! | `subscriber` | the builder of a subscriber of single values, or of slices |
 //!
 //! First calls, of a publisher of six loans:
 //!

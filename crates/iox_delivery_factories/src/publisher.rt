@@ -1,4 +1,4 @@
-//! What makes a publisher.
+//! The builder of a publisher.
 ghost use Rattle.iox_domain.specs.Homes as homes;
 ghost use Rattle.std.specs.Prelude.{◌≡◌, ℕ, IsSome, Some, Result, is_some};
 ghost use Rattle.iox_domain.specs.DomainValues.declared.degradation.DegradationCause.TheVariants.{FailedToEstablishConnection};
@@ -22,29 +22,29 @@ use iox_domain_values::{
 use std::alloc::Global;
 use std::marker::PhantomData;
 
-/// What makes a publisher of a domain: what it is to have, and who decides for it.
+/// The builder of a publisher of a domain: its settings and its handlers.
 ///
 /// Ported from `iceoryx2::service::port_factory::publisher::PortFactoryPublisher`.
 #[derive(Drop)]
 pub struct PortFactoryPublisher<T, U, B = Handlers, O = PreallocatedSamplesOverride> {
-    /// The domain that it is made in.
+    /// The domain in which the publisher is created.
     pub domain: DomainId,
-    /// Who it belongs to.
+    /// The owner of the publisher.
     pub owner: PortOwner,
-    /// How many values an element has: 1, but where the values are the bytes of a payload that only the description says.
+    /// How many values an element has: 1, except if the values are the bytes of a payload that only the description defines.
     pub unit: usize,
-    /// What it is to have.
+    /// The settings of the publisher.
     pub settings: PublisherSettings,
-    /// Who decides for it.
+    /// The handlers of the publisher.
     pub handlers: B,
-    /// Who decides how many slots it gets.
+    /// How many slots the publisher gets.
     pub overriding: O,
-    /// Of which values and user headers it is.
+    /// The types of its values and of its user header.
     pub of: PhantomData<(T, U)>,
 }
 
 impl<T, U> PortFactoryPublisher<T, U, Handlers, PreallocatedSamplesOverride> {
-    /// Names who decides how many slots the publisher gets.
+    /// Sets how many slots the publisher gets.
     ///
     /// Ported from `PortFactoryPublisher::override_sample_preallocation`.
     /// Example: `builder.override_sample_preallocation(PreallocatedSamplesOverride::new_with(16))`
@@ -55,7 +55,7 @@ impl<T, U> PortFactoryPublisher<T, U, Handlers, PreallocatedSamplesOverride> {
         self
     }
 
-    /// Names how many loans may be out at once.
+    /// Sets the maximum number of loans at once.
     ///
     /// Ported from `PortFactoryPublisher::max_loaned_samples`.
     /// Example: `builder.max_loaned_samples(6)`
@@ -66,7 +66,7 @@ impl<T, U> PortFactoryPublisher<T, U, Handlers, PreallocatedSamplesOverride> {
         self
     }
 
-    /// Names what is done at a full mailbox where the service doesn't overflow and no handler decides.
+    /// Sets what a send does at a full mailbox if the service doesn't overflow and no handler decides.
     ///
     /// Ported from `PortFactoryPublisher::backpressure_strategy`.
     /// Example: `builder.backpressure_strategy(BackpressureStrategy::DiscardData)`
@@ -78,7 +78,7 @@ impl<T, U> PortFactoryPublisher<T, U, Handlers, PreallocatedSamplesOverride> {
         self
     }
 
-    /// Names who is asked where a connection failed.
+    /// Sets the handler for failed connections.
     ///
     /// Ported from `PortFactoryPublisher::set_degradation_handler`.
     /// Example: `builder.set_degradation_handler(DegradationHandler::new_with(DegradationAction::Ignore))`
@@ -89,7 +89,7 @@ impl<T, U> PortFactoryPublisher<T, U, Handlers, PreallocatedSamplesOverride> {
         self
     }
 
-    /// Names who is asked at a full mailbox.
+    /// Sets the handler for full mailboxes.
     ///
     /// Ported from `PortFactoryPublisher::set_backpressure_handler`.
     /// Example: `builder.set_backpressure_handler(BackpressureHandler::new_with(BackpressureAction::DiscardData))`
@@ -100,7 +100,7 @@ impl<T, U> PortFactoryPublisher<T, U, Handlers, PreallocatedSamplesOverride> {
         self
     }
 
-    /// Names how many values a loan of a slice may have at first.
+    /// Sets how many elements a loan of a slice may have at first.
     ///
     /// Ported from `PortFactoryPublisher::initial_max_slice_len`.
     /// Example: `builder.initial_max_slice_len(64)`
@@ -111,7 +111,7 @@ impl<T, U> PortFactoryPublisher<T, U, Handlers, PreallocatedSamplesOverride> {
         self
     }
 
-    /// Names what a loan of a longer slice does.
+    /// Sets what a loan of a longer slice does.
     ///
     /// Ported from `PortFactoryPublisher::allocation_strategy`.
     /// Example: `builder.allocation_strategy(AllocationStrategy::PowerOfTwo)`
@@ -122,9 +122,9 @@ impl<T, U> PortFactoryPublisher<T, U, Handlers, PreallocatedSamplesOverride> {
         self
     }
 
-    /// Names the number of its first message, where the service numbers them; 0 stands for 1.
+    /// Sets the sequence number of the first message, if the service numbers messages; 0 counts as 1.
     ///
-    /// This port's own: an iceoryx2 message has no number.
+    /// Not in `iceoryx2`: an iceoryx2 message has no sequence number.
     /// Example: `builder.first_sequence(7)`
     pub fn first_sequence(mut self, value: u64) -> Self
         ensures { result ≡ record self { settings = record self.settings { first_sequence = value } } }
@@ -133,9 +133,10 @@ impl<T, U> PortFactoryPublisher<T, U, Handlers, PreallocatedSamplesOverride> {
         self
     }
 
-    /// The same settings, for publishers that this one decides for in the place of handlers: so those of a hub of `Nobody`, too.
+    /// A builder with the same settings whose publishers have these handlers, of any type that decides; for example for a hub
+    /// of `Nobody`.
     ///
-    /// This port's own.
+    /// Not in `iceoryx2`.
     /// Example: `builder.set_handlers(Nobody)`
     pub fn set_handlers<B>(self, handlers: B) -> PortFactoryPublisher<T, U, B>
         ensures { result ≡ record {
@@ -159,8 +160,8 @@ impl<T, U> PortFactoryPublisher<T, U, Handlers, PreallocatedSamplesOverride> {
         }
     }
 
-    /// The same settings once more, with nobody asked: as many slots as are needed in the worst case, no handler at a full mailbox, and a
-    /// warning where a connection fails.
+    /// A builder with the same settings, but with as many slots as the worst case needs, no handler for full mailboxes, and
+    /// `Warn` for failed connections.
     ///
     /// Ported from `PortFactoryPublisher::__internal_partial_clone`, whose name stands for a macro's here.
     /// Example: `let second = builder.partial_clone();`
@@ -189,9 +190,9 @@ impl<T: Copy, U: Copy + Default, B: Decides + Degrades, O: Overrides> PortFactor
     B,
     O,
 > {
-    /// Whether the home has the domain of the publisher: the condition of `create` and `create_slice`.
+    /// Whether the home contains the domain of the publisher, which `create` and `create_slice` require.
     ///
-    /// This port's own.
+    /// Not in `iceoryx2`.
     /// Example: `let may = builder.holds(home);`
     pub fn holds<H: Home<T, U, ForPublishers = B>>(&self, home: &H) -> bool
         ensures { result ≡ is_some (homes.ports_of H.domain_of self.now.domain home.now) }
@@ -199,13 +200,13 @@ impl<T: Copy, U: Copy + Default, B: Decides + Degrades, O: Overrides> PortFactor
         calls::ports(home, self.domain).is_some()
     }
 
-    /// Makes the publisher, of single values, in the home of its domain. It gets as many slots as it needs in the worst case, or fewer as
-    /// the override answers, and is connected to the subscribers that are there; where a connection isn't made its handler is asked, and it
-    /// comes nevertheless.
+    /// Creates the publisher, of single values, in the home of its domain. It gets as many slots as it needs in the worst case,
+    /// or fewer if the override says so, and is connected to the existing subscribers. If a connection fails its handler is
+    /// asked, and the publisher is created nevertheless.
     ///
-    /// Refused with `UnableToCreateDataSegment` if the slots of the worst case are 2^32 or more; else with
-    /// `ExceedsMaxSupportedPublishers` if no place is free; else with `UnableToCreateDataSegment` where an allocation fails. Then nothing
-    /// has changed.
+    /// The call fails with `UnableToCreateDataSegment` if the worst case needs 2^32 slots or more; otherwise with
+    /// `ExceedsMaxSupportedPublishers` if no place is free; otherwise with `UnableToCreateDataSegment` if an allocation fails.
+    /// Then nothing has changed.
     ///
     /// Ported from `PortFactoryPublisher::create`.
     /// Example: `let publisher = builder.create(alloc, home)?;`
@@ -237,10 +238,11 @@ impl<T: Copy, U: Copy + Default, B: Decides + Degrades, O: Overrides> PortFactor
         Ok(Publisher::of_port(PortId { domain, number }, settings.strategy, 1))
     }
 
-    /// Makes the publisher, of slices, in the home of its domain, as `create` does. A slot holds as many elements as a loan may have at
-    /// first.
+    /// Creates the publisher, of slices, in the home of its domain, as `create` does. A slot of the first segment has room for
+    /// as many elements as `initial_max_slice_len` says.
     ///
-    /// Refused as `create` is, and with `UnableToCreateDataSegment` also if a loan may have 2^32 elements or values or more at first.
+    /// The call fails as `create` does, and with `UnableToCreateDataSegment` also if these are 2^32 elements or more, or have 2^32
+    /// values or more.
     ///
     /// Ported from `PortFactoryPublisher::create`.
     /// Example: `let publisher = builder.create_slice(alloc, home)?;`
@@ -277,7 +279,7 @@ impl<T: Copy, U: Copy + Default, B: Decides + Degrades, O: Overrides> PortFactor
         ))
     }
 
-    // Makes the publisher by what its slots are to be, and answers its number.
+    // Creates the publisher with this config, and answers its number.
     fn make<H: Home<T, U, ForPublishers = B>>(
         self,
         alloc: Global,
@@ -316,7 +318,7 @@ impl<T: Copy, U: Copy + Default, B: Decides + Degrades, O: Overrides> PortFactor
     }
 }
 
-// How many values so many elements have, as far as they are counted.
+// How many values' memory these elements take, counted up to 2^64 - 1.
 fn room_of(unit: usize, elements: usize) -> usize
     ensures { result ≡ room_of unit elements }
 {

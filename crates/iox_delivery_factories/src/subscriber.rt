@@ -1,4 +1,4 @@
-//! What makes a subscriber.
+//! The builder of a subscriber.
 ghost use Rattle.iox_domain.specs.Homes as homes;
 ghost use Rattle.std.specs.Prelude.{◌≡◌, ℕ, IsSome, Some, Result, is_some};
 ghost use Rattle.iox_domain.specs.DomainValues.declared.create_error.SubscriberCreateError.{SubscriberCreateError};
@@ -17,25 +17,25 @@ use iox_domain_values::{
 use std::alloc::Global;
 use std::marker::PhantomData;
 
-/// What makes a subscriber of a domain: what it is to have, and who decides for it.
+/// The builder of a subscriber of a domain: its settings and its handler.
 ///
 /// Ported from `iceoryx2::service::port_factory::subscriber::PortFactorySubscriber`.
 #[derive(Drop)]
 pub struct PortFactorySubscriber<T, U, D = DegradationHandler> {
-    /// The domain that it is made in.
+    /// The domain in which the subscriber is created.
     pub domain: DomainId,
-    /// Who it belongs to.
+    /// The owner of the subscriber.
     pub owner: PortOwner,
-    /// What it is to have.
+    /// The settings of the subscriber.
     pub settings: SubscriberSettings,
-    /// Who decides for it.
+    /// The handler of the subscriber.
     pub handler: D,
-    /// Of which values and user headers it is.
+    /// The types of its values and of its user header.
     pub of: PhantomData<(T, U)>,
 }
 
 impl<T, U> PortFactorySubscriber<T, U, DegradationHandler> {
-    /// Names how many messages of one publisher may wait for it; 0 stands for 1.
+    /// Sets the maximum number of messages of one publisher that wait for the subscriber; 0 counts as 1.
     ///
     /// Ported from `PortFactorySubscriber::buffer_size`.
     /// Example: `builder.buffer_size(4)`
@@ -46,7 +46,7 @@ impl<T, U> PortFactorySubscriber<T, U, DegradationHandler> {
         self
     }
 
-    /// Names who is asked where a connection failed.
+    /// Sets the handler for failed connections.
     ///
     /// Ported from `PortFactorySubscriber::set_degradation_handler`.
     /// Example: `builder.set_degradation_handler(DegradationHandler::new_with(DegradationAction::Ignore))`
@@ -57,9 +57,9 @@ impl<T, U> PortFactorySubscriber<T, U, DegradationHandler> {
         self
     }
 
-    /// The same settings, for subscribers that this one decides for in the place of a handler.
+    /// A builder with the same settings whose subscribers have this handler, of any type that decides.
     ///
-    /// This port's own.
+    /// Not in `iceoryx2`.
     /// Example: `builder.set_handler(Nobody)`
     pub fn set_handler<D>(self, handler: D) -> PortFactorySubscriber<T, U, D>
         ensures { result ≡ record {
@@ -79,7 +79,7 @@ impl<T, U> PortFactorySubscriber<T, U, DegradationHandler> {
         }
     }
 
-    /// The same settings once more, with a warning where a connection fails.
+    /// A builder with the same settings, but with `Warn` for failed connections.
     ///
     /// Ported from `PortFactorySubscriber::__internal_partial_clone`, whose name stands for a macro's here.
     /// Example: `let second = builder.partial_clone();`
@@ -97,9 +97,9 @@ impl<T, U> PortFactorySubscriber<T, U, DegradationHandler> {
 }
 
 impl<T: Copy, U: Copy, D: Degrades> PortFactorySubscriber<T, U, D> {
-    /// Whether the home has the domain of the subscriber: the condition of `create` and `create_slice`.
+    /// Whether the home contains the domain of the subscriber, which `create` and `create_slice` require.
     ///
-    /// This port's own.
+    /// Not in `iceoryx2`.
     /// Example: `let may = builder.holds(home);`
     pub fn holds<H: Home<T, U, ForSubscribers = D>>(&self, home: &H) -> bool
         ensures { result ≡ is_some (homes.ports_of H.domain_of self.now.domain home.now) }
@@ -107,11 +107,12 @@ impl<T: Copy, U: Copy, D: Degrades> PortFactorySubscriber<T, U, D> {
         calls::ports(home, self.domain).is_some()
     }
 
-    /// Makes the subscriber, of single values, in the home of its domain. It is connected to the publishers that are there; where a
-    /// connection isn't made its handler is asked, and it comes nevertheless.
+    /// Creates the subscriber, of single values, in the home of its domain. It is connected to the existing publishers. If a
+    /// connection fails its handler is asked, and the subscriber is created nevertheless.
     ///
-    /// Refused with `BufferSizeExceedsMaxSupportedBufferSizeOfService` if more messages are to wait than the service allows; else with
-    /// `ExceedsMaxSupportedSubscribers` if no place is free; else with `OutOfMemory` where an allocation fails. Then nothing has changed.
+    /// The call fails with `BufferSizeExceedsMaxSupportedBufferSizeOfService` if more messages are to wait than the service
+    /// allows; otherwise with `ExceedsMaxSupportedSubscribers` if no place is free; otherwise with `OutOfMemory` if an
+    /// allocation fails. Then nothing has changed.
     ///
     /// Ported from `PortFactorySubscriber::create`.
     /// Example: `let subscriber = builder.create(alloc, home)?;`
@@ -135,7 +136,7 @@ impl<T: Copy, U: Copy, D: Degrades> PortFactorySubscriber<T, U, D> {
         Ok(Subscriber::of_port(PortId { domain, number }, buffer_size))
     }
 
-    /// Makes the subscriber, of slices, in the home of its domain, as `create` does, and refused as it is.
+    /// Creates the subscriber, of slices, in the home of its domain, as `create` does; the call fails as `create` does.
     ///
     /// Ported from `PortFactorySubscriber::create`.
     /// Example: `let subscriber = builder.create_slice(alloc, home)?;`
@@ -159,7 +160,7 @@ impl<T: Copy, U: Copy, D: Degrades> PortFactorySubscriber<T, U, D> {
         Ok(slice::Subscriber::of_port(PortId { domain, number }, buffer_size))
     }
 
-    // Makes the subscriber, and answers its number.
+    // Creates the subscriber, and answers its number.
     fn make<H: Home<T, U, ForSubscribers = D>>(
         self,
         alloc: Global,
@@ -189,7 +190,8 @@ impl<T: Copy, U: Copy, D: Degrades> PortFactorySubscriber<T, U, D> {
         }
     }
 
-    // How many messages of one publisher may wait for it, in the service of its domain: 0 where the service refuses it.
+    // How many messages of one publisher may wait for the subscriber in the service of its domain; 0 if the service doesn't
+    // allow its buffer size.
     fn buffer_size_in<H: Home<T, U, ForSubscribers = D>>(&self, home: &H) -> usize
         ensures { result ≡ buffer_at self.now.settings (homes.ports_of H.domain_of self.now.domain home.now) }
     {

@@ -1,4 +1,4 @@
--- The definitions that contracts about descriptions cite.
+-- The definitions that the contracts of descriptions use.
 pub mod Line
 pub mod Reading
 pub mod Within

@@ -1,4 +1,4 @@
--- How a description is spelled: the compact text of a JSON object, whose keys stand in rising order.
+-- How a description is encoded: as the compact text of a JSON object, whose keys are in rising order.
 use Rattle.std.specs.Prelude.{◌≡◌, ℕ, List, [], ◌∷◌, map, Option, Some, None, codes}
 use Rattle.serde_json.specs.Data.{unsigned, Data, null, boolean, number, string, array, object, no_items, item, Members, no_members, member}
 use Rattle.serde_json.specs.View.{items_of}
@@ -23,21 +23,21 @@ use Rattle.iox_describe_verdict.specs.DescribeSettings.RequestResponseSettings a
 use Rattle.iox_describe_verdict.specs.DescribeSettings.PublishSubscribeSettings as publish_subscribe
 use Rattle.iox_describe_verdict.specs.DescribeSettings.EventSettings as event
 
--- a number that is not negative
+-- A number that isn't negative, as JSON.
 abbrev pub natural : ℕ → Data
 natural n = number (unsigned n)
 
--- an option is null or its number
+-- An option as JSON: null or its number.
 abbrev pub option_tree : Option ℕ → Data
 option_tree None = null
 option_tree (Some n) = natural n
 
--- the word of a variant
+-- The word of a variant.
 abbrev pub variant_word : TypeVariant → List ℕ
 variant_word FixedSize = codes "FixedSize"
 variant_word Dynamic = codes "Dynamic"
 
--- the detail of a type
+-- The detail of a type as JSON.
 abbrev pub detail_tree : Detail → Data
 detail_tree d =
     object
@@ -47,7 +47,7 @@ detail_tree d =
     (member (codes "variant") (string (variant_word d.variant))
     no_members))))
 
--- the types of a message
+-- The types of a message as JSON.
 abbrev pub types_tree : MessageTypeDetails → Data
 types_tree t =
     object
@@ -56,41 +56,41 @@ types_tree t =
     (member (codes "user_header") (detail_tree t.user_header)
     no_members)))
 
--- what a setting is set to
+-- The value of a setting as JSON.
 abbrev pub value_tree : SettingValue → Data
 value_tree (Switch b) = boolean b
 value_tree (Number n) = natural n
 value_tree (OptionalNumber o) = option_tree o
 value_tree (Types t) = types_tree t
 
--- the settings of a list, each under its key
+-- The settings of a list as JSON members, each under its key.
 abbrev pub settings_members : {S C : Type 0} → (S → List ℕ) → (S → C → SettingValue) → List S → C → Members
 settings_members key value [] config = no_members
 settings_members key value (setting ∷ more) config
     = member (key setting) (value_tree (value setting config)) (settings_members key value more config)
 
--- the settings of any pattern, as a line of the version has them
+-- The settings of any pattern as JSON, as a line of this version has them.
 abbrev pub settings_tree : Version → Settings → Data
 settings_tree version (RequestResponse c) = object (settings_members request_response.key request_response.value request_response.all c)
 settings_tree version (PublishSubscribe c)
     = object (settings_members publish_subscribe.key publish_subscribe.value (publish_subscribe.written version) c)
 settings_tree version (Event c) = object (settings_members event.key event.value event.all c)
 
--- the word of a pattern
+-- The word of a pattern.
 abbrev pub pattern_word : MessagingPattern → List ℕ
 pattern_word pattern.RequestResponse = codes "request_response"
 pattern_word pattern.PublishSubscribe = codes "publish_subscribe"
 pattern_word pattern.Event = codes "event"
 
--- an attribute: its key and its value
+-- An attribute as JSON: its key and its value.
 abbrev pub attribute_tree : Attribute → Data
 attribute_tree a = array (item (string a.key) (item (string a.value) no_items))
 
--- the attributes, in their order
+-- The attributes as JSON, in their order.
 abbrev pub attributes_tree : List Attribute → Data
 attributes_tree attributes = array (items_of (map attribute_tree attributes))
 
--- an agreement as JSON of the version
+-- An agreement as JSON of this version.
 abbrev pub tree : Version → Agreement → Data
 tree version a =
     object
@@ -102,10 +102,10 @@ tree version a =
     (member (codes "version") (natural (number_of version))
     no_members))))))
 
--- the one line of a version that spells an agreement
+-- The line of this version that encodes an agreement.
 unfoldable pub line : Version → Agreement → List ℕ
 line version a = compact_text (tree version a)
 
--- bytes that spell an agreement: its line of a version that has all of it
+-- The bytes encode an agreement: they are its line of a version that can state all of its settings.
 abbrev pub Spells : List ℕ → Agreement → Type 0
 Spells bytes a = (version : Version) × HasAll version a.settings × (bytes ≡ line version a)

@@ -1,4 +1,4 @@
--- What it means that settings stand in a tree, and that an attribute of it is refused.
+-- When settings are found in a JSON value, and the error of a refused attribute.
 use Rattle.std.specs.Prelude.{◌≡◌, ℕ, List, [], ◌∷◌, Some}
 use Rattle.serde_json.specs.Data.{Data}
 use Rattle.serde_json.specs.Find.{get}
@@ -9,13 +9,13 @@ use Rattle.iox_describe.specs.declared.error.DescriptionError.{DescriptionError}
 use Rattle.iox_describe.specs.declared.error.DescriptionError.TheVariants.{Invalid, OutOfMemory}
 use Rattle.iox_describe.specs.Line.{value_tree}
 
--- each setting of a list is found under its key
+-- Each setting of a list is found under its key.
 abbrev pub AreFound : {S C : Type 0} → (S → List ℕ) → (S → C → SettingValue) → List S → C → Data → Type 0
 AreFound key value [] target d = Unit {0}
 AreFound key value (setting ∷ more) target d = (get (key setting) d ≡ Some (value_tree (value setting target)))
     × AreFound key value more target d
 
--- a line has no attribute that is outside the limits, or there was no memory
+-- The description error for an attribute error: invalid if the attribute is outside the limits, or out of memory.
 abbrev pub description_error : AttributeError → DescriptionError
 description_error (refusal.LimitError limit) = Invalid
 description_error refusal.OutOfMemory = OutOfMemory

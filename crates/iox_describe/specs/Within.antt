@@ -1,5 +1,5 @@
--- What a description may be: texts, types and attributes within their limits, numbers of 64 bits, and
--- the settings' numbers within those of the pattern.
+-- The limits of a description: texts, types and attributes are within their limits, numbers have 64 bits, and the settings' numbers are
+-- within the limits of the pattern.
 use Rattle.std.specs.Prelude.{◌≡◌, ℕ, ◌<◌, ◌^◌, List, [], ◌∷◌, length, slice_index, Option, IfSome}
 use Rattle.iox_describe_verdict.specs.DescribeBase.declared.hash.ServiceHash.{ServiceHash}
 use Rattle.iox_describe_verdict.specs.DescribeBase.declared.message_type.MessageTypeDetails.{MessageTypeDetails}
@@ -16,58 +16,58 @@ use Rattle.iox_describe_verdict.specs.DescribeBase.Attributes.{AreAttributes}
 use Rattle.iox_describe_verdict.specs.DescribeBase.Detail.{Detail, IsDetail}
 use Rattle.iox_describe_verdict.specs.DescribeBase.Limits.{IsText}
 
--- a number of 64 bits
+-- The number has 64 bits.
 abbrev pub IsNumber : ℕ → Type 0
 IsNumber n = n < 2 ^ 64
 
--- nothing, or a number of 64 bits
+-- There is no number, or it has 64 bits.
 abbrev pub IsOption : Option ℕ → Type 0
 IsOption o = IfSome o IsNumber
 
--- the detail of a type
+-- The detail of a type is valid, with 64-bit numbers.
 pub record IsTypeDetail (d : Detail) : Type 0 where
   pub detail : IsDetail d
   pub size : IsNumber d.size
   pub alignment : IsNumber d.alignment
 
--- the types of a message
+-- Each of the three types of a message is valid.
 pub record AreTypes (t : MessageTypeDetails) : Type 0 where
   pub header : IsTypeDetail t.header
   pub payload : IsTypeDetail t.payload
   pub user_header : IsTypeDetail t.user_header
 
--- what a setting may be set to
+-- The value of a setting is valid.
 abbrev pub IsValue : SettingValue → Type 0
 IsValue (Switch b) = Unit {0}
 IsValue (Number n) = IsNumber n
 IsValue (OptionalNumber o) = IsOption o
 IsValue (Types t) = AreTypes t
 
--- each setting of a list is set to such a value
+-- Each setting of a list has a valid value.
 abbrev pub AreValues : {S C : Type 0} → (S → C → SettingValue) → C → List S → Type 0
 AreValues value config [] = Unit {0}
 AreValues value config (setting ∷ more) = IsValue (value setting config) × AreValues value config more
 
--- the settings of any pattern
+-- The settings of any pattern have valid values.
 abbrev pub AreSettings : Settings → Type 0
 AreSettings (RequestResponse c) = AreValues request_response.value c request_response.all
 AreSettings (PublishSubscribe c) = AreValues publish_subscribe.value c publish_subscribe.all
 AreSettings (Event c) = AreValues event.value c event.all
 
--- the twenty bytes of a hash
+-- The hash has twenty bytes.
 pub record IsHash (h : ServiceHash) : Type 0 where
   pub whole : length h.digest ≡ 20
   pub bytes : (place : ℕ) → slice_index h.digest place < 256
 
--- What every description has, whatever the numbers of its settings: texts and attributes within their limits, a whole
--- hash, numbers of 64 bits.
+-- What every description has, whatever the numbers in its settings are: texts and attributes within their limits, a hash of twenty bytes,
+-- and 64-bit numbers.
 pub record HasForm (a : Agreement) : Type 0 where
   pub name : IsText 1 255 a.name
   pub service_hash : IsHash a.service_hash
   pub settings : AreSettings a.settings
   pub attributes : AreAttributes a.attributes
 
--- an agreement that a description may spell
+-- The agreement is one that a description can encode: every part is within its limits.
 pub record IsWithinLimits (a : Agreement) : Type 0 where
   pub name : IsText 1 255 a.name
   pub service_hash : IsHash a.service_hash

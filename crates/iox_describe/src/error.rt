@@ -1,4 +1,4 @@
-//! Why a line was not read, or not written in version 1.
+//! The error of reading and writing a description.
 ghost use Rattle.std.specs.Prelude.{◌≡◌};
 ghost use Rattle.iox_describe.specs.declared.error.DescriptionError.TheVariants.{OutOfMemory};
 
@@ -6,16 +6,16 @@ use iox_describe_base::AttributeError;
 use serde_json::Error;
 use std::alloc::AllocError;
 
-/// Why bytes are not read as a description, or a description not written in version 1.
+/// Why bytes can't be read as a description, or a description can't be written in version 1.
 #[derive(Clone, Copy, Debug, PartialEq, Eq, thiserror::Error)]
 pub enum DescriptionError {
-    /// The bytes are not the one spelling of any description within the limits.
+    /// The bytes aren't the encoding of any description within the limits.
     #[error("DescriptionError::Invalid")]
     Invalid,
-    /// The messages have sequence numbers, which no line of version 1 can say.
+    /// The service numbers its messages, which a line of version 1 can't state.
     #[error("DescriptionError::NotInVersion1")]
     NotInVersion1,
-    /// There was no memory.
+    /// Memory ran out.
     #[error("DescriptionError::OutOfMemory")]
     OutOfMemory,
 }

@@ -1,14 +1,14 @@
-//! The description of a service as one line of exact JSON, of version 2 or 1, and all that a description speaks of.
+//! The description of a service as one line of JSON, in version 2 or 1, and all types that a description uses.
 //!
 //! | Module | What it has |
 //! |---|---|
-//! | `writer` | a description as its one line of a version |
-//! | `reader` | the description of a line, if the line is spelled as `encode` or `encode_v1` spells it |
-//! | `error` | why a line was not read, or not written in version 1 |
-//! | `json_values` | looking into a JSON value by key |
+//! | `writer` | encodes a description as one line of a version |
+//! | `reader` | decodes the description of a line, if `encode` or `encode_v1` could have written the line |
+//! | `error` | why a line can't be read, or a description can't be written in version 1 |
+//! | `json_values` | access to the members of a JSON value by key |
 //!
-//! Names, types and attributes are in `iox_describe_base`, settings and the description in `iox_describe_settings`,
-//! what an opener requires of one in `iox_describe_verdict`; their items are named again here.
+//! Names, types and attributes are in `iox_describe_base`, settings and the description in `iox_describe_settings`, and what an opener
+//! requires in `iox_describe_verdict`. Their items are re-exported here.
 //!
 //! A first call:
 //!

@@ -1,4 +1,4 @@
-//! The description that a line spells.
+//! Decodes the description of a line.
 ghost use Rattle.std.specs.Prelude.{◌≡◌, ◌⊎◌, ◌↔◌, ◌<◌, ◌++◌, ◌∷◌, [], List, ℕ, length, Ok, Err, Some, IfOk, IfSome, IsSomeAnd, IsTrue};
 ghost use Rattle.std.specs.Prelude.{MatchResult};
 ghost use Rattle.serde_json.specs.Find.{get};
@@ -38,13 +38,13 @@ use iox_describe_settings::{
 use serde_json::Value;
 use std::alloc::Global;
 
-/// No line of a description within the limits is longer, in bytes.
+/// The maximum length of a line, in bytes, for a description within the limits.
 const MAX_LINE_LENGTH: usize = 32_768;
 
-/// The description that the bytes spell.
+/// Decodes the description that the bytes encode.
 ///
-/// It is the one within the limits for which `encode` or `encode_v1` writes just these bytes. `Invalid` exactly if there
-/// is none, and so wherever there are more than 32,768 bytes. `OutOfMemory` where there was no memory.
+/// The result is the description within the limits for which `encode` or `encode_v1` writes exactly these bytes. It is `Invalid` exactly if
+/// there is none, so always for more than 32,768 bytes. It is `OutOfMemory` only if memory ran out.
 pub fn decode(alloc: Global, bytes: &[u8]) -> Result<Description, DescriptionError>
     ensures spelled { IfOk result (Spells bytes.now) }
     ensures within { IfOk result (λ description. IsWithinLimits description) }
@@ -73,7 +73,7 @@ pub fn decode(alloc: Global, bytes: &[u8]) -> Result<Description, DescriptionErr
 
 /// Whether a description is within the limits, so that `decode` reads what `encode` writes for it.
 ///
-/// The texts, types and attributes of a description always are; the numbers of its settings may not be.
+/// The texts, types and attributes of a description always are within the limits, but the numbers in its settings may not be.
 pub fn is_within_limits(description: &Description) -> bool
     ensures { IsTrue result ↔ IsWithinLimits description.now }
 {
@@ -81,10 +81,10 @@ pub fn is_within_limits(description: &Description) -> bool
     description.is_within_limits()
 }
 
-/// Every description has texts and attributes within their limits, a hash of 20 bytes, and settings of 64 bits. It does
-/// nothing: a proof cites by it what holds of a description.
+/// Every description has texts and attributes within their limits, a hash of 20 bytes, and 64-bit numbers in its settings. This function
+/// does nothing; a proof calls it to use this fact about a description.
 ///
-/// This port's own.
+/// Not in `iceoryx2`.
 pub fn has_form(description: &Description)
     ensures { HasForm description.now }
 {
@@ -94,7 +94,7 @@ pub fn has_form(description: &Description)
     has_20_bytes(*description.service_hash());
 }
 
-/// All numbers of settings have 64 bits, and their types are types.
+/// All numbers in the settings have 64 bits, and their types are valid.
 fn have_64_bits(settings: Settings)
     ensures { AreSettings settings }
 {
@@ -108,7 +108,7 @@ fn has_20_bytes(hash: ServiceHash)
     let _hash = hash;
 }
 
-/// The bytes as JSON, if they are the line of a description.
+/// Parses the bytes as JSON, if they are the line of a description.
 fn value_of(alloc: Global, bytes: &[u8]) -> Result<Value, DescriptionError>
     ensures read { (version : Version) (description : Agreement) → IsWithinLimits description → bytes.now ≡ line version description
         → MatchResult result (λ value. view value ≡ tree version description) (λ error. error ≡ OutOfMemory) }
@@ -117,7 +117,7 @@ fn value_of(alloc: Global, bytes: &[u8]) -> Result<Value, DescriptionError>
     Ok(Value::from_slice(alloc, bytes)?)
 }
 
-/// The version that the JSON states; the second, where it states none.
+/// The version that the JSON states; version 2 if it states none.
 fn version_of(value: &Value) -> Version
     ensures { (version : Version) (description : Agreement) → view value.now ≡ tree version description → result ≡ version }
 {
@@ -127,7 +127,7 @@ fn version_of(value: &Value) -> Version
     }
 }
 
-/// The attributes of the one description whose JSON this may be.
+/// The attributes of the description that this JSON encodes, if it encodes one.
 fn attributes_of(alloc: Global, value: &Value) -> Result<AttributeSpecifier, DescriptionError>
     ensures read { (version : Version) (description : Agreement) → IsWithinLimits description → view value.now ≡ tree version description
         → MatchResult result (λ attributes. attributes ≡ description.attributes) (λ error. error ≡ OutOfMemory) }
@@ -139,7 +139,7 @@ fn attributes_of(alloc: Global, value: &Value) -> Result<AttributeSpecifier, Des
     }
 }
 
-/// The one description of these attributes whose JSON of the version this may be.
+/// The description with these attributes that this JSON of the version encodes, if it encodes one.
 fn candidate(attributes: AttributeSpecifier, version: Version, value: &Value) -> Option<Description>
     ensures { (description : Agreement) → IsWithinLimits description → HasAll version description.settings
         → attributes ≡ description.attributes → view value.now ≡ tree version description
@@ -152,7 +152,7 @@ fn candidate(attributes: AttributeSpecifier, version: Version, value: &Value) ->
     Some(Description::of_parts(name, hash, settings, attributes))
 }
 
-/// The pattern that a word names.
+/// The pattern with this word.
 fn pattern_of(word: &str) -> MessagingPattern
     ensures { (settings : Settings) → word.now ≡ pattern_word (pattern_of settings) → result ≡ pattern_of settings }
 {
@@ -163,7 +163,7 @@ fn pattern_of(word: &str) -> MessagingPattern
     }
 }
 
-/// The hash that digits write.
+/// The hash with this text.
 fn hash_of(digits: &str) -> ServiceHash
     ensures { (hash : ServiceHash) → IsHash hash → digits.now ≡ hash_text hash → result ≡ hash }
 {
@@ -172,7 +172,7 @@ fn hash_of(digits: &str) -> ServiceHash
     ServiceHash { digest }
 }
 
-/// The attributes of a list, defined in their order.
+/// The attributes of a list, in their order.
 fn defined(alloc: Global, value: &Value) -> Result<AttributeSpecifier, DescriptionError>
     ensures read { (pairs : List Attribute) → AreAttributes pairs → view value.now ≡ attributes_tree pairs
         → MatchResult result (λ attributes. attributes ≡ pairs) (λ error. error ≡ OutOfMemory) }
@@ -188,7 +188,7 @@ fn defined(alloc: Global, value: &Value) -> Result<AttributeSpecifier, Descripti
     Ok(attributes)
 }
 
-/// Defines an attribute.
+/// Defines the attribute that this JSON encodes.
 fn define(
     alloc: Global,
     attributes: &mut AttributeSpecifier,
@@ -205,7 +205,7 @@ fn define(
     Ok(())
 }
 
-/// The text at a place of a list.
+/// The text at this index of a list.
 fn text_of(value: &Value, place: usize) -> Option<&str>
     ensures first { (pair : Attribute) → view value.now ≡ attribute_tree pair → place ≡ 0 → IsSomeAnd result (λ text. text.now ≡ pair.key) }
     ensures second { (pair : Attribute) → view value.now ≡ attribute_tree pair → place ≡ 1
@@ -214,7 +214,7 @@ fn text_of(value: &Value, place: usize) -> Option<&str>
     value.get(place)?.as_str()
 }
 
-/// The settings of a service of the pattern. What a line of the version can't say is as by default.
+/// The settings of a service of the pattern. A setting that a line of the version can't state has its default.
 fn settings_of(pattern: MessagingPattern, version: Version, value: &Value) -> Option<Settings>
     ensures { (settings : Settings) → AreSettings settings → HasAll version settings → pattern ≡ pattern_of settings
         → view value.now ≡ settings_tree version settings
@@ -237,7 +237,7 @@ fn settings_of(pattern: MessagingPattern, version: Version, value: &Value) -> Op
     }
 }
 
-/// The settings of a publish-subscribe service. What a line of the version can't say is as by default.
+/// The settings of a publish-subscribe service. A setting that a line of the version can't state has its default.
 fn publish_subscribe_of(version: Version, value: &Value) -> Option<publish_subscribe::StaticConfig>
     ensures { (target : StaticConfig) → AreSettings (PublishSubscribe target) → HasAll version (PublishSubscribe target)
         → view value.now ≡ settings_tree version (PublishSubscribe target)
@@ -247,12 +247,12 @@ fn publish_subscribe_of(version: Version, value: &Value) -> Option<publish_subsc
     filled(publish_subscribe::Setting::written(version), config, value)
 }
 
-/// Types that stand in a place until those of a message are read.
+/// Placeholder types, used until the types of the messages are read.
 fn some_types() -> MessageTypeDetails {
     MessageTypeDetails::from::<u8, u8, u8>(TypeVariant::FixedSize)
 }
 
-/// All settings of a service of a pattern, in the place of those that are given.
+/// The configuration after all settings of a pattern are read from the JSON.
 fn all_filled<S: PatternSetting>(config: S::Config, value: &Value) -> Option<S::Config>
     ensures { (target : S.Config) → AreValues S.value target S.all → AreFound S.key S.value S.all target (view value.now)
         → result ≡ Some target }
@@ -260,7 +260,7 @@ fn all_filled<S: PatternSetting>(config: S::Config, value: &Value) -> Option<S::
     filled::<S>(S::all(), config, value)
 }
 
-/// These settings of a service of a pattern, in the place of those that are given.
+/// The configuration after these settings are read from the JSON.
 fn filled<S: PatternSetting>(settings: &[S], config: S::Config, value: &Value) -> Option<S::Config>
     ensures { (target : S.Config) → AreValues S.value target settings.now → AreFound S.key S.value settings.now target (view value.now)
         → result ≡ Some (filled S.value S.changed settings.now target config) }
@@ -272,7 +272,7 @@ fn filled<S: PatternSetting>(settings: &[S], config: S::Config, value: &Value) -
     Some(config)
 }
 
-/// Sets a setting to what it is in the JSON.
+/// Changes a setting to its value in the JSON.
 fn set<S: PatternSetting>(setting: S, config: &mut S::Config, value: &Value) -> Option<()>
     ensures { (target : S.Config) → IsValue (S.value setting target)
         → get (S.key setting) (view value.now) ≡ Some (value_tree (S.value setting target))
@@ -283,7 +283,7 @@ fn set<S: PatternSetting>(setting: S, config: &mut S::Config, value: &Value) -> 
     Some(())
 }
 
-/// What a setting with this rule is set to.
+/// The value of a setting with this rule.
 fn setting_value(rule: Rule, value: &Value) -> Option<SettingValue>
     ensures read { (setting : SettingValue) → IsOfKind rule setting → IsValue setting → view value.now ≡ value_tree setting
         → result ≡ Some setting }

@@ -1,4 +1,4 @@
-//! A description as its one line.
+//! Encodes a description as one line.
 ghost use Rattle.std.specs.Prelude.{◌≡◌, ◌↔◌, ◌⊎◌, map, List, ℕ, IfOk, IsTrue, MatchResult, OnOk};
 ghost use Rattle.iox_describe.specs.declared.error.DescriptionError.TheVariants.{NotInVersion1, OutOfMemory};
 ghost use Rattle.iox_describe_verdict.specs.DescribeSettings.Versions.{HasAll};
@@ -19,18 +19,18 @@ use iox_describe_settings::{
 use serde_json::{Map, Value, json};
 use std::alloc::{AllocError, Global};
 
-/// The line of version 2 that spells a description: compact JSON whose keys stand in rising order of their
-/// bytes. Refused only where an allocation fails.
+/// Encodes a description as its line of version 2: compact JSON whose keys are in rising order of their bytes. It fails only where an
+/// allocation fails.
 pub fn encode(alloc: Global, description: &Description) -> Result<Vec<u8>, AllocError>
     ensures { IfOk result (λ text. text.items ≡ line Two description.now) }
 {
     encode_as(alloc, Version::Two, description)
 }
 
-/// The line of version 1 that spells a description, for readers that know no other. `NotInVersion1` exactly if its messages have
-/// sequence numbers, whatever memory there is; `OutOfMemory` where an allocation fails.
+/// Encodes a description as its line of version 1, for readers that don't know version 2. Refused with `NotInVersion1` exactly if the
+/// service numbers its messages, whatever memory there is, and with `OutOfMemory` only where an allocation fails.
 ///
-/// This port's own.
+/// Not in `iceoryx2`.
 pub fn encode_v1(alloc: Global, description: &Description) -> Result<Vec<u8>, DescriptionError>
     ensures text { IfOk result (λ text. (text.items ≡ line One description.now) × HasAll One description.now.settings) }
     ensures refused { MatchResult result (λ text. Unit {0}) (λ error. (error ≡ OutOfMemory) × HasAll One description.now.settings
@@ -42,9 +42,9 @@ pub fn encode_v1(alloc: Global, description: &Description) -> Result<Vec<u8>, De
     Ok(encode_as(alloc, Version::One, description)?)
 }
 
-/// Whether a line of the version has all that is agreed.
+/// Whether a line of the version can state all of these settings.
 ///
-/// This port's own.
+/// Not in `iceoryx2`.
 pub fn has_all(version: Version, settings: &Settings) -> bool
     ensures { IsTrue result ↔ HasAll version settings.now }
 {
@@ -54,9 +54,9 @@ pub fn has_all(version: Version, settings: &Settings) -> bool
     }
 }
 
-/// The line of a version that has all that is agreed. Refused only where an allocation fails.
+/// Encodes a description as its line of a version that can state all of its settings. It fails only where an allocation fails.
 ///
-/// This port's own.
+/// Not in `iceoryx2`.
 pub fn encode_as(
     alloc: Global,
     version: Version,
@@ -135,7 +135,7 @@ fn settings(alloc: Global, version: Version, settings: &Settings) -> Result<Valu
     }
 }
 
-/// These settings of a service of a pattern as JSON.
+/// These settings of a pattern as a JSON object.
 fn object<S: PatternSetting>(
     alloc: Global,
     settings: &[S],
@@ -165,7 +165,7 @@ fn put(
     Ok(())
 }
 
-/// What a setting is set to, as JSON.
+/// The value of a setting as JSON.
 fn setting_value(alloc: Global, value: &SettingValue) -> Result<Value, AllocError>
     ensures { IfOk result (λ json. view json ≡ value_tree value.now) }
 {

@@ -6,20 +6,20 @@ use Rattle.iox_describe_base.specs.declared.type_detail.TypeVariant.TheVariants.
 use Rattle.iox_describe_base.specs.declared.message_type.MessageTypeDetails.{MessageTypeDetails}
 use Rattle.iox_describe_base.specs.Detail.{Detail}
 
--- whether two variants are one
+-- Whether two variants are equal.
 abbrev pub same_variant : TypeVariant → TypeVariant → Bool
 same_variant FixedSize FixedSize = true
 same_variant FixedSize Dynamic = false
 same_variant Dynamic FixedSize = false
 same_variant Dynamic Dynamic = true
 
--- whether two details are one
+-- Whether two details are equal.
 abbrev pub same_detail : Detail → Detail → Bool
 same_detail a b = same_variant a.variant b.variant
     && (pointwise nat_eq a.name b.name && ((a.size == b.size) && (a.alignment == b.alignment)))
 
--- whether what is asked fits what is given: all is equal, but for the payload's alignment, of which
--- at most the given one is asked
+-- Whether the asked types are compatible with the given ones: all parts are equal, except that the asked alignment of the payload may be
+-- smaller.
 abbrev pub is_compatible : MessageTypeDetails → MessageTypeDetails → Bool
 is_compatible asked given =
     same_detail asked.header given.header
@@ -29,7 +29,7 @@ is_compatible asked given =
     && (asked.payload.size == given.payload.size)
     && nat_le asked.payload.alignment given.payload.alignment
 
--- the same in words: what is equal, and what is at most
+-- Equivalently: each part is equal, and the asked alignment of the payload is at most the given one.
 pub record IsCompatible (asked given : MessageTypeDetails) : Type 0 where
   pub header : asked.header ≡ given.header
   pub user_header : asked.user_header ≡ given.user_header

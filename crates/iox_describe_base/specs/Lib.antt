@@ -1,4 +1,4 @@
--- The definitions that contracts about names, types and attributes cite.
+-- The definitions that the contracts of names, types and attributes use.
 pub mod Limits
 pub mod Detail
 pub mod Compatible

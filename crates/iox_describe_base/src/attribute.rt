@@ -1,4 +1,4 @@
-//! Attributes: pairs of texts that tell services of one name apart.
+//! Attributes: pairs of a key and a value that distinguish services with the same name.
 ghost use Rattle.std.specs.Prelude.{◌≡◌, ◌<◌, ◌↔◌, [], ◌∷◌, ◌++◌, length, IsOk, IfOk, OnOk, OnErr, IsTrue};
 ghost use Rattle.iox_describe_base.specs.Limits.{IsText};
 ghost use Rattle.iox_describe_base.specs.Attributes.{IsAttribute};
@@ -29,13 +29,13 @@ pub struct Attribute {
     pub value: AttributeValue,
 }
 
-/// Why a pair is not defined or required, or a key not required.
+/// Why a pair or a key is refused when an attribute is defined or required.
 #[derive(Clone, Copy, Debug, PartialEq, Eq, Error)]
 pub enum AttributeError {
-    /// It is outside the limits, or there are eight already.
-    #[error("{0}")]
+    /// The key or the value is outside the limits, or there are eight already.
+    #[error("AttributeError::LimitError({0:?})")]
     LimitError(LimitError),
-    /// There was no memory.
+    /// Memory ran out.
     #[error("AttributeError::OutOfMemory")]
     OutOfMemory,
 }
@@ -60,9 +60,8 @@ impl From<AllocError> for AttributeError {
     }
 }
 
-/// The attributes that a service is created with, in the order in which they were defined; at most 8.
-/// The same key, and the same pair, may stand several times.
-/// Contracts see it as the list of its pairs.
+/// The attributes that a service is created with, in the order in which they were defined; at most 8. The same key, and the same pair, may
+/// occur several times. Contracts see it as the list of its pairs.
 ///
 /// Ported from `iceoryx2::service::attribute::AttributeSpecifier`.
 #[derive(Debug)]
@@ -70,7 +69,7 @@ pub struct AttributeSpecifier {
     pairs: Few<Attribute>,
 }
 
-/// Said here once, so that no crate above proves it anew.
+/// Stated once here, so that crates above don't have to prove it again.
 impl Drop for AttributeSpecifier {
     fn drop(self) {
         let AttributeSpecifier { pairs: _ } = self;
@@ -92,18 +91,18 @@ impl Model for AttributeSpecifier {
 impl AttributeSpecifier {
     ghost use Rattle.iox_describe_base.specs.Attributes.{AreAttributes, attribute, AnswersOneMore};
 
-    /// No attributes. They take no memory.
+    /// No attributes. It doesn't allocate.
     pub fn new() -> Self
         ensures { result ≡ [] }
     {
         AttributeSpecifier { pairs: Few::new() }
     }
 
-    /// Appends a pair. The first one takes the room for all that may be defined.
+    /// Appends a pair. The first pair allocates the memory for all eight.
     ///
-    /// Refused, and nothing changes, with `LimitError::OutsideLimits` if there are 8 pairs, if the key has no bytes or more
-    /// than 64, the value more than 256, or if a byte of either lies outside 1..=127; else with `OutOfMemory` if it is the
-    /// first pair and an allocation fails.
+    /// Refused, and nothing changes, with `LimitError::OutsideLimits` if there are 8 pairs already, if the key has no bytes or more than
+    /// 64, if the value has more than 256, or if a byte of either lies outside 1..=127; else with `OutOfMemory` if it is the first pair and
+    /// an allocation fails.
     pub fn define(&mut self, alloc: Global, key: &[u8], value: &[u8]) -> Result<(), AttributeError>
         ensures answer { AnswersOneMore ((length self.old < 8) × IsText 1 64 key.now × IsText 0 256 value.now) (self.old ≡ []) result }
         ensures ok { OnOk result (self.new ≡ self.old ++ attribute key.now value.now ∷ []) }
@@ -117,7 +116,7 @@ impl AttributeSpecifier {
         Ok(())
     }
 
-    /// The same attributes, in memory of their own. Refused only where an allocation fails; for no attributes there is none.
+    /// A copy of the attributes in memory of its own. It fails only where an allocation fails, and never for no attributes.
     pub fn try_clone(&self, alloc: Global) -> Result<Self, AllocError>
         ensures same { IfOk result (λ attributes. attributes ≡ self.now) }
         ensures empty { self.now ≡ [] → IsOk result }

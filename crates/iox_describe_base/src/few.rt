@@ -1,12 +1,11 @@
-//! A list of at most eight values that takes no memory while it is empty.
+//! A list of at most eight values that doesn't allocate while it is empty.
 ghost use Rattle.std.specs.Prelude.{◌≡◌, ◌<◌, ◌≤◌, [], ◌∷◌, ◌++◌, length, IsOk, IfOk, OnOk, OnErr};
 
 use crate::limits::MAX_ATTRIBUTES;
 use std::alloc::{AllocError, Global};
 use std::marker::Model;
 
-/// At most eight values. The room for all of them is taken with the first.
-/// Contracts see it as the list of its values.
+/// A list of at most eight values. The first value allocates the memory for all of them. Contracts see it as the list of its values.
 #[derive(Debug, Drop)]
 pub(crate) struct Few<T: Copy> {
     room: Option<Vec<T>>,
@@ -24,7 +23,7 @@ impl<T: Copy> Model for Few<T> {
 }
 
 impl<T: Copy> Few<T> {
-    /// No values, in no memory.
+    /// An empty list, which has no memory yet.
     pub(crate) fn new() -> Self
         ensures { result ≡ [] }
     {
@@ -42,7 +41,7 @@ impl<T: Copy> Few<T> {
         }
     }
 
-    /// Appends a value. Refused only where an allocation fails; the first value alone makes one.
+    /// Appends a value. It fails only where an allocation fails; only the first value allocates.
     pub(crate) fn push(&mut self, alloc: Global, value: T) -> Result<(), AllocError>
         requires { length self.old < 8 }
         ensures ok { OnOk result (self.new ≡ self.old ++ value ∷ []) }
@@ -58,7 +57,7 @@ impl<T: Copy> Few<T> {
         Ok(())
     }
 
-    /// The same values, in memory of their own, which no values take none of. Refused only where an allocation fails.
+    /// A copy of the list in memory of its own. It fails only where an allocation fails, and never for an empty list.
     pub(crate) fn try_clone(&self, alloc: Global) -> Result<Self, AllocError>
         ensures same { IfOk result (λ copy. copy ≡ self.now) }
         ensures empty { self.now ≡ [] → IsOk result }

@@ -1,4 +1,4 @@
-//! The hash under which a service is found.
+//! The hash that identifies a service.
 ghost use Rattle.std.specs.Prelude.{◌≡◌};
 ghost use Rattle.iox_describe_base.specs.Hash.{hash_text, service_hash_of, service_hash_text, digit_of};
 
@@ -42,7 +42,7 @@ pub fn service_hash(pattern: MessagingPattern, name: &ServiceName) -> ServiceHas
     }
 }
 
-/// The digit that stands before the name.
+/// The ASCII digit of a pattern, which is hashed before the name.
 fn pattern_digit(pattern: MessagingPattern) -> &'static [u8]
     ensures { result.now ≡ digit_of pattern }
 {

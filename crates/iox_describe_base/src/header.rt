@@ -1,30 +1,30 @@
-//! The header that a service writes to each message.
+//! The header that a service writes in front of each message.
 ghost use Rattle.std.specs.Prelude.{◌≡◌};
 
-/// Who sent a message, how many elements it has, and its number.
+/// The sender of a message, the number of its elements, and its sequence number.
 ///
 /// Ported from `iceoryx2::service::header::publish_subscribe::Header`; the ids are plain numbers here.
 #[derive(Clone, Copy, Debug, PartialEq, Eq)]
 pub struct Header {
-    /// The node of the publisher.
+    /// The id of the publisher's node.
     pub node_id: u64,
-    /// The publisher.
+    /// The id of the publisher.
     pub publisher_id: u64,
     /// How many elements the payload has; 1 for a single value.
     pub number_of_elements: u64,
-    /// The number that its send gave it; None for a loan, and where the service doesn't number its messages.
+    /// The sequence number that its send gave the message; `None` for a loan, and if the service doesn't number its messages.
     pub sequence: Option<u64>,
 }
 
 impl Header {
-    /// The node of the publisher.
+    /// The id of the publisher's node.
     pub fn node_id(&self) -> u64
         ensures { result ≡ self.now.node_id }
     {
         self.node_id
     }
 
-    /// The publisher.
+    /// The id of the publisher.
     pub fn publisher_id(&self) -> u64
         ensures { result ≡ self.now.publisher_id }
     {
@@ -38,9 +38,9 @@ impl Header {
         self.number_of_elements
     }
 
-    /// The number that its send gave it; None for a loan, and where the service doesn't number its messages.
+    /// The sequence number that its send gave the message; `None` for a loan, and if the service doesn't number its messages.
     ///
-    /// This port's own: an iceoryx2 message has no number.
+    /// Not in `iceoryx2`: an iceoryx2 message has no number.
     pub fn sequence(&self) -> Option<u64>
         ensures { result ≡ self.now.sequence }
     {

@@ -1,15 +1,16 @@
-//! What a description speaks of, below its settings: names, types and attributes.
+//! The parts of a service's description below its settings: names, types and attributes.
 //!
 //! | Module | What it has |
 //! |---|---|
-//! | `limits` | how long texts may be, how large numbers, and the refusal of what is past them |
-//! | `name`, `pattern` | what a service is called, and how its ports talk |
-//! | `hash` | under which hash a service is found |
-//! | `type_detail`, `message_type`, `zero_copy_send` | how a type lies in memory, the types of a message, the types that know theirs |
-//! | `header` | what a service writes before each message |
-//! | `few` | a list that takes no memory while it is empty |
+//! | `limits` | the limits of texts and numbers, and the error of what exceeds them |
+//! | `name`, `pattern` | the name of a service, and its messaging pattern |
+//! | `hash` | the hash that identifies a service |
+//! | `type_detail`, `message_type`, `zero_copy_send` | the memory layout of a type, the types of a message, and the types that know their
+//! layout |
+//! | `header` | the header that a service writes in front of each message |
+//! | `few` | a list that doesn't allocate while it is empty |
 //! | `attribute`, `verifier` | attributes, and what an opener requires of them |
-//! | `laws` | what holds of compatibility |
+//! | `laws` | theorems about compatibility |
 //!
 //! A first call:
 //!

@@ -22,7 +22,7 @@ impl MessageTypeDetails {
     ghost use Rattle.iox_describe_base.specs.Detail.{detail};
     ghost use Rattle.iox_describe_base.specs.declared.type_detail.TypeVariant.TheVariants.{FixedSize};
 
-    /// The types of messages with this header, user header and payload.
+    /// The types of messages with this header, user header and payload. The variant applies to the payload; both headers are single values.
     pub fn from<H: ZeroCopySend, U: ZeroCopySend, P: ZeroCopySend>(
         payload_variant: TypeVariant,
     ) -> Self
@@ -37,9 +37,8 @@ impl MessageTypeDetails {
         }
     }
 
-    /// Whether a port that asks for these types can use a service that has the types of `given`: the
-    /// headers, the user headers, and the payloads' variants, names and sizes are equal, and the
-    /// payload's alignment here is at most the given one.
+    /// Whether a port that asks for these types can use a service that has the types `given`: the headers and the user headers are equal,
+    /// the payloads' variants, names and sizes are equal, and the alignment of this payload is at most the given one.
     pub fn is_compatible_to(&self, given: &Self) -> bool
         ensures { result ≡ is_compatible self.now given.now }
     {

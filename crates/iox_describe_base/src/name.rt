@@ -31,7 +31,7 @@ impl Model for ServiceName {
 impl ServiceName {
     /// The name with these bytes.
     ///
-    /// Refused with `OutsideLimits` if there are none or more than 255, or if one lies outside 1..=127.
+    /// Refused with `OutsideLimits` if there are no bytes or more than 255, or if a byte lies outside 1..=127.
     pub fn new(bytes: &[u8]) -> Result<Self, LimitError>
         ensures accepted { IsOk result ↔ IsText 1 255 bytes.now }
         ensures value { IfOk result (λ name. name ≡ bytes.now) }
@@ -61,7 +61,7 @@ impl ServiceName {
     }
 }
 
-/// As `new`, of the bytes of the text.
+/// Like `new` with the bytes of the text.
 impl TryFrom<&str> for ServiceName {
     type Error = LimitError;
 
@@ -72,7 +72,7 @@ impl TryFrom<&str> for ServiceName {
     }
 }
 
-/// The name itself.
+/// Shows the name.
 impl fmt::Display for ServiceName {
     ghost output = { λ n. Some n };
 

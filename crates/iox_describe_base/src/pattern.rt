@@ -1,4 +1,4 @@
-//! How the ports of a service talk to each other.
+//! The messaging patterns of services.
 
 /// The messaging pattern of a service.
 ///

@@ -1,4 +1,4 @@
-//! How a type lies in memory, as both ends of a connection must know it.
+//! The memory layout of a type, on which both ends of a connection must agree.
 ghost use Rattle.std.specs.Prelude.{◌≡◌, ◌≤◌, ◌↔◌, IsOk, IfOk};
 ghost use Rattle.iox_describe_base.specs.Limits.{IsText};
 
@@ -6,19 +6,19 @@ use crate::limits::{LimitError, MAX_TYPE_NAME_LENGTH};
 use iox_container::string::{StaticString, String as _};
 use std::marker::Model;
 
-/// Whether a value of a type is one element or a slice of them.
+/// Whether a message holds a single value of a type or a slice.
 ///
 /// Ported from `iceoryx2::service::static_config::message_type_details::TypeVariant`.
 #[derive(Clone, Copy, Debug, PartialEq, Eq, Hash)]
 pub enum TypeVariant {
-    /// One element.
+    /// A single value.
     FixedSize,
-    /// A slice, whose length each message has of its own.
+    /// A slice, whose length can differ from message to message.
     Dynamic,
 }
 
-/// The name, size and alignment of a type, in bytes, and whether messages hold one value or a slice.
-/// Contracts see it as the record `Detail` of these four.
+/// The name, size and alignment of a type, in bytes, and whether messages hold a single value or a slice. Contracts see it as the record
+/// `Detail` of these four.
 ///
 /// Ported from `iceoryx2::service::static_config::message_type_details::TypeDetail`.
 #[derive(Clone, Copy, Debug, PartialEq, Eq)]
@@ -44,10 +44,9 @@ impl Model for TypeDetail {
 impl TypeDetail {
     ghost use Rattle.iox_describe_base.specs.Detail.{detail, IsDetail};
 
-    /// The detail of a type of this name, size and alignment.
+    /// The detail of a type with this name, size and alignment.
     ///
-    /// Refused with `OutsideLimits` if the name has no bytes, more than 255, or one outside 1..=127,
-    /// or if the alignment is 0.
+    /// Refused with `OutsideLimits` if the name has no bytes, more than 255, or a byte outside 1..=127, or if the alignment is 0.
     pub fn new(
         variant: TypeVariant,
         name: &[u8],
@@ -71,7 +70,7 @@ impl TypeDetail {
         }
     }
 
-    /// The detail of a type whose name is known to be within the limits, as that of a type that says its own.
+    /// The detail of a type whose name is known to be within the limits, for example of a type that states its own detail.
     pub fn known(variant: TypeVariant, name: &[u8], size: u64, alignment: u64) -> Self
         requires name { IsText 1 255 name.now }
         requires alignment { 1 ≤ alignment }
@@ -85,7 +84,7 @@ impl TypeDetail {
         }
     }
 
-    /// Whether messages hold one value of the type or a slice.
+    /// Whether messages hold a single value of the type or a slice.
     pub fn variant(&self) -> TypeVariant
         ensures { result ≡ self.now.variant }
     {

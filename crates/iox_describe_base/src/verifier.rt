@@ -9,8 +9,8 @@ use crate::limits::{LimitError, MAX_ATTRIBUTES};
 use std::alloc::{AllocError, Global};
 use std::marker::Model;
 
-/// The pairs that a service must have, and the keys for which it must have some pair; at most 8 each.
-/// Contracts see it as the record `Required` of the two lists.
+/// The pairs that a service must have, and the keys for each of which it must have some pair; at most 8 of each. Contracts see it as the
+/// record `Required` of the two lists.
 ///
 /// Ported from `iceoryx2::service::attribute::AttributeVerifier`.
 #[derive(Debug)]
@@ -19,7 +19,7 @@ pub struct AttributeVerifier {
     keys: Few<AttributeKey>,
 }
 
-/// Said here once, so that no crate above proves it anew.
+/// Stated once here, so that crates above don't have to prove it again.
 impl Drop for AttributeVerifier {
     fn drop(self) {
         let AttributeVerifier { pairs: _, keys: _ } = self;
@@ -39,7 +39,7 @@ impl Model for AttributeVerifier {
 impl AttributeVerifier {
     ghost use Rattle.iox_describe_base.specs.Attributes.{required, attribute, unmet_key, result_of, has_required, AnswersOneMore};
 
-    /// Nothing required. It takes no memory.
+    /// Requires nothing. It doesn't allocate.
     pub fn new() -> Self
         ensures { result ≡ required [] [] }
     {
@@ -49,11 +49,11 @@ impl AttributeVerifier {
         }
     }
 
-    /// Requires a pair. The first one takes the room for all that may be required.
+    /// Requires a pair. The first pair allocates the memory for all eight.
     ///
-    /// Refused, and nothing changes, with `LimitError::OutsideLimits` if 8 pairs are required, if the key has no bytes or
-    /// more than 64, the value more than 256, or if a byte of either lies outside 1..=127; else with `OutOfMemory` if it is
-    /// the first pair and an allocation fails.
+    /// Refused, and nothing changes, with `LimitError::OutsideLimits` if 8 pairs are required already, if the key has no bytes or more than
+    /// 64, if the value has more than 256, or if a byte of either lies outside 1..=127; else with `OutOfMemory` if it is the first pair and
+    /// an allocation fails.
     pub fn require(&mut self, alloc: Global, key: &[u8], value: &[u8]) -> Result<(), AttributeError>
         ensures answer { AnswersOneMore ((length self.old.pairs < 8) × IsText 1 64 key.now
             × IsText 0 256 value.now) (self.old.pairs ≡ []) result }
@@ -63,10 +63,10 @@ impl AttributeVerifier {
         self.pairs.define(alloc, key, value)
     }
 
-    /// Requires that some pair has this key. The first one takes the room for all that may be required.
+    /// Requires that some pair has this key. The first key allocates the memory for all eight.
     ///
-    /// Refused, and nothing changes, with `LimitError::OutsideLimits` if 8 keys are required, if the key has no bytes or
-    /// more than 64, or if one lies outside 1..=127; else with `OutOfMemory` if it is the first key and an allocation fails.
+    /// Refused, and nothing changes, with `LimitError::OutsideLimits` if 8 keys are required already, if the key has no bytes or more than
+    /// 64, or if a byte lies outside 1..=127; else with `OutOfMemory` if it is the first key and an allocation fails.
     pub fn require_key(&mut self, alloc: Global, key: &[u8]) -> Result<(), AttributeError>
         ensures answer { AnswersOneMore ((length self.old.keys < 8) × IsText 1 64 key.now) (self.old.keys ≡ []) result }
         ensures ok { OnOk result (self.new ≡ required self.old.pairs (self.old.keys ++ key.now ∷ [])) }
@@ -80,7 +80,7 @@ impl AttributeVerifier {
         Ok(())
     }
 
-    /// The same requirements, in memory of their own. Refused only where an allocation fails; with nothing required there is none.
+    /// A copy of the requirements in memory of its own. It fails only where an allocation fails, and never if nothing is required.
     pub fn try_clone(&self, alloc: Global) -> Result<Self, AllocError>
         ensures same { IfOk result (λ verifier. verifier ≡ self.now) }
         ensures empty { self.now ≡ required [] [] → IsOk result }
@@ -107,7 +107,7 @@ impl AttributeVerifier {
 
     /// Whether a service with these attributes has what is required.
     ///
-    /// The error is the first key that is not met: of the pairs in their order, then of the keys.
+    /// The error is the first required key that isn't met: of the pairs in their order, then of the keys.
     pub fn verify_requirements(&self, attributes: &AttributeSpecifier) -> Result<(), AttributeKey>
         ensures { result ≡ result_of (unmet_key self.now attributes.now) }
     {
@@ -130,7 +130,7 @@ impl AttributeVerifier {
     }
 }
 
-/// The first pair that is not one of the given ones.
+/// The first pair that is not one of the given pairs.
 fn unmet_pair(pairs: &[Attribute], given: &[Attribute]) -> Option<Attribute>
     ensures { result ≡ unmet_pair pairs.now given.now }
 {
@@ -144,14 +144,14 @@ fn unmet_lone_key(keys: &[AttributeKey], given: &[Attribute]) -> Option<Attribut
     keys.iter().copied().find(|key| !has_key(given, key))
 }
 
-/// Whether the pair is one of these.
+/// Whether the pair is one of these attributes.
 fn has_pair(attributes: &[Attribute], pair: &Attribute) -> bool
     ensures { result ≡ has_pair attributes.now pair.now }
 {
     attributes.iter().any(|attribute| *attribute == *pair)
 }
 
-/// Whether one of these has the key.
+/// Whether one of these attributes has the key.
 fn has_key(attributes: &[Attribute], key: &AttributeKey) -> bool
     ensures { result ≡ has_key attributes.now key.now }
 {

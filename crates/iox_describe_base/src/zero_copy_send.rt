@@ -7,8 +7,8 @@ mod arrays;
 use crate::header::Header;
 use crate::type_detail::{TypeDetail, TypeVariant};
 
-/// A type whose values can lie in the memory of a service: its name, size and alignment are known to
-/// all that share the service.
+/// A type whose values can be stored in the memory of a service, since its name, size and alignment are known to all that share the
+/// service.
 ///
 /// Ported from `iceoryx2_bb_elementary_traits::zero_copy_send::ZeroCopySend`.
 pub trait ZeroCopySend {
@@ -21,7 +21,7 @@ pub trait ZeroCopySend {
     // the alignment of a value, in bytes
     ghost alignment: { ℕ };
 
-    /// The detail of the type, as one value or as a slice: only the variant varies, and it is the one asked.
+    /// The detail of the type with this variant; the name, size and alignment are the same for both variants.
     fn type_detail(variant: TypeVariant) -> TypeDetail
         ensures { result ≡ detail variant name size alignment };
 }

@@ -10,37 +10,37 @@ use Rattle.iox_describe_settings.specs.RequestResponseSettings as request_respon
 use Rattle.iox_describe_settings.specs.PublishSubscribeSettings as publish_subscribe
 use Rattle.iox_describe_settings.specs.EventSettings as event
 
--- name, hash, settings and attributes of a service
+-- What the nodes of a service agree on: its name, hash, settings and attributes.
 pub record Agreement : Type 0 where
   pub name : List ℕ
   pub service_hash : ServiceHash
   pub settings : Settings
   pub attributes : List Attribute
 
--- an agreement, by its parts
+-- An agreement with these parts.
 abbrev pub agreement : List ℕ → ServiceHash → Settings → List Attribute → Agreement
 agreement name service_hash settings attributes =
     record { name = name; service_hash = service_hash; settings = settings; attributes = attributes }
 
--- the pattern that these are the settings of
+-- The messaging pattern of the settings.
 abbrev pub pattern_of : Settings → MessagingPattern
 pattern_of (RequestResponse c) = pattern.RequestResponse
 pattern_of (PublishSubscribe c) = pattern.PublishSubscribe
 pattern_of (Event c) = pattern.Event
 
--- how many nodes may be in the service
+-- The maximum number of nodes of the service.
 abbrev pub max_nodes_of : Settings → ℕ
 max_nodes_of (RequestResponse c) = c.max_nodes
 max_nodes_of (PublishSubscribe c) = c.max_nodes
 max_nodes_of (Event c) = c.max_nodes
 
--- the numbers that a description may have
+-- The numbers in the settings are within the limits of a description.
 abbrev pub AreWithinLimits : Settings → Type 0
 AreWithinLimits (RequestResponse c) = request_response.IsWithinLimits c
 AreWithinLimits (PublishSubscribe c) = publish_subscribe.IsWithinLimits c
 AreWithinLimits (Event c) = event.IsWithinLimits c
 
--- a full buffer holds the publisher up, and has no room for the history: of publish-subscribe alone
+-- The history doesn't fit into a buffer that blocks the publisher when it is full; only publish-subscribe has a history.
 abbrev pub HasNoRoomForHistory : Settings → Type 0
 HasNoRoomForHistory (RequestResponse c) = ⊥
 HasNoRoomForHistory (PublishSubscribe c) = publish_subscribe.IsHistoryTooLong c

@@ -1,4 +1,4 @@
--- The settings of an event service, one by one.
+-- The settings of an event service, as a list.
 use Rattle.std.specs.Prelude.{ℕ, ◌^◌, List, [], ◌∷◌, codes, Some, None}
 use Rattle.iox_describe_settings.specs.declared.setting.Rule.{Rule}
 use Rattle.iox_describe_settings.specs.Setting.{number, optional_number, defaulted, AreAllowed, adjusted as adjusted_settings}
@@ -10,7 +10,7 @@ use Rattle.iox_describe_settings.specs.declared.static_config.event.Setting.TheV
 use Rattle.iox_describe_settings.specs.declared.static_config.event.Setting.TheVariants.{NotifierDeadEvent, NotifierDroppedEvent}
 use Rattle.iox_describe_settings.specs.declared.static_config.event.StaticConfig.{StaticConfig}
 
--- all of them, in rising order of their keys
+-- All settings, in rising order of their keys.
 abbrev pub all : List Setting
 all =
     Deadline
@@ -23,7 +23,7 @@ all =
     ∷ NotifierDroppedEvent
     ∷ []
 
--- the key of each
+-- The key of each setting.
 abbrev pub key : Setting → List ℕ
 key Deadline = codes "deadline"
 key EventIdMaxValue = codes "event_id_max_value"
@@ -34,7 +34,7 @@ key NotifierCreatedEvent = codes "notifier_created_event"
 key NotifierDeadEvent = codes "notifier_dead_event"
 key NotifierDroppedEvent = codes "notifier_dropped_event"
 
--- what each is set to
+-- The value of each setting.
 abbrev pub value : Setting → StaticConfig → SettingValue
 value Deadline c = OptionalNumber c.deadline
 value EventIdMaxValue c = Number c.event_id_max_value
@@ -45,7 +45,7 @@ value NotifierCreatedEvent c = OptionalNumber c.notifier_created_event
 value NotifierDeadEvent c = OptionalNumber c.notifier_dead_event
 value NotifierDroppedEvent c = OptionalNumber c.notifier_dropped_event
 
--- the same but for one, which is set to a value of its kind
+-- The configuration after a setting is changed to a value of its kind.
 abbrev pub changed : Setting → SettingValue → StaticConfig → StaticConfig
 changed Deadline (OptionalNumber option) c = record c { deadline = option }
 changed EventIdMaxValue (Number number) c = record c { event_id_max_value = number }
@@ -57,7 +57,7 @@ changed NotifierDeadEvent (OptionalNumber option) c = record c { notifier_dead_e
 changed NotifierDroppedEvent (OptionalNumber option) c = record c { notifier_dropped_event = option }
 changed other value c = c
 
--- what each may be: its default, for a number also the least that can serve and what it stays below
+-- The rule of each setting: its default, and for a number also the least possible one and the end below which it must be.
 abbrev pub rule : Setting → Rule
 rule Deadline = optional_number None
 rule EventIdMaxValue = number 4294967295 0 None
@@ -68,7 +68,7 @@ rule NotifierCreatedEvent = optional_number None
 rule NotifierDeadEvent = optional_number None
 rule NotifierDroppedEvent = optional_number None
 
--- settings of which none is set
+-- Settings that are all 0 or none.
 abbrev pub unset : StaticConfig
 unset = record {
   deadline = None;
@@ -81,14 +81,14 @@ unset = record {
   notifier_dropped_event = None;
 }
 
--- what stands where nothing is asked
+-- The settings if nothing is asked.
 abbrev pub defaults : StaticConfig
 defaults = defaulted rule changed all unset
 
--- the settings that a service is created with: a number that can't serve becomes the least that can
+-- The settings with which a service is created: a number that is too small becomes the least possible one.
 abbrev pub adjusted : StaticConfig → StaticConfig
 adjusted c = adjusted_settings rule value changed all c
 
--- the numbers that a description may have: each between its ends
+-- Each number is within its limits.
 abbrev pub IsWithinLimits : StaticConfig → Type 0
 IsWithinLimits c = AreAllowed rule value all c

@@ -1,4 +1,4 @@
--- The definitions that contracts about the settings of services cite.
+-- The definitions that the contracts of a service's settings use.
 pub mod Versions
 pub mod Setting
 pub mod PublishSubscribeSettings

@@ -1,4 +1,4 @@
--- The settings of a publish-subscribe service, one by one.
+-- The settings of a publish-subscribe service, as a list.
 use Rattle.std.specs.Prelude.{ℕ, ◌<◌, ◌^◌, List, [], ◌∷◌, codes, Some, true, false, ◌≡◌}
 use Rattle.iox_describe_base.specs.declared.message_type.MessageTypeDetails.{MessageTypeDetails}
 use Rattle.iox_describe_settings.specs.declared.description.Version.{Version}
@@ -15,7 +15,7 @@ use Rattle.iox_describe_settings.specs.declared.static_config.publish_subscribe.
 use Rattle.iox_describe_settings.specs.declared.static_config.publish_subscribe.Setting.TheVariants.{SubscriberMaxBufferSize, Types}
 use Rattle.iox_describe_settings.specs.declared.static_config.publish_subscribe.StaticConfig.{StaticConfig}
 
--- all of them, in rising order of their keys
+-- All settings, in rising order of their keys.
 abbrev pub all : List Setting
 all =
     EnableSafeOverflow
@@ -29,7 +29,7 @@ all =
     ∷ Types
     ∷ []
 
--- those that a line of a version has: the first version has no sequence numbers
+-- The settings that a line of this version has: version 1 has no sequence numbers.
 abbrev pub written : Version → List Setting
 written One =
     EnableSafeOverflow
@@ -43,7 +43,7 @@ written One =
     ∷ []
 written Two = all
 
--- the key of each
+-- The key of each setting.
 abbrev pub key : Setting → List ℕ
 key EnableSafeOverflow = codes "enable_safe_overflow"
 key HistorySize = codes "history_size"
@@ -55,7 +55,7 @@ key SubscriberMaxBorrowedSamples = codes "subscriber_max_borrowed_samples"
 key SubscriberMaxBufferSize = codes "subscriber_max_buffer_size"
 key Types = codes "types"
 
--- what each is set to
+-- The value of each setting.
 abbrev pub value : Setting → StaticConfig → SettingValue
 value EnableSafeOverflow c = Switch c.enable_safe_overflow
 value HistorySize c = Number c.history_size
@@ -67,7 +67,7 @@ value SubscriberMaxBorrowedSamples c = Number c.subscriber_max_borrowed_samples
 value SubscriberMaxBufferSize c = Number c.subscriber_max_buffer_size
 value Types c = Types c.types
 
--- the same but for one, which is set to a value of its kind
+-- The configuration after a setting is changed to a value of its kind.
 abbrev pub changed : Setting → SettingValue → StaticConfig → StaticConfig
 changed EnableSafeOverflow (Switch switch) c = record c { enable_safe_overflow = switch }
 changed HistorySize (Number number) c = record c { history_size = number }
@@ -80,7 +80,7 @@ changed SubscriberMaxBufferSize (Number number) c = record c { subscriber_max_bu
 changed Types (Types types) c = record c { types = types }
 changed other value c = c
 
--- what each may be: its default, for a number also the least that can serve and what it stays below
+-- The rule of each setting: its default, and for a number also the least possible one and the end below which it must be.
 abbrev pub rule : Setting → Rule
 rule EnableSafeOverflow = switch true
 rule HistorySize = number 0 0 (Some (2 ^ 32))
@@ -92,7 +92,7 @@ rule SubscriberMaxBorrowedSamples = number 2 1 (Some (2 ^ 32))
 rule SubscriberMaxBufferSize = number 2 1 (Some (2 ^ 32))
 rule Types = types_rule
 
--- settings of which none is set but the types that are given
+-- Settings that are all 0 or false, except for the types.
 abbrev pub unset : MessageTypeDetails → StaticConfig
 unset types = record {
   enable_safe_overflow = false;
@@ -106,18 +106,18 @@ unset types = record {
   types = types;
 }
 
--- what stands where nothing is asked
+-- The settings if nothing is asked.
 abbrev pub defaults : MessageTypeDetails → StaticConfig
 defaults types = defaulted rule changed all (unset types)
 
--- the settings that a service is created with: a number that can't serve becomes the least that can
+-- The settings with which a service is created: a number that is too small becomes the least possible one.
 abbrev pub adjusted : StaticConfig → StaticConfig
 adjusted c = adjusted_settings rule value changed all c
 
--- the numbers that a description may have: each between its ends
+-- Each number is within its limits.
 abbrev pub IsWithinLimits : StaticConfig → Type 0
 IsWithinLimits c = AreAllowed rule value all c
 
--- a full buffer holds the publisher up, and has no room for the history
+-- The history doesn't fit into a buffer that blocks the publisher when it is full.
 abbrev pub IsHistoryTooLong : StaticConfig → Type 0
 IsHistoryTooLong c = (c.enable_safe_overflow ≡ false) × (c.subscriber_max_buffer_size < c.history_size)

@@ -1,4 +1,4 @@
--- The settings of a request-response service, one by one.
+-- The settings of a request-response service, as a list.
 use Rattle.std.specs.Prelude.{ℕ, ◌^◌, List, [], ◌∷◌, codes, Some, None, true, false}
 use Rattle.iox_describe_base.specs.declared.message_type.MessageTypeDetails.{MessageTypeDetails}
 use Rattle.iox_describe_settings.specs.declared.setting.Rule.{Rule}
@@ -17,7 +17,7 @@ use Rattle.iox_describe_settings.specs.declared.static_config.request_response.S
 use Rattle.iox_describe_settings.specs.declared.static_config.request_response.Setting.TheVariants.{ResponseTypes}
 use Rattle.iox_describe_settings.specs.declared.static_config.request_response.StaticConfig.{StaticConfig}
 
--- all of them, in rising order of their keys
+-- All settings, in rising order of their keys.
 abbrev pub all : List Setting
 all =
     EnableFireAndForgetRequests
@@ -34,7 +34,7 @@ all =
     ∷ ResponseTypes
     ∷ []
 
--- the key of each
+-- The key of each setting.
 abbrev pub key : Setting → List ℕ
 key EnableFireAndForgetRequests = codes "enable_fire_and_forget_requests"
 key EnableSafeOverflowForRequests = codes "enable_safe_overflow_for_requests"
@@ -49,7 +49,7 @@ key MaxServers = codes "max_servers"
 key RequestTypes = codes "request_types"
 key ResponseTypes = codes "response_types"
 
--- what each is set to
+-- The value of each setting.
 abbrev pub value : Setting → StaticConfig → SettingValue
 value EnableFireAndForgetRequests c = Switch c.enable_fire_and_forget_requests
 value EnableSafeOverflowForRequests c = Switch c.enable_safe_overflow_for_requests
@@ -64,7 +64,7 @@ value MaxServers c = Number c.max_servers
 value RequestTypes c = Types c.request_types
 value ResponseTypes c = Types c.response_types
 
--- the same but for one, which is set to a value of its kind
+-- The configuration after a setting is changed to a value of its kind.
 abbrev pub changed : Setting → SettingValue → StaticConfig → StaticConfig
 changed EnableFireAndForgetRequests (Switch switch) c = record c { enable_fire_and_forget_requests = switch }
 changed EnableSafeOverflowForRequests (Switch switch) c = record c { enable_safe_overflow_for_requests = switch }
@@ -80,7 +80,7 @@ changed RequestTypes (Types types) c = record c { request_types = types }
 changed ResponseTypes (Types types) c = record c { response_types = types }
 changed other value c = c
 
--- what each may be: its default, for a number also the least that can serve and what it stays below
+-- The rule of each setting: its default, and for a number also the least possible one and the end below which it must be.
 abbrev pub rule : Setting → Rule
 rule EnableFireAndForgetRequests = switch true
 rule EnableSafeOverflowForRequests = switch true
@@ -95,7 +95,7 @@ rule MaxServers = number 2 1 None
 rule RequestTypes = types_rule
 rule ResponseTypes = types_rule
 
--- settings of which none is set but the types that are given
+-- Settings that are all 0 or false, except for the types.
 abbrev pub unset : MessageTypeDetails → MessageTypeDetails → StaticConfig
 unset request_types response_types = record {
   enable_fire_and_forget_requests = false;
@@ -112,14 +112,14 @@ unset request_types response_types = record {
   response_types = response_types;
 }
 
--- what stands where nothing is asked
+-- The settings if nothing is asked.
 abbrev pub defaults : MessageTypeDetails → MessageTypeDetails → StaticConfig
 defaults request_types response_types = defaulted rule changed all (unset request_types response_types)
 
--- the settings that a service is created with: a number that can't serve becomes the least that can
+-- The settings with which a service is created: a number that is too small becomes the least possible one.
 abbrev pub adjusted : StaticConfig → StaticConfig
 adjusted c = adjusted_settings rule value changed all c
 
--- the numbers that a description may have: each between its ends
+-- Each number is within its limits.
 abbrev pub IsWithinLimits : StaticConfig → Type 0
 IsWithinLimits c = AreAllowed rule value all c

@@ -1,4 +1,4 @@
--- When settings, and agreements, are the same.
+-- When settings, and agreements, are equal.
 use Rattle.std.specs.Prelude.{◌≡◌, ◌&&◌, ℕ, Bool, true, false, List, [], ◌∷◌, Option, Some, None, nat_eq, refl}
 use Rattle.std.proofs.Common.{sym, ap, ◌∙◌, subst}
 use Rattle.std.proofs.lemmas.Bool.{eq-eqb, eqb-true}
@@ -19,20 +19,20 @@ use Rattle.iox_describe_settings.specs.RequestResponseSettings as request_respon
 use Rattle.iox_describe_settings.specs.PublishSubscribeSettings as publish_subscribe
 use Rattle.iox_describe_settings.specs.EventSettings as event
 
--- whether they are settings of one pattern, each of which is the same
+-- Whether both are settings of the same pattern and each setting is equal.
 abbrev pub same_settings : Settings → Settings → Bool
 same_settings (RequestResponse a) (RequestResponse b) = all_same request_response.value request_response.all a b
 same_settings (PublishSubscribe a) (PublishSubscribe b) = all_same publish_subscribe.value publish_subscribe.all a b
 same_settings (Event a) (Event b) = all_same event.value event.all a b
 same_settings a b = false
 
--- whether name, hash, settings and attributes are the same
+-- Whether the names, hashes, settings and attributes are equal.
 abbrev pub same_agreement : Agreement → Agreement → Bool
 same_agreement a b =
     pointwise nat_eq a.name b.name && (pointwise nat_eq a.service_hash.digest b.service_hash.digest
     && (same_settings a.settings b.settings && same_attributes a.attributes b.attributes))
 
--- ---- the tests tell whether they are one
+-- ---- the tests decide whether two values are equal
 
 switches : (a b : Bool) → Decides (same_switch a b) (a ≡ b)
 switches true true = (λ e. refl, λ e. refl)
@@ -82,7 +82,7 @@ values (Types a) (Number b) = (λ e. absurd cc, λ e. absurd cc)
 values (Types a) (OptionalNumber b) = (λ e. absurd cc, λ e. absurd cc)
 values (Types a) (Types b) = (λ e. ap Types ((types a b).0 e), λ e. (types a b).1 (let k : a ≡ b = cc in k))
 
--- where each setting is the same, filling from one or the other is the same
+-- If each setting is equal in two configurations, filling from one or from the other gives the same.
 fills : {S C : Type 0} (value : S → C → SettingValue) (changed : S → SettingValue → C → C) (all : List S) (a b c : C)
     → all_same value all a b ≡ true → filled value changed all a c ≡ filled value changed all b c
 fills value changed [] a b c e = refl
@@ -98,7 +98,7 @@ all_same-itself value (s ∷ more) a =
     let q = all_same-itself value more a in
     λ i. p i && q i
 
--- settings of which each is the same are one, where the list is whole
+-- Configurations whose settings are all equal are equal, if the list has all settings.
 configs : {S C : Type 0} (value : S → C → SettingValue) (changed : S → SettingValue → C → C) (all : List S)
     → ((target config : C) → filled value changed all target config ≡ target)
     → (a b : C) → Decides (all_same value all a b) (a ≡ b)
@@ -107,6 +107,7 @@ configs value changed all whole a b = (
   λ e. subst (λ c. all_same value all a c ≡ true) e (all_same-itself value all a),
 )
 
+-- The test of two settings decides whether they are equal.
 pub same_settings_decides : (a b : Settings) → Decides (same_settings a b) (a ≡ b)
 same_settings_decides (RequestResponse a) (RequestResponse b) =
     let d = configs request_response.value request_response.changed request_response.all (λ t c. refl) a b in
@@ -124,6 +125,7 @@ same_settings_decides (Event a) (Event b) =
     let d = configs event.value event.changed event.all (λ t c. refl) a b in
     (λ e. ap Event (d.0 e), λ e. d.1 (let k : a ≡ b = cc in k))
 
+-- The test of two settings is an equivalence.
 pub same_settings_laws : IsEquivalence same_settings
 same_settings_laws = decided same_settings same_settings_decides
 
@@ -131,6 +133,7 @@ same_parts : (a b : Agreement) → a.name ≡ b.name → a.service_hash.digest �
     → a.attributes ≡ b.attributes → a ≡ b
 same_parts a b p q r s = λ i. record { name = p i; service_hash = record { digest = q i }; settings = r i; attributes = s i }
 
+-- The test of two agreements decides whether they are equal.
 pub same_agreement_decides : (a b : Agreement) → Decides (same_agreement a b) (a ≡ b)
 same_agreement_decides a b =
     let names = bytes_decides a.name b.name in
@@ -154,5 +157,6 @@ same_agreement_decides a b =
           λ i. p i && (q i && (r i && s i)),
     )
 
+-- The test of two agreements is symmetric and transitive.
 pub same_agreement_laws : IsPartialEquivalence same_agreement
 same_agreement_laws = partial_equiv_from_equiv (decided same_agreement same_agreement_decides)

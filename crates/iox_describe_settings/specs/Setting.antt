@@ -1,4 +1,4 @@
--- Settings, one by one.
+-- The values and rules of settings.
 use Rattle.std.specs.Prelude.{ℕ, ◌≤◌, ◌<◌, ◌==◌, max, List, [], ◌∷◌, Bool, true, false, ◌&&◌, not, All, Option, Some, None}
 use Rattle.std.specs.Cmp.Lexicographic.{slice_cmp}
 use Rattle.std.specs.Ordering.{is_lt, nat_cmp}
@@ -10,23 +10,23 @@ use Rattle.iox_describe_settings.specs.declared.setting.Rule.TheVariants as rule
 use Rattle.iox_describe_settings.specs.declared.setting.SettingValue.{SettingValue}
 use Rattle.iox_describe_settings.specs.declared.setting.SettingValue.TheVariants.{Switch, Number, OptionalNumber, Types}
 
--- the rule of a switch, by its default
+-- The rule of a switch with this default.
 abbrev pub switch : Bool → Rule
 switch default = rule.Switch default
 
--- the rule of a number: its default, the least that can serve, and what it stays below
+-- The rule of a number with this default, which is at least `least` and below `end`.
 abbrev pub number : ℕ → ℕ → Option ℕ → Rule
 number default least end = rule.Number (record { default = default; least = least; end = end })
 
--- the rule of a number or nothing, by its default
+-- The rule of an optional number with this default.
 abbrev pub optional_number : Option ℕ → Rule
 optional_number default = rule.OptionalNumber default
 
--- the rule of types
+-- The rule of types.
 abbrev pub types : Rule
 types = rule.Types
 
--- a value of the kind that the rule is for
+-- The value is of the kind that the rule is for.
 abbrev pub IsOfKind : Rule → SettingValue → Type 0
 IsOfKind (rule.Switch default) (Switch a) = Unit {0}
 IsOfKind (rule.Number range) (Number a) = Unit {0}
@@ -34,80 +34,80 @@ IsOfKind (rule.OptionalNumber default) (OptionalNumber a) = Unit {0}
 IsOfKind rule.Types (Types a) = Unit {0}
 IsOfKind other value = ⊥
 
--- what stands where nothing is asked
+-- The value if nothing is asked; none for types.
 abbrev pub default_of : Rule → Option SettingValue
 default_of (rule.Switch default) = Some (Switch default)
 default_of (rule.Number range) = Some (Number range.default)
 default_of (rule.OptionalNumber default) = Some (OptionalNumber default)
 default_of rule.Types = None
 
--- a number raised to the least that can serve; any other value as it is
+-- A number is raised to the least possible one, and any other value stays.
 abbrev pub adjusted_value : Rule → SettingValue → SettingValue
 adjusted_value (rule.Number range) (Number n) = Number (max n range.least)
 adjusted_value other value = value
 
--- a number below an end, where there is one
+-- The number is below the end, if there is one.
 abbrev pub IsBelow : Option ℕ → ℕ → Type 0
 IsBelow None n = Unit {0}
 IsBelow (Some end) n = n < end
 
--- a number between its ends
+-- The number is within the limits.
 abbrev pub IsBetween : NumberRule → ℕ → Type 0
 IsBetween range n = (range.least ≤ n) × IsBelow range.end n
 
--- a number between its ends; any other value
+-- If the value is a number, it is within its limits.
 abbrev pub IsAllowed : Rule → SettingValue → Type 0
 IsAllowed (rule.Number range) (Number n) = IsBetween range n
 IsAllowed other value = Unit {0}
 
--- whether keys stand in rising order of their bytes
+-- Whether the keys are in rising order of their bytes.
 abbrev pub keys_rise : {S : Type 0} → (S → List ℕ) → List S → Bool
 keys_rise key [] = true
 keys_rise key (a ∷ []) = true
 keys_rise key (a ∷ b ∷ more) = is_lt (slice_cmp nat_cmp (key a) (key b)) && keys_rise key (b ∷ more)
 
--- what becomes of settings when each of a list is set to what it is in the target
+-- The configuration after each setting of a list is changed to its value in the target.
 abbrev pub filled : {S C V : Type 0} → (S → C → V) → (S → V → C → C) → List S → C → C → C
 filled value changed [] target config = config
 filled value changed (setting ∷ more) target config = filled value changed more target (changed setting (value setting target) config)
 
--- a setting set to a value, where there is one
+-- The configuration after a setting is changed to a value, if there is one.
 abbrev pub changed_to : {S C V : Type 0} → (S → V → C → C) → S → Option V → C → C
 changed_to changed setting None config = config
 changed_to changed setting (Some value) config = changed setting value config
 
--- what becomes of settings when each of a list that has a default is set to it
+-- The configuration after each setting of a list that has a default is changed to it.
 abbrev pub defaulted : {S C : Type 0} → (S → Rule) → (S → SettingValue → C → C) → List S → C → C
 defaulted rule changed [] config = config
 defaulted rule changed (setting ∷ more) config = defaulted rule changed more (changed_to changed setting (default_of (rule setting)) config)
 
--- what becomes of settings when each number of a list is raised to the least that can serve
+-- The configuration after each number of a list is raised to the least possible one.
 abbrev pub adjusted : {S C : Type 0} → (S → Rule) → (S → C → SettingValue) → (S → SettingValue → C → C) → List S → C → C
 adjusted rule value changed [] config = config
 adjusted rule value changed (setting ∷ more) config
     = adjusted rule value changed more (changed setting (adjusted_value (rule setting) (value setting config)) config)
 
--- each number of a list lies between its ends
+-- Each number of a list is within its limits.
 abbrev pub AreAllowed : {S C : Type 0} → (S → Rule) → (S → C → SettingValue) → List S → C → Type 0
 AreAllowed rule value settings config = All (λ setting. IsAllowed (rule setting) (value setting config)) settings
 
--- whether two switches are one
+-- Whether two switches are equal.
 abbrev pub same_switch : Bool → Bool → Bool
 same_switch true given = given
 same_switch false given = not given
 
--- whether two options are one
+-- Whether two options are equal.
 abbrev pub same_option : Option ℕ → Option ℕ → Bool
 same_option None None = true
 same_option None (Some given) = false
 same_option (Some asked) None = false
 same_option (Some asked) (Some given) = asked == given
 
--- whether the types of two messages are one
+-- Whether the types of two messages are equal.
 abbrev pub same_types : MessageTypeDetails → MessageTypeDetails → Bool
 same_types a b = same_detail a.header b.header && (same_detail a.user_header b.user_header && same_detail a.payload b.payload)
 
--- whether two values are one
+-- Whether two values are equal.
 abbrev pub same_value : SettingValue → SettingValue → Bool
 same_value (Switch a) (Switch b) = same_switch a b
 same_value (Number a) (Number b) = a == b
@@ -115,7 +115,7 @@ same_value (OptionalNumber a) (OptionalNumber b) = same_option a b
 same_value (Types a) (Types b) = same_types a b
 same_value a b = false
 
--- whether each setting of a list is the same in both
+-- Whether each setting of a list is equal in both configurations.
 abbrev pub all_same : {S C : Type 0} → (S → C → SettingValue) → List S → C → C → Bool
 all_same value [] first second = true
 all_same value (setting ∷ more) first second = same_value (value setting first) (value setting second) && all_same value more first second

@@ -1,4 +1,4 @@
-//! The description of a service: what its nodes agree on.
+//! The description of a service, which states what its nodes agree on.
 ghost use Rattle.std.specs.Prelude.{◌≡◌, ◌↔◌, [], IsOk, IfOk, IsTrue};
 
 use crate::static_config::Settings;
@@ -9,21 +9,21 @@ use iox_describe_base::pattern::MessagingPattern;
 use std::alloc::{AllocError, Global};
 use std::marker::Model;
 
-/// A version of the one line that spells a description.
+/// A version of the line that encodes a description.
 ///
-/// This port's own.
+/// Not in `iceoryx2`.
 #[derive(Clone, Copy)]
 pub enum Version {
-    /// The first, which has no `sequence_numbers`.
+    /// Version 1, which has no `sequence_numbers`.
     One,
-    /// The second, which has all settings.
+    /// Version 2, which has all settings.
     Two,
 }
 
 impl Version {
     ghost use Rattle.iox_describe_settings.specs.Versions.{number_of};
 
-    /// The number under which the line states it.
+    /// The number with which a line states its version.
     pub fn number(self) -> u64
         ensures { result ≡ number_of self }
     {
@@ -46,7 +46,7 @@ pub struct Description {
     attributes: AttributeSpecifier,
 }
 
-/// Said here once, so that no crate above proves it anew.
+/// Stated once here, so that crates above don't have to prove it again.
 impl Drop for Description {
     fn drop(self) {
         let Description {
@@ -70,7 +70,7 @@ impl Description {
     ghost use Rattle.iox_describe_settings.specs.Agreement.{agreement, pattern_of, max_nodes_of, AreWithinLimits};
     ghost use Rattle.iox_describe_base.specs.Hash.{hash_text, service_hash_of, service_hash_text};
 
-    /// The description of a service of this name, with the hash that belongs to its pattern and name.
+    /// The description of a service with this name, and with the hash that belongs to its pattern and name.
     pub fn new(name: ServiceName, settings: Settings, attributes: AttributeSpecifier) -> Self
         ensures parts { result ≡ agreement name (service_hash_of (pattern_of settings) name) settings attributes }
         ensures hash { hash_text result.service_hash ≡ service_hash_text (pattern_of settings) name }
@@ -84,7 +84,7 @@ impl Description {
         }
     }
 
-    /// The description of these parts, whatever its hash.
+    /// The description with these parts, whatever its hash is.
     pub fn of_parts(
         name: ServiceName,
         service_hash: ServiceHash,
@@ -101,7 +101,7 @@ impl Description {
         }
     }
 
-    /// The same description, in memory of its own. Refused only where an allocation fails; without attributes there is none.
+    /// A copy of the description in memory of its own. It fails only where an allocation fails, and never without attributes.
     pub fn try_clone(&self, alloc: Global) -> Result<Self, AllocError>
         ensures same { IfOk result (λ description. description ≡ self.now) }
         ensures empty { self.now.attributes ≡ [] → IsOk result }
@@ -128,7 +128,7 @@ impl Description {
         self.settings.pattern()
     }
 
-    /// The hash that the description states, under which the service is to be found.
+    /// The hash that the description states, which is to identify the service.
     pub fn service_hash(&self) -> &ServiceHash
         ensures { result.now ≡ self.now.service_hash }
     {
@@ -149,14 +149,14 @@ impl Description {
         &self.attributes
     }
 
-    /// How many nodes may be in the service.
+    /// The maximum number of nodes of the service.
     pub fn max_nodes(&self) -> u64
         ensures { result ≡ max_nodes_of self.now.settings }
     {
         self.settings.max_nodes()
     }
 
-    /// Whether the numbers of the settings are within the limits of a description.
+    /// Whether the numbers in the settings are within the limits of a description.
     pub fn is_within_limits(&self) -> bool
         ensures { IsTrue result ↔ AreWithinLimits self.now.settings }
     {
@@ -164,7 +164,7 @@ impl Description {
     }
 }
 
-/// Descriptions are equal if name, hash, settings and attributes are.
+/// Two descriptions are equal if their names, hashes, settings and attributes are equal.
 impl PartialEq for Description {
     ghost use Rattle.iox_describe_settings.specs.SameAgreement.{same_agreement, same_agreement_laws};
 
@@ -183,7 +183,7 @@ impl PartialEq for Description {
 impl Description {
     ghost use Rattle.iox_describe_settings.specs.SameAgreement.{same_agreement};
 
-    /// Whether name, hash, settings and attributes are the same.
+    /// Whether the names, hashes, settings and attributes are equal.
     fn is_same(&self, other: &Self) -> bool
         ensures { result ≡ same_agreement self.now other.now }
     {

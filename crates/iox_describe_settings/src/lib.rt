@@ -1,10 +1,10 @@
-//! What the nodes of a service agree on: the settings of each pattern, and the description with all of it.
+//! What the nodes of a service agree on: the settings of each pattern, and the description that states all of it.
 //!
 //! | Module | What it has |
 //! |---|---|
-//! | `setting` | what it is to be a setting of a pattern: a key, and a value that is read and written |
-//! | `static_config` | the settings of each pattern: defaults, adjusting, limits, and the list of them all |
-//! | `description` | all that is agreed |
+//! | `setting` | the interface of a pattern's settings: each has a key, and a value that can be read and written |
+//! | `static_config` | the settings of each pattern: their defaults, adjustments and limits, and the list of all settings |
+//! | `description` | the description of a service |
 //!
 //! A first call:
 //!

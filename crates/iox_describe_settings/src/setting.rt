@@ -1,4 +1,4 @@
-//! The settings of a messaging pattern, one by one.
+//! The settings of a messaging pattern, as a list.
 ghost use Rattle.std.specs.Prelude.{◌≡◌, ◌↔◌, ℕ, List, true, All, IfSome, IsTrue};
 ghost use Rattle.iox_describe_settings.specs.declared.setting.Rule.{Rule};
 ghost use Rattle.iox_describe_settings.specs.declared.setting.SettingValue.{SettingValue};
@@ -7,38 +7,38 @@ ghost use Rattle.iox_describe_settings.specs.Setting.{same_value, IsAllowed, IsO
 
 use iox_describe_base::message_type::MessageTypeDetails;
 
-/// What a setting is set to.
+/// The value of a setting.
 #[derive(Clone, Copy)]
 pub enum SettingValue {
-    /// Whether something is done.
+    /// A switch, which says whether something is done.
     Switch(bool),
-    /// How many there are, or may be.
+    /// A number or a maximum.
     Number(u64),
-    /// A number, or nothing.
+    /// A number, or none.
     OptionalNumber(Option<u64>),
     /// The types of a message.
     Types(MessageTypeDetails),
 }
 
-/// What a number is where nothing is asked, and between which ends it lies.
+/// The default of a number, and its limits.
 #[derive(Clone, Copy)]
 pub struct NumberRule {
-    /// What stands where nothing is asked.
+    /// The value if nothing is asked.
     pub default: u64,
-    /// The least number that can serve; `create` raises a lower one to it.
+    /// The smallest number that is possible; `create` raises a smaller one to it.
     pub least: u64,
-    /// What the number stays below, if it is not bound by its 64 bits alone.
+    /// The number must be below this; `None` if only its 64 bits bound it.
     pub end: Option<u64>,
 }
 
-/// What a setting may be set to, and what it is where nothing is asked.
+/// The kind of a setting's value, its default, and its limits.
 #[derive(Clone, Copy)]
 pub enum Rule {
     /// A switch, and its default.
     Switch(bool),
     /// A number.
     Number(NumberRule),
-    /// A number or nothing, and its default.
+    /// A number or none, and its default.
     OptionalNumber(Option<u64>),
     /// The types of a message, which have no default.
     Types,
@@ -47,7 +47,7 @@ pub enum Rule {
 impl Rule {
     ghost use Rattle.iox_describe_settings.specs.Setting.{number};
 
-    /// The rule of a number: its default, the least that can serve, and what it stays below.
+    /// The rule of a number with this default, which is at least `least` and below `end`.
     pub fn number(default: u64, least: u64, end: Option<u64>) -> Self
         ensures { result ≡ number default least end }
     {
@@ -58,7 +58,7 @@ impl Rule {
         })
     }
 
-    /// What stands where nothing is asked; nothing of types.
+    /// The value if nothing is asked; `None` for types.
     pub fn default_value(self) -> Option<SettingValue>
         ensures value { result ≡ default_of self }
         ensures kind { IfSome result (IsOfKind self) }
@@ -71,7 +71,7 @@ impl Rule {
         }
     }
 
-    /// A number raised to the least one; any other value as it is.
+    /// The value for `create`: a number is raised to the least possible one, and any other value stays.
     pub fn adjusted(self, value: SettingValue) -> SettingValue
         ensures value { result ≡ adjusted_value self value }
         ensures kind { IsOfKind self value → IsOfKind self result }
@@ -84,7 +84,7 @@ impl Rule {
         }
     }
 
-    /// Whether a number lies between its ends; any other value is allowed.
+    /// Whether the value is within its limits; any value other than a number is.
     pub fn allows(self, value: SettingValue) -> bool
         ensures { IsTrue result ↔ IsAllowed self value }
     {
@@ -98,7 +98,7 @@ impl Rule {
 impl NumberRule {
     ghost use Rattle.iox_describe_settings.specs.Setting.{IsBetween};
 
-    /// Whether the number lies between the ends.
+    /// Whether the number is within the limits.
     fn allows(self, number: u64) -> bool
         ensures { IsTrue result ↔ IsBetween self number }
     {
@@ -111,8 +111,8 @@ impl NumberRule {
 
 /// A setting of a messaging pattern.
 ///
-/// The list of a pattern's settings is what a description's text, its reader, `create` and a verdict go
-/// over, so that a new setting is a new item of the list, with its rows below.
+/// The encoding of a description, its decoding, `create` and a compatibility check all iterate over the list of a pattern's settings. So a
+/// new setting is a new item of this list, with its cases in the functions below.
 pub trait PatternSetting: Copy + 'static {
     /// The settings of a service.
     type Config: Copy;
@@ -123,47 +123,47 @@ pub trait PatternSetting: Copy + 'static {
     // the key of a setting
     ghost key: { Self → List ℕ };
 
-    // what a setting may be set to, and its default
+    // the kind, the default and the limits of a setting
     ghost rule: { Self → Rule };
 
-    // what a setting is set to
+    // the value of a setting
     ghost value: { Self → Self.Config → SettingValue };
 
-    // the same but for one setting, which is set to a value of its kind
+    // the configuration after a setting is changed to a value of its kind
     ghost changed: { Self → SettingValue → Self.Config → Self.Config };
 
     /// All settings of the pattern, in rising order of the bytes of their keys.
     fn all() -> &'static [Self]
         ensures { result.now ≡ all };
 
-    /// The key under which the setting stands in a description.
+    /// The key of the setting in a description.
     fn key(self) -> &'static str
         ensures { result.now ≡ key self };
 
-    /// What the setting may be set to, and its default.
+    /// The kind of the setting's value, its default, and its limits.
     fn rule(self) -> Rule
         ensures { result ≡ rule self };
 
-    /// What the setting is set to.
+    /// The value of the setting.
     fn value(self, config: &Self::Config) -> SettingValue
         ensures { result ≡ value self config.now };
 
-    /// Sets the setting, to a value of its kind.
+    /// Changes the setting to a value of its kind.
     fn set(self, config: &mut Self::Config, to: SettingValue)
         requires { IsOfKind (rule self) to }
         ensures { config.new ≡ changed self to config.old };
 
-    // the keys stand in rising order of their bytes
+    // the keys are in rising order of their bytes
     ghost in_order: { keys_rise key all ≡ true };
 
     // the values of a setting are of its kind
     ghost of_kind: { (setting : Self) (config : Self.Config) → IsOfKind (rule setting) (value setting config) };
 
-    // once each setting is set to what it is in others, they are those others
+    // changing each setting to its value in another configuration gives that configuration
     ghost is_whole: { (target config : Self.Config) → filled value changed all target config ≡ target };
 }
 
-/// The same settings, but that each one which has a default is set to it.
+/// The configuration with each setting that has a default changed to it.
 pub fn with_defaults<S: PatternSetting>(config: S::Config) -> S::Config
     ensures { result ≡ defaulted S.rule S.changed S.all config }
 {
@@ -176,7 +176,7 @@ pub fn with_defaults<S: PatternSetting>(config: S::Config) -> S::Config
     config
 }
 
-/// The settings that `create` makes of these: each number raised to its least one.
+/// The configuration for `create`: each number is raised to the least possible one.
 pub fn adjusted<S: PatternSetting>(config: S::Config) -> S::Config
     ensures { result ≡ adjusted S.rule S.value S.changed S.all config }
 {
@@ -188,7 +188,7 @@ pub fn adjusted<S: PatternSetting>(config: S::Config) -> S::Config
     config
 }
 
-/// Whether each number lies between its ends.
+/// Whether each number is within its limits.
 pub fn are_allowed<S: PatternSetting>(config: &S::Config) -> bool
     ensures { IsTrue result ↔ All (λ setting. IsAllowed (S.rule setting) (S.value setting config.now)) S.all }
 {
@@ -197,7 +197,7 @@ pub fn are_allowed<S: PatternSetting>(config: &S::Config) -> bool
         .all(|setting| setting.rule().allows(setting.value(config)))
 }
 
-/// Whether each setting is the same in both.
+/// Whether each setting is equal in both configurations.
 pub fn are_same<S: PatternSetting>(first: &S::Config, second: &S::Config) -> bool
     ensures { result ≡ all_same S.value S.all first.now second.now }
 {
@@ -209,7 +209,7 @@ pub fn are_same<S: PatternSetting>(first: &S::Config, second: &S::Config) -> boo
     true
 }
 
-/// Whether two values are one.
+/// Whether two values are equal.
 fn is_same(first: SettingValue, second: SettingValue) -> bool
     ensures { result ≡ same_value first second }
 {

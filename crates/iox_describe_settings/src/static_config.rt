@@ -1,4 +1,4 @@
-//! What is agreed for a service, by its messaging pattern.
+//! The settings of a service, by its messaging pattern.
 ghost use Rattle.std.specs.Prelude.{◌≡◌, ◌↔◌, IsTrue};
 
 use crate::setting::are_same;
@@ -25,7 +25,7 @@ impl Settings {
     ghost use Rattle.iox_describe_settings.specs.Agreement.{max_nodes_of, pattern_of};
     ghost use Rattle.iox_describe_settings.specs.Agreement.{AreWithinLimits, HasNoRoomForHistory};
 
-    /// The pattern that these are the settings of.
+    /// The messaging pattern of the settings.
     pub fn pattern(&self) -> MessagingPattern
         ensures { result ≡ pattern_of self.now }
     {
@@ -36,7 +36,7 @@ impl Settings {
         }
     }
 
-    /// How many nodes may be in the service.
+    /// The maximum number of nodes of the service.
     pub fn max_nodes(&self) -> u64
         ensures { result ≡ max_nodes_of self.now }
     {
@@ -58,8 +58,8 @@ impl Settings {
         }
     }
 
-    /// Whether a full buffer would hold the publisher up and has no room for the history: such a service isn't
-    /// created. Always false of a pattern without a history.
+    /// Whether the history doesn't fit into a buffer that blocks the publisher when it is full; a service with such settings can't be
+    /// created. It is false for patterns without a history.
     pub fn is_history_too_long(&self) -> bool
         ensures { IsTrue result ↔ HasNoRoomForHistory self.now }
     {
@@ -70,7 +70,7 @@ impl Settings {
     }
 }
 
-/// Settings are equal if they are of one pattern and each setting is the same.
+/// Two values are equal if they are settings of the same pattern and each setting is equal.
 impl PartialEq for Settings {
     ghost use Rattle.std.specs.Cmp.{partial_equiv_from_equiv};
     ghost use Rattle.iox_describe_settings.specs.SameAgreement.{same_settings, same_settings_laws};
@@ -96,7 +96,7 @@ impl Eq for Settings {
 impl Settings {
     ghost use Rattle.iox_describe_settings.specs.SameAgreement.{same_settings};
 
-    /// Whether they are settings of one pattern, each of which is the same.
+    /// Whether both are settings of the same pattern and each setting is equal.
     fn is_same(&self, other: &Self) -> bool
         ensures { result ≡ same_settings self.now other.now }
     {

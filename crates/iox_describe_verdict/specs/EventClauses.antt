@@ -18,7 +18,7 @@ use Rattle.iox_describe_settings.specs.declared.setting.SettingValue.TheVariants
 use Rattle.iox_describe_settings.specs.EventSettings as settings
 use Rattle.iox_describe_verdict.specs.Verdict.{is_met, overlaid, AsksLess}
 
--- nothing is named but what is always tested
+-- The requirement that names no setting.
 abbrev pub unnamed : Required → Requirement
 unnamed attributes = record {
   attributes = attributes;
@@ -32,7 +32,7 @@ unnamed attributes = record {
   max_nodes = None;
 }
 
--- what is asked of each setting, where it was named
+-- The value that is asked of each setting, if it is named.
 abbrev pub named : Setting → Requirement → Option SettingValue
 named Deadline r = option_map value.OptionalNumber r.deadline
 named EventIdMaxValue r = option_map value.Number r.event_id_max_value
@@ -43,11 +43,11 @@ named NotifierCreatedEvent r = option_map value.OptionalNumber r.notifier_create
 named NotifierDeadEvent r = option_map value.OptionalNumber r.notifier_dead_event
 named NotifierDroppedEvent r = option_map value.OptionalNumber r.notifier_dropped_event
 
--- the settings that are asked for: each as it was named, each other one at its default
+-- The settings that are asked for; a setting that isn't named has its default.
 abbrev pub asked : Requirement → StaticConfig
 asked r = overlaid settings.changed (λ setting. named setting r) settings.all settings.defaults
 
--- the same in other words
+-- Equivalently, field by field: the settings that are asked for.
 abbrev pub asked_fields : Requirement → StaticConfig
 asked_fields r = record {
   deadline = unwrap_or r.deadline None;
@@ -60,7 +60,7 @@ asked_fields r = record {
   notifier_dropped_event = unwrap_or r.notifier_dropped_event None;
 }
 
--- the error where it is not
+-- The error of each setting if it isn't met.
 abbrev pub error_of : Setting → ClauseError
 error_of Deadline = error.IncompatibleDeadline
 error_of EventIdMaxValue = error.DoesNotSupportRequestedMaxEventId
@@ -71,11 +71,11 @@ error_of NotifierCreatedEvent = error.IncompatibleNotifierCreatedEvent
 error_of NotifierDeadEvent = error.IncompatibleNotifierDeadEvent
 error_of NotifierDroppedEvent = error.IncompatibleNotifierDroppedEvent
 
--- the clause on a setting
+-- The clause on a setting: whether it is met, and its error.
 abbrev pub clause : Requirement → StaticConfig → Setting → Bool × ClauseError
 clause r c setting = (is_met (named setting r) (settings.value setting c), error_of setting)
 
--- the clauses on a service of the pattern, in the order in which they are tested, each with its error
+-- The clauses on a service of this pattern, each with its error, in the order in which they are tested.
 abbrev pub clauses_on : Requirement → List Attribute → StaticConfig → List (Bool × ClauseError)
 clauses_on r attributes c =
     (has_required r.attributes attributes, error.IncompatibleAttributes)
@@ -89,17 +89,17 @@ clauses_on r attributes c =
     ∷ clause r c MaxNodes
     ∷ []
 
--- the clauses on any service, that on the pattern first: of another pattern not even this is met
+-- The clauses on any service, of which the one on the pattern is first; a service of another pattern doesn't meet this one.
 abbrev pub clauses_of : Requirement → List Attribute → Settings → List (Bool × ClauseError)
 clauses_of r attributes (RequestResponse c) = (false, error.IncompatibleMessagingPattern) ∷ []
 clauses_of r attributes (PublishSubscribe c) = (false, error.IncompatibleMessagingPattern) ∷ []
 clauses_of r attributes (Event c) = (true, error.IncompatibleMessagingPattern) ∷ clauses_on r attributes c
 
--- the clauses of a requirement on an agreement
+-- The clauses of a requirement on an agreement.
 abbrev pub clauses : Requirement → Agreement → List (Bool × ClauseError)
 clauses r a = clauses_of r a.attributes a.settings
 
--- weak requires fewer attributes, and asks of each setting at most what strong asks
+-- The requirement `weak` requires at most the attributes that `strong` requires, and asks of each setting at most what `strong` asks.
 pub record IsWeaker (weak strong : Requirement) : Type 0 where
   pub attributes : IsFewer weak.attributes strong.attributes
   pub settings : (setting : Setting) → AsksLess (named setting weak) (named setting strong)

@@ -33,13 +33,14 @@ on weak strong given c h =
     (step _ _ _ _ _ (setting (named MaxNodes weak) (named MaxNodes strong) (value MaxNodes c) (h.settings MaxNodes))
     (λ e. e)))))))))
 
+-- An event service that meets a requirement meets every weaker one.
 pub weaker : (weak strong : Requirement) (given : List Attribute) (settings : Settings) → IsWeaker weak strong
     → first_unmet (clauses_of strong given settings) ≡ met → first_unmet (clauses_of weak given settings) ≡ met
 weaker weak strong given (RequestResponse c) h e = e
 weaker weak strong given (PublishSubscribe c) h e = e
 weaker weak strong given (Event c) h e = step _ _ _ _ _ (λ met. met) (on weak strong given c h) e
 
--- only a service of the pattern meets a requirement
+-- Only an event service meets a requirement.
 pub met_is_of_pattern : (r : Requirement) (given : List Attribute) (settings : Settings)
     → first_unmet (clauses_of r given settings) ≡ met → IsSome (event_of settings)
 unfolding unmet_clause

@@ -1,4 +1,4 @@
--- The definitions that contracts about requirements cite.
+-- The definitions that the contracts of requirements use.
 pub mod Verdict
 pub mod Earliest
 pub mod PublishSubscribeClauses

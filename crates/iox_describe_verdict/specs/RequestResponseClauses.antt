@@ -25,7 +25,7 @@ use Rattle.iox_describe_settings.specs.declared.setting.SettingValue.TheVariants
 use Rattle.iox_describe_settings.specs.RequestResponseSettings as settings
 use Rattle.iox_describe_verdict.specs.Verdict.{is_met, overlaid, AsksLess}
 
--- nothing is named but what is always tested
+-- The requirement that names no setting except the types.
 abbrev pub unnamed : MessageTypeDetails → MessageTypeDetails → Required → Requirement
 unnamed request_types response_types attributes = record {
   request_types = request_types;
@@ -43,7 +43,7 @@ unnamed request_types response_types attributes = record {
   max_nodes = None;
 }
 
--- what is asked of each setting, where it was named
+-- The value that is asked of each setting, if it is named.
 abbrev pub named : Setting → Requirement → Option SettingValue
 named EnableFireAndForgetRequests r = option_map value.Switch r.enable_fire_and_forget_requests
 named EnableSafeOverflowForRequests r = option_map value.Switch r.enable_safe_overflow_for_requests
@@ -58,11 +58,11 @@ named MaxServers r = option_map value.Number r.max_servers
 named RequestTypes r = Some (value.Types r.request_types)
 named ResponseTypes r = Some (value.Types r.response_types)
 
--- the settings that are asked for: each as it was named, each other one at its default
+-- The settings that are asked for; a setting that isn't named has its default.
 abbrev pub asked : Requirement → StaticConfig
 asked r = overlaid settings.changed (λ setting. named setting r) settings.all (settings.defaults r.request_types r.response_types)
 
--- the same in other words
+-- Equivalently, field by field: the settings that are asked for.
 abbrev pub asked_fields : Requirement → StaticConfig
 asked_fields r = record {
   enable_fire_and_forget_requests = unwrap_or r.enable_fire_and_forget_requests true;
@@ -79,7 +79,7 @@ asked_fields r = record {
   response_types = r.response_types;
 }
 
--- the error where it is not
+-- The error of each setting if it isn't met.
 abbrev pub error_of : Setting → ClauseError
 error_of EnableFireAndForgetRequests = error.IncompatibleBehaviorForFireAndForgetRequests
 error_of EnableSafeOverflowForRequests = error.IncompatibleOverflowBehaviorForRequests
@@ -94,11 +94,11 @@ error_of MaxServers = error.DoesNotSupportRequestedAmountOfServers
 error_of RequestTypes = error.IncompatibleRequestType
 error_of ResponseTypes = error.IncompatibleResponseType
 
--- the clause on a setting
+-- The clause on a setting: whether it is met, and its error.
 abbrev pub clause : Requirement → StaticConfig → Setting → Bool × ClauseError
 clause r c setting = (is_met (named setting r) (settings.value setting c), error_of setting)
 
--- the clauses on a service of the pattern, in the order in which they are tested, each with its error
+-- The clauses on a service of this pattern, each with its error, in the order in which they are tested.
 abbrev pub clauses_on : Requirement → List Attribute → StaticConfig → List (Bool × ClauseError)
 clauses_on r attributes c =
     clause r c RequestTypes
@@ -116,17 +116,17 @@ clauses_on r attributes c =
     ∷ clause r c MaxNodes
     ∷ []
 
--- the clauses on any service, that on the pattern first: of another pattern not even this is met
+-- The clauses on any service, of which the one on the pattern is first; a service of another pattern doesn't meet this one.
 abbrev pub clauses_of : Requirement → List Attribute → Settings → List (Bool × ClauseError)
 clauses_of r attributes (RequestResponse c) = (true, error.IncompatibleMessagingPattern) ∷ clauses_on r attributes c
 clauses_of r attributes (PublishSubscribe c) = (false, error.IncompatibleMessagingPattern) ∷ []
 clauses_of r attributes (Event c) = (false, error.IncompatibleMessagingPattern) ∷ []
 
--- the clauses of a requirement on an agreement
+-- The clauses of a requirement on an agreement.
 abbrev pub clauses : Requirement → Agreement → List (Bool × ClauseError)
 clauses r a = clauses_of r a.attributes a.settings
 
--- weak requires fewer attributes, and asks of each setting at most what strong asks
+-- The requirement `weak` requires at most the attributes that `strong` requires, and asks of each setting at most what `strong` asks.
 pub record IsWeaker (weak strong : Requirement) : Type 0 where
   pub attributes : IsFewer weak.attributes strong.attributes
   pub settings : (setting : Setting) → AsksLess (named setting weak) (named setting strong)

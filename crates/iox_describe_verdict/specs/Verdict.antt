@@ -1,4 +1,4 @@
--- The verdict of a list of clauses, and what single clauses ask.
+-- The verdict of a list of clauses, and when a single clause is met.
 use Rattle.std.specs.Prelude.{ℕ, ◌≡◌, ◌≤◌, List, [], ◌∷◌, Bool, true, false, not, nat_le, Option, Some, None, option_map, IfSome, Result}
 use Rattle.std.specs.Prelude.{Ok, Err}
 use Rattle.std.specs.List.{find}
@@ -9,21 +9,21 @@ use Rattle.iox_describe_settings.specs.declared.setting.SettingValue.{SettingVal
 use Rattle.iox_describe_settings.specs.declared.setting.SettingValue.TheVariants.{Switch, Number, OptionalNumber, Types}
 use Rattle.iox_describe_settings.specs.Setting.{changed_to, same_option, same_switch, IsOfKind}
 
--- the error of the clause that was found
+-- The verdict if this clause is the first unmet one, or if there is none.
 abbrev pub verdict_at : {E : Type 0} → Option (Bool × E) → Result (Unit {0}) E
 verdict_at None = Ok tt
 verdict_at (Some clause) = Err clause.1
 
--- the first clause that is not met
+-- The first clause that isn't met.
 unfoldable pub unmet_clause : {E : Type 0} → List (Bool × E) → Option (Bool × E)
 unmet_clause clauses = find (λ clause. not clause.0) clauses
 
--- the error of the first clause that is not met
+-- The error of the first clause that isn't met, or `Ok` if all clauses are met.
 abbrev pub first_unmet : {E : Type 0} → List (Bool × E) → Result (Unit {0}) E
 first_unmet clauses = verdict_at (unmet_clause clauses)
 
--- whether a value is as asked: a number is at least the one asked, types are compatible, and a switch or
--- an option is the same
+-- Whether a value meets what is asked: a number is at least the asked one, the asked types are compatible with the given ones, and a switch
+-- or an option is equal.
 abbrev pub meets : SettingValue → SettingValue → Bool
 meets (Switch asked) (Switch given) = same_switch asked given
 meets (Number asked) (Number given) = nat_le asked given
@@ -31,18 +31,18 @@ meets (OptionalNumber asked) (OptionalNumber given) = same_option asked given
 meets (Types asked) (Types given) = is_compatible asked given
 meets asked given = false
 
--- whether a value is as asked, where something was
+-- Whether a value meets what is asked, if something is asked.
 abbrev pub is_met : Option SettingValue → SettingValue → Bool
 is_met None given = true
 is_met (Some asked) given = meets asked given
 
--- what becomes of settings when each of a list is set to what is named for it, if something is
+-- The configuration after each setting of a list is changed to the value that is named for it, if one is.
 abbrev pub overlaid : {S C : Type 0} → (S → SettingValue → C → C) → (S → Option SettingValue) → List S → C → C
 overlaid changed named [] config = config
 overlaid changed named (setting ∷ more) config = overlaid changed named more (changed_to changed setting (named setting) config)
 
--- the first value asks at most what the second asks: a number at most as large, types that are compatible
--- to the other ones, and the same switch or option
+-- The first value asks at most what the second asks: a number is at most as large, types are compatible with the other ones, and a switch
+-- or an option is equal.
 abbrev pub IsAtMost : SettingValue → SettingValue → Type 0
 IsAtMost (Switch weak) (Switch strong) = strong ≡ weak
 IsAtMost (Number weak) (Number strong) = weak ≤ strong
@@ -50,13 +50,13 @@ IsAtMost (OptionalNumber weak) (OptionalNumber strong) = strong ≡ weak
 IsAtMost (Types weak) (Types strong) = is_compatible weak strong ≡ true
 IsAtMost weak strong = ⊥
 
--- the first was not named, or asks at most what the second asks
+-- The first value isn't named, or asks at most what the second asks.
 abbrev pub AsksLess : Option SettingValue → Option SettingValue → Type 0
 AsksLess None strong = Unit {0}
 AsksLess (Some weak) None = ⊥
 AsksLess (Some weak) (Some strong) = IsAtMost weak strong
 
--- what is named of a switch, a number or an option is of its kind
+-- The named value of a switch, a number or an option is of this kind.
 pub switch_is_of_kind : (r : Rule) → IsOfKind r (Switch true) → (o : Option Bool) → IfSome (option_map Switch o) (IsOfKind r)
 switch_is_of_kind r h None = tt
 switch_is_of_kind (rule.Switch default) h (Some b) = tt
@@ -64,6 +64,7 @@ switch_is_of_kind (rule.Number range) h (Some b) = h
 switch_is_of_kind (rule.OptionalNumber default) h (Some b) = h
 switch_is_of_kind rule.Types h (Some b) = h
 
+-- The named value of a number is of this kind.
 pub number_is_of_kind : (r : Rule) → IsOfKind r (Number 0) → (o : Option ℕ) → IfSome (option_map Number o) (IsOfKind r)
 number_is_of_kind r h None = tt
 number_is_of_kind (rule.Switch default) h (Some n) = h
@@ -71,6 +72,7 @@ number_is_of_kind (rule.Number range) h (Some n) = tt
 number_is_of_kind (rule.OptionalNumber default) h (Some n) = h
 number_is_of_kind rule.Types h (Some n) = h
 
+-- The named value of an optional number is of this kind.
 pub optional_number_is_of_kind : (r : Rule) → IsOfKind r (OptionalNumber None) → (o : Option (Option ℕ))
     → IfSome (option_map OptionalNumber o) (IsOfKind r)
 optional_number_is_of_kind r h None = tt

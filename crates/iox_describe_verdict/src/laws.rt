@@ -1,4 +1,4 @@
-//! Laws of requirements, as functions that do nothing: each contract is the law.
+//! Theorems about requirements. Each one is the contract of a function that does nothing.
 ghost use Rattle.std.specs.Prelude.{◌≡◌, Ok};
 ghost use Rattle.iox_describe_settings.specs.Agreement.{Agreement};
 ghost use Rattle.iox_describe_verdict.specs.Verdict.{first_unmet};

@@ -1,10 +1,10 @@
-//! What an opener requires of a service, and the verdict on the description that it finds.
+//! What an opener requires of a service, and the compatibility check of the description that it finds.
 //!
 //! | Module | What it has |
 //! |---|---|
-//! | `requirement` | what an opener requires of a service of each pattern, and the verdict on a description |
-//! | `pattern` | a messaging pattern, with all that making and opening a service needs of it |
-//! | `laws` | what holds of weaker requirements |
+//! | `requirement` | what an opener requires of a service of each pattern, and the compatibility check of a description |
+//! | `pattern` | a messaging pattern, with everything that creating and opening a service needs of it |
+//! | `laws` | theorems about weaker requirements |
 //!
 //! A first call:
 //!

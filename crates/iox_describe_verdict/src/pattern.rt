@@ -1,4 +1,4 @@
-//! A messaging pattern, with all that making and opening a service needs of it.
+//! A messaging pattern, with everything that creating and opening a service needs of it.
 ghost use Rattle.std.specs.Prelude.{◌≡◌, ◌≤◌, ◌<◌, ◌^◌, ◌↔◌, List, [], Option, Result, Ok, Some};
 ghost use Rattle.std.specs.Prelude.{IsOk, IfOk, IsSome, IsTrue, refl};
 ghost use Rattle.iox_describe_settings.specs.DescribeBase.declared.pattern.MessagingPattern.{MessagingPattern};
@@ -19,70 +19,70 @@ use iox_describe_settings::description::Description;
 use iox_describe_settings::static_config::{Settings, event, publish_subscribe, request_response};
 use std::alloc::{AllocError, Global};
 
-/// A messaging pattern, with what is agreed for a service of it.
+/// A messaging pattern, with the type of its services' settings.
 pub trait AgreedPattern {
-    /// What the nodes of a service agree on.
+    /// The settings of a service.
     type StaticConfig: Copy;
 
     // the pattern
     ghost pattern: { MessagingPattern };
 
-    // what is agreed, as the settings of any pattern
+    // the settings, as those of any pattern
     ghost settings: { Self.StaticConfig → Settings };
 
-    // what is agreed, where the settings are of this pattern
+    // the settings, if they are of this pattern
     ghost static_config: { Settings → Option Self.StaticConfig };
 
     /// The pattern.
     fn pattern() -> MessagingPattern
         ensures { result ≡ pattern };
 
-    /// What is agreed, as the settings of any pattern.
+    /// The settings, as those of any pattern.
     fn settings(config: Self::StaticConfig) -> Settings
         ensures { result ≡ settings config };
 
-    /// What is agreed, where the settings are of this pattern; else `None`.
+    /// The settings, if they are of this pattern; else `None`.
     fn static_config(given: &Settings) -> Option<Self::StaticConfig>
         ensures { result ≡ static_config given.now };
 
-    // settings are of the pattern that they are made of
+    // settings made from those of this pattern are of this pattern
     ghost settings_are_of_pattern: { (config : Self.StaticConfig) → pattern_of (settings config) ≡ pattern };
 
-    // what was agreed is found again
+    // converting settings to those of any pattern and back gives the same settings
     ghost found_again: { (config : Self.StaticConfig) → static_config (settings config) ≡ Some config };
 
-    // what is found is what was agreed
+    // converting settings to those of this pattern and back gives the same settings
     ghost found: { (s : Settings) (config : Self.StaticConfig) → static_config s ≡ Some config → settings config ≡ s };
 }
 
-/// A messaging pattern, with what is asked of a service of it, by an opener or by who makes it.
+/// A messaging pattern, with what an opener or a creator asks of a service.
 pub trait RequiredPattern: AgreedPattern {
-    /// What is asked of a service, by an opener or by who makes it.
+    /// What an opener or a creator asks of a service.
     type Requirement: Drop;
 
-    /// Why a service can't be opened as required: the first clause that is not met.
+    /// Why a service can't be opened: the first clause of the requirement that isn't met.
     type ClauseError: Copy;
 
     // the attributes that a service must have
     ghost attributes: { Self.Requirement → Required };
 
-    // the requirement with these attributes, and all else as it is
+    // the requirement with its attributes replaced by these
     ghost with_attributes: { Self.Requirement → Required → Self.Requirement };
 
-    // the settings that are asked for: each as it was named, each other one at its default
+    // the settings that are asked for; a setting that isn't named has its default
     ghost asked: { Self.Requirement → Self.StaticConfig };
 
-    // the error of the first clause that is not met
+    // the error of the first clause that isn't met
     ghost verdict: { Self.Requirement → Agreement → Result (Unit {0}) Self.ClauseError };
 
     // the first requirement asks at most what the second asks
     ghost IsWeaker: { Self.Requirement → Self.Requirement → Type 0 };
 
-    /// The attributes that a service must have; a service that is made has the required pairs.
+    /// The attributes that a service must have; a created service gets the required pairs.
     fn attributes(requirement: &Self::Requirement) -> &AttributeVerifier
         ensures { result.now ≡ attributes requirement.now };
 
-    /// The requirement with these attributes, and all else as it is.
+    /// The requirement with its attributes replaced by these.
     /// Example: `PublishSubscribe::with_attributes(requirement, attributes)`
     fn with_attributes(
         requirement: Self::Requirement,
@@ -90,18 +90,18 @@ pub trait RequiredPattern: AgreedPattern {
     ) -> Self::Requirement
         ensures { result ≡ with_attributes requirement verifier };
 
-    /// The settings that are asked for: each as it was named, each other one at its default.
+    /// The settings that are asked for; a setting that isn't named has its default.
     fn asked(requirement: &Self::Requirement) -> Self::StaticConfig
         ensures { result ≡ asked requirement.now };
 
-    /// Whether the service that is described meets every clause. The error is that of the first that is not met.
+    /// Checks whether the described service meets every clause. The error is that of the first clause that isn't met.
     fn verdict(
         requirement: &Self::Requirement,
         description: &Description,
     ) -> Result<(), Self::ClauseError>
         ensures { result ≡ verdict requirement.now description.now };
 
-    /// The same requirement, in memory of its own. Refused only where an allocation fails; for no attributes there is none.
+    /// A copy of the requirement in memory of its own. It fails only where an allocation fails, and never without attributes.
     fn try_clone(
         requirement: &Self::Requirement,
         alloc: Global,
@@ -113,35 +113,35 @@ pub trait RequiredPattern: AgreedPattern {
     ghost weaker_is_met: { (weak strong : Self.Requirement) (a : Agreement) → IsWeaker weak strong → verdict strong a ≡ Ok tt
         → verdict weak a ≡ Ok tt };
 
-    // only a service of the pattern meets a requirement
+    // only a service of this pattern meets a requirement
     ghost met_is_of_pattern: { (requirement : Self.Requirement) (a : Agreement) → verdict requirement a ≡ Ok tt
         → IsSome (Self.static_config a.settings) };
 }
 
-/// A messaging pattern: what is agreed for a service of it, and what an opener may require.
+/// A messaging pattern: the settings of its services, and what an opener may require of them.
 ///
-/// It is what a builder is written over, so that one builder serves all patterns.
+/// Builders are generic over this trait, so that one builder serves all patterns.
 pub trait Pattern: RequiredPattern {
-    // the settings that a service is created with: each number at least the least that can serve
+    // the settings with which a service is created: each number is at least the least possible one
     ghost adjusted: { Self.StaticConfig → Self.StaticConfig };
 
-    /// The settings that a service is created with: a 0 that can't serve becomes 1.
+    /// The settings with which a service is created: a 0 that isn't possible becomes 1.
     fn adjusted(config: Self::StaticConfig) -> Self::StaticConfig
         ensures { result ≡ adjusted config };
 
-    // within the limits there is a node, and there are fewer than 2^24
+    // settings within the limits have at least 1 node and fewer than 2^24
     ghost has_nodes: { (config : Self.StaticConfig) → AreWithinLimits (Self.settings config) → (1 ≤ max_nodes_of (Self.settings config))
         × (max_nodes_of (Self.settings config) < 2 ^ 24) } = { λ config. patterns.has_nodes (Self.settings config) };
 
-    /// Whether the numbers are within the limits of a description, so that a service may be created with them.
+    /// Whether the numbers are within the limits of a description, so that a service can be created with them.
     final fn is_within_limits(config: &Self::StaticConfig) -> bool
         ensures { IsTrue result ↔ AreWithinLimits (Self.settings config.now) }
     {
         Self::settings(*config).are_within_limits()
     }
 
-    /// Whether a full buffer would hold the publisher up and has no room for the history: such a service isn't
-    /// created. Always false of a pattern without a history.
+    /// Whether the history doesn't fit into a buffer that blocks the publisher when it is full; a service with such settings can't be
+    /// created. It is false for patterns without a history.
     final fn is_history_too_long(config: &Self::StaticConfig) -> bool
         ensures { IsTrue result ↔ HasNoRoomForHistory (Self.settings config.now) }
     {
@@ -149,7 +149,7 @@ pub trait Pattern: RequiredPattern {
     }
 }
 
-/// The description of a service of the pattern, with the hash that belongs to the pattern and the name.
+/// The description of a service of this pattern, with the hash that belongs to the pattern and the name.
 pub fn describe<P: Pattern>(
     name: ServiceName,
     config: P::StaticConfig,
@@ -160,7 +160,7 @@ pub fn describe<P: Pattern>(
     Description::new(name, P::settings(config), attributes)
 }
 
-/// What is agreed for the service that is described, if it is of the pattern; else `None`.
+/// The settings of the described service, if it is of this pattern; else `None`.
 pub fn static_config_of<P: Pattern>(description: &Description) -> Option<P::StaticConfig>
     ensures { result ≡ P.static_config description.now.settings }
 {

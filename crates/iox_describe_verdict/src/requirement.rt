@@ -1,4 +1,4 @@
-//! What an opener requires of a service, and the verdict on a description.
+//! What an opener requires of a service, and the compatibility check of a description.
 ghost use Rattle.std.specs.Prelude.{◌≡◌, ◌∷◌, List, Bool, true, Option, None, Some, if◌then◌else◌, map, IfSome};
 ghost use Rattle.iox_describe_verdict.specs.Earliest.{earlier, earliest, AreSame, rise};
 ghost use Rattle.iox_describe_settings.specs.declared.setting.SettingValue.{SettingValue};
@@ -15,32 +15,32 @@ use iox_describe_settings::{PatternSetting, SettingValue};
 ///
 /// The clauses of a pattern are tested in the order of the variants of its `ClauseError`.
 trait RequiredSetting: PatternSetting {
-    /// What is required of a service of the pattern.
+    /// What an opener requires of a service of this pattern.
     type Requirement;
 
-    /// Why a service of the pattern can't be opened.
+    /// Why a service of this pattern can't be opened.
     type ClauseError: Copy + Ord;
 
-    // what is asked of a setting, where it was named
+    // the value that is asked of a setting, if it is named
     ghost named: { Self → Self.Requirement → Option SettingValue };
 
-    // the error where the settings of a service don't meet that
+    // the error if the service's settings don't meet that
     ghost error: { Self → Self.ClauseError };
 
-    /// What is asked of the setting, where it was named.
+    /// The value that is asked of the setting, if it is named.
     fn named(self, requirement: &Self::Requirement) -> Option<SettingValue>
         ensures { result ≡ named self requirement.now };
 
-    /// The error where the settings of a service don't meet that.
+    /// The error if the service's settings don't meet that.
     fn error(self) -> Self::ClauseError
         ensures { result ≡ error self };
 
-    // what is asked is of the setting's kind
+    // the asked value is of the setting's kind
     ghost named_is_of_kind: { (setting : Self) (requirement : Self.Requirement)
         → IfSome (named setting requirement) (IsOfKind (Self.rule setting)) };
 }
 
-/// The same settings, but that each one that is named is as it was asked.
+/// The configuration after each named setting is changed to the asked value.
 fn asked<S: RequiredSetting>(requirement: &S::Requirement, config: S::Config) -> S::Config
     ensures { result ≡ overlaid S.changed (λ setting. S.named setting requirement.now) S.all config }
 {
@@ -53,8 +53,7 @@ fn asked<S: RequiredSetting>(requirement: &S::Requirement, config: S::Config) ->
     config
 }
 
-/// The error of the first clause that is not met, of that on the attributes and those on the settings,
-/// in the order of their errors.
+/// The error of the first clause that isn't met, among the one on the attributes and those on the settings, in the order of their errors.
 fn first_unmet<S: RequiredSetting>(
     attributes: (bool, S::ClauseError),
     requirement: &S::Requirement,
@@ -71,14 +70,14 @@ fn first_unmet<S: RequiredSetting>(
     }
 }
 
-/// The error of a clause that is not met.
+/// The error of a clause, if it isn't met.
 fn error_of_unmet<E: Copy>(clause: (bool, E)) -> Option<E>
     ensures { result ≡ (if clause.0 then None else Some clause.1) }
 {
     if clause.0 { None } else { Some(clause.1) }
 }
 
-/// The earliest error of the unmet clauses on settings, and of one from before, if there is one.
+/// The earliest error among those of the unmet clauses on settings and `before`, if there is one.
 fn earliest_unmet<S: RequiredSetting>(
     before: Option<S::ClauseError>,
     requirement: &S::Requirement,
@@ -96,7 +95,7 @@ fn earliest_unmet<S: RequiredSetting>(
     first
 }
 
-/// The earlier of an error, if there is one, and another.
+/// The earlier one of two errors, where there may be no first one.
 fn earlier<E: Copy + Ord>(first: Option<E>, error: E) -> E
     ensures { result ≡ earlier E.cmp first error }
 {
@@ -106,7 +105,7 @@ fn earlier<E: Copy + Ord>(first: Option<E>, error: E) -> E
     }
 }
 
-/// Whether a value is as asked, if something was.
+/// Whether a value meets what is asked, if something is asked.
 fn is_met(asked: Option<SettingValue>, given: SettingValue) -> bool
     ensures { result ≡ is_met asked given }
 {
@@ -116,8 +115,8 @@ fn is_met(asked: Option<SettingValue>, given: SettingValue) -> bool
     }
 }
 
-/// Whether a value is as asked: a number is at least the one asked, types are compatible, and a switch or
-/// an option is the same.
+/// Whether a value meets what is asked: a number is at least the asked one, the asked types are compatible with the given ones, and a
+/// switch or an option is equal.
 fn meets(asked: SettingValue, given: SettingValue) -> bool
     ensures { result ≡ meets asked given }
 {

@@ -5,14 +5,14 @@ use Rattle.iox_domain.specs.Domains.{in_state}
 use Rattle.iox_domain.specs.declared.domain.Domain.{Domain}
 use Rattle.iox_domain.specs.declared.state.DomainState.{DomainState}
 
--- whether two ids are one
+-- Whether both ids are the same.
 abbrev pub same_id : DomainId → DomainId → Bool
 same_id a b = (a.hub == b.hub) && (a.service == b.service)
 
--- what a domain lends, if it has this id
+-- The state that the domain lends to a call with this id: its own, if the id is its own, and otherwise none.
 abbrev pub own_state : {T U B D : Type 0} → DomainId → Domain T U B D → Option (DomainState T U B D)
 own_state id domain = if same_id domain.id id then Some domain.state else None
 
--- a domain after one step of what it lends, if it has this id
+-- The domain after this step of its state, if it has this id; otherwise unchanged.
 abbrev pub own_changed : {T U B D : Type 0} → DomainId → (DomainState T U B D → DomainState T U B D) → Domain T U B D → Domain T U B D
 own_changed id step domain = if same_id domain.id id then in_state step domain else domain

@@ -1,24 +1,25 @@
--- What a call of the ports of a domain comes to in its home.
+-- What a call of a domain's ports answers and changes in the domain's home.
 use Rattle.std.specs.Prelude.{ℕ, ◌≡◌, Bool, true, false, Option, None, Some, Result, Ok, Err}
 
--- What a call does at a domain: nothing happens where it isn't here.
+-- What a call answers and changes at a domain; if the home doesn't contain the domain, the answer is None and nothing changes.
 abbrev pub AtDomain : {P H A : Type 0} → (P → H) → (P → Option A → P → Type 0) → Option P → H → Option A → H → Type 0
 AtDomain with_ports step None old answer new = (answer ≡ None) × (new ≡ old)
 AtDomain {P} with_ports step (Some ports) old answer new = (after : P) × step ports answer after × (new ≡ with_ports after)
 
--- who decided for a port is dropped once it left
+-- The home after the handlers of a port were dropped, if the port was closed.
 abbrev pub dropped_if : {H : Type 0} → Bool → (H → H) → H → H
 dropped_if false without home = home
 dropped_if true without home = without home
 
--- A port of a domain leaves: nothing happens where the domain isn't here.
+-- What closing a port of a domain answers and changes; if the home doesn't contain the domain, the answer is false and nothing
+-- changes.
 abbrev pub LeavesDomain : {P H : Type 0} → (P → H) → (H → H) → (P → Bool → P → Type 0) → Option P → H → Bool → H → Type 0
 LeavesDomain with_ports without step None old answer new = (answer ≡ false) × (new ≡ old)
 LeavesDomain {P} with_ports without step (Some ports) old answer new = (after : P) × step ports answer after
     × (new ≡ dropped_if answer without (with_ports after))
 
--- A port comes to a domain, and who decides for it is kept under its number; where it is refused nothing happens, nor where the
--- domain isn't here.
+-- What creating a port in a domain answers and changes: the port's handlers are stored under its number. If the call fails, or
+-- the home doesn't contain the domain, nothing changes.
 abbrev pub MakesAt : {P H E : Type 0} → (P → H) → (ℕ → H → H) → (P → ℕ → P → Type 0) → (P → E) → Option P → H → Option (Result ℕ E) → H
     → Type 0
 MakesAt with_ports keeping step refusal None old answer new = (answer ≡ None) × (new ≡ old)

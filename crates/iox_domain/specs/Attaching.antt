@@ -1,4 +1,4 @@
--- When an update of a subscriber takes no memory.
+-- When an update of a subscriber allocates nothing.
 use Rattle.std.specs.Prelude.{ℕ, ◌+◌, ◌<◌, ◌≤◌, ◌≡◌, ◌≢◌, ◌++◌, ◌∷◌, [], true, false, Bool, is_some, List, length, get_or, Option, None}
 use Rattle.std.specs.Prelude.{Some, Result, Err, if◌then◌else◌}
 use Rattle.iox_domain.specs.Container.declared.container.Member.{Member}
@@ -30,18 +30,18 @@ use Rattle.iox_domain.specs.declared.ports.service_ports.ServicePorts.{ServicePo
 use Rattle.iox_domain.specs.Calls.{PortCall, Happens}
 use Rattle.iox_domain.specs.Tries.{how_often}
 
--- the keys that places hold
+-- The keys to which the places are tied.
 abbrev pub keys_at : List (Option ℕ) → List ℕ
 keys_at [] = []
 keys_at (None ∷ places) = keys_at places
 keys_at (Some key ∷ places) = key ∷ keys_at places
 
--- the keys by which a subscriber has connections: those of its places, and those that expired
+-- The keys under which a subscriber has connections: those of its places, and the expired ones.
 abbrev pub keys_of : SubscriberPort → List ℕ
 keys_of port = keys_at port.places.items ++ port.expired.items
 
--- The keys of a subscriber are in order: one that holds a connection is that of one place, or expired, once; any other is free;
--- and there are as many keys as there may be places and expired connections.
+-- The keys of a subscriber are consistent: a key with a connection belongs to one place or is expired, once; every other key is
+-- free; and there are as many keys as places and expired connections together may be.
 pub record KeysFit (port : SubscriberPort) : Type 0 where
   pub used : (key : ℕ) → how_often key (keys_of port) ≡ (if is_some (attached_at key port) then 1 else 0)
   pub free : (key : ℕ) → 0 < how_often key port.connections.free → (key < length port.connections.values) × (attached_at key port ≡ None)
@@ -50,7 +50,7 @@ pub record KeysFit (port : SubscriberPort) : Type 0 where
   pub places : length port.places.items ≤ port.places.room
   pub expired : length port.expired.items ≤ port.expired.room
 
--- No connection has to be made: each publisher that is listed stands, and has one that leads to the subscriber.
+-- No connection has to be made: each listed publisher is open and has a connection to this subscriber.
 pub record ConnectsListed {T U : Type 0} (listed : List (Option (Member PublisherEntry))) (subscriber : ℕ) (ports : List (ℕ
     × PublisherPort T U)) : Type 0 where
   pub stands : (place : ℕ) (member : Member PublisherEntry) → get_or listed place None ≡ Some member
@@ -58,8 +58,8 @@ pub record ConnectsListed {T U : Type 0} (listed : List (Option (Member Publishe
   pub connected : (place : ℕ) (member : Member PublisherEntry) → get_or listed place None ≡ Some member
       → lacks_connection subscriber (port_of member.value.publisher ports) ≡ false
 
--- Where no connection has to be made, no update of a subscriber fails for want of memory, nor does it so before a receive or the
--- question for data, whatever its handler would say. Its keys are in order from the first on, and stay so.
+-- If no connection has to be made, an update of a subscriber never fails with `OutOfMemory`, nor does a receive or
+-- `has_samples`, whatever the handler answers. The keys of a new subscriber are consistent, and stay so.
 pub record AttachesWithoutMemory (T U : Type 0) (may : DegradationInfo → DegradationAction → Type 0) : Type 0 where
   pub begins : (identity : PortIdentity) (buffer_size most_connections most_expired : ℕ)
       → KeysFit (new_subscriber identity buffer_size most_connections most_expired)
@@ -83,16 +83,18 @@ pub record AttachesWithoutMemory (T U : Type 0) (may : DegradationInfo → Degra
   pub takes : (port new : SubscriberPort) (ports new_ports : List (ℕ × PublisherPort T U)) (answer : Result (Option Taken) ReceiveError)
       → KeysFit port → Receives port ports answer new new_ports → KeysFit new × (new.places.room ≡ port.places.room)
 
--- a subscriber has its keys in order, and so many places
+-- The keys of the subscriber are consistent, and it has capacity for `places` places.
 abbrev pub IsKeyedEntry : ℕ → ℕ × SubscriberPort → Type 0
 IsKeyedEntry places (number, port) = KeysFit port × (port.places.room ≡ places)
 
--- So it is with each subscriber of a service, which has as many places as the list of publishers.
+-- The list of publishers has as many places as the service allows publishers, and the keys of each subscriber are consistent,
+-- with as many places.
 pub record AreKeyed {T U : Type 0} (ports : ServicePorts T U) : Type 0 where
   pub list : length ports.publisher_list.places ≡ ports.sizes.max_publishers
   pub keyed : All (IsKeyedEntry ports.sizes.max_publishers) ports.subscribers
 
--- So it is with a new service, and as each call leaves it; and so each subscriber has a place for all that are listed.
+-- `AreKeyed` holds of a new service, and each call preserves it; with it, each subscriber has capacity for every place that is
+-- listed.
 pub record KeysStay (T U : Type 0) (overrides : ℕ → ℕ → Type 0) (may : DegradationInfo → DegradationAction
     → Type 0) (decide : BackpressureInfo → BackpressureDecision → Type 0) : Type 0 where
   pub begins : (service : ℕ) (sizes : ServiceSizes) → AreKeyed {T = T} {U = U} (no_ports service sizes)

@@ -1,4 +1,4 @@
--- The calls of the ports of a service, each with what its contract says of it.
+-- The calls of a service's ports, each with what its contract says of it.
 use Rattle.std.specs.Prelude.{ℕ, ◌≡◌, Bool, Option, Result}
 use Rattle.iox_domain.specs.DomainValues.declared.backpressure.BackpressureDecision.{BackpressureDecision}
 use Rattle.iox_domain.specs.DomainValues.declared.backpressure.BackpressureInfo.{BackpressureInfo}
@@ -28,8 +28,8 @@ use Rattle.iox_domain.specs.PortsSubscribing as subscribing
 use Rattle.iox_domain.specs.declared.ports.making.PublisherConfig.{PublisherConfig}
 use Rattle.iox_domain.specs.declared.ports.service_ports.ServicePorts.{ServicePorts}
 
--- A call that may change something: by whom, what is asked, and what it answers. The four calls that write into a loan are one here: a
--- loan that passes a test changes.
+-- A call that may change something: the port, the arguments, and the answer. The four calls that write into a loan are one
+-- here, in which a loan that passes a test changes.
 pub data PortCall (T U : Type 0) : Type 0 where
   PublisherComes : (config : PublisherConfig) (user_header : U) (answer : Result ℕ PublisherCreateError) → PortCall T U
   SubscriberComes : (owner : PortOwner) (buffer_size : Option ℕ) (answer : Result ℕ SubscriberCreateError) → PortCall T U
@@ -47,7 +47,7 @@ pub data PortCall (T U : Type 0) : Type 0 where
   Releases : (subscriber : ℕ) (sample : Taken) (answer : Bool) → PortCall T U
   SubscriberLeaves : (subscriber : ℕ) (answer : Bool) → PortCall T U
 
--- What a call does, as its contract says: an override and handlers answer as they may.
+-- What the call answers and changes, as its contract says. Overrides and handlers answer as their traits allow.
 abbrev pub Happens : {T U : Type 0} → (ℕ → ℕ → Type 0) → (DegradationInfo → DegradationAction → Type 0)
     → (BackpressureInfo → BackpressureDecision → Type 0) → PortCall T U → ServicePorts T U → ServicePorts T U → Type 0
 Happens overrides may decide (PublisherComes config user_header answer) old new =

@@ -10,7 +10,7 @@ use Rattle.iox_domain.specs.declared.domain.Domain.{Domain}
 use Rattle.iox_domain.specs.declared.state.DomainState.{DomainState}
 use Rattle.iox_domain.specs.declared.domain_id.DomainId.{DomainId}
 
--- A domain without ports, of the sizes that are agreed in the settings of a publish-subscribe service.
+-- A domain without ports, with the limits that the settings of the publish-subscribe service say.
 pub record IsNewDomain {T U B D : Type 0} (which : DomainId) (expired_connection_buffer : ℕ) (settings : Settings)
     (domain : Domain T U B D) : Type 0 where
   pub id : domain.id ≡ which
@@ -19,10 +19,10 @@ pub record IsNewDomain {T U B D : Type 0} (which : DomainId) (expired_connection
   pub publisher_handlers : domain.state.publisher_handlers ≡ []
   pub subscriber_handlers : domain.state.subscriber_handlers ≡ []
 
--- one step of what a domain lends; all else is as it was
+-- The domain after this step of its state, and otherwise unchanged.
 abbrev pub in_state : {T U B D : Type 0} → (DomainState T U B D → DomainState T U B D) → Domain T U B D → Domain T U B D
 in_state step domain = record domain { state = step domain.state }
 
--- the ports of a domain are others; all else is as it was
+-- The domain with these ports, and otherwise unchanged.
 abbrev pub with_ports : {T U B D : Type 0} → ServicePorts T U → Domain T U B D → Domain T U B D
 with_ports ports domain = in_state (state_with_ports ports) domain

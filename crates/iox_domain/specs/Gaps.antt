@@ -1,4 +1,4 @@
--- What the numbers of messages tell of those that a connection missed.
+-- What the sequence numbers of messages say about those that a connection missed.
 use Rattle.std.specs.Prelude.{ℕ, ◌≡◌, ◌+◌, ◌≤◌, ◌⊎◌, true, List, [], ◌∷◌, ◌++◌, length, is_some, Option, Some}
 use Rattle.std.specs.List.{All}
 use Rattle.iox_domain.specs.DomainValues.declared.backpressure.BackpressureDecision.{BackpressureDecision}
@@ -15,26 +15,27 @@ use Rattle.iox_domain.specs.Order.{leads_in, account_after, Happen, nothing_yet}
 use Rattle.iox_domain.specs.Ports.{no_ports}
 use Rattle.iox_domain.specs.declared.ports.service_ports.ServicePorts.{ServicePorts}
 
--- the number behind those of so many messages from one on; none where they have no numbers
+-- The sequence number behind those of the messages, if the first has number `first`; None if messages aren't numbered.
 abbrev pub sequence_behind : {X : Type 0} → Option ℕ → List X → Option ℕ
 sequence_behind first [] = first
 sequence_behind first (message ∷ messages) = sequence_behind (next_sequence first) messages
 
--- the messages have the numbers from one on, one after the other; none of them has a number where that is none
+-- The messages have consecutive sequence numbers from `first` on; if that is None, none of them has a number.
 abbrev pub AreNumberedFrom : {T U : Type 0} → Option ℕ → List (Message T U) → Type 0
 AreNumberedFrom first [] = Unit {0}
 AreNumberedFrom first (message ∷ messages) = (message.sequence ≡ first) × AreNumberedFrom (next_sequence first) messages
 
--- What a publisher sent so far has numbers, one after the other, of which this is the last; or none of it has a number.
+-- The messages that a publisher sent so far have consecutive sequence numbers, the last of which is `last`; or none of them has
+-- a number, and `last` is None.
 abbrev pub AreNumbered : {T U : Type 0} → List (Message T U) → Option ℕ → Type 0
 AreNumbered sent last = (first : Option ℕ) × AreNumberedFrom first sent × (sequence_behind first sent ≡ next_sequence last)
 
--- the number of a message isn't between two
+-- The sequence number of the message, if it has one, isn't between `low` and `high`.
 abbrev pub IsOutside : {T U : Type 0} → ℕ → ℕ → Message T U → Type 0
 IsOutside low high message = (number : ℕ) → message.sequence ≡ Some number → (number ≤ low) ⊎ (high ≤ number)
 
--- What a connection missed between two messages with these numbers: what its publisher sent between them, which has all numbers between,
--- and none of which it gave or has, so that it dropped it or passed it over.
+-- What a connection missed between two messages with the numbers `low` and `high`: the messages that the publisher sent between
+-- them, which have all numbers between. The connection has given and has none of them, so each was dropped or skipped.
 pub record Missed {T U : Type 0} (one other : Message T U) (low high : ℕ) (sent had : List (Message T U)) : Type 0 where
   pub before : List (Message T U)
   pub missed : List (Message T U)
@@ -44,9 +45,9 @@ pub record Missed {T U : Type 0} (one other : Message T U) (low high : ℕ) (sen
   pub count : low + 1 + length missed ≡ high
   pub outside : All (IsOutside low high) had
 
--- Of any calls from a new service on: what a publisher sent has numbers, one after the other, if its service numbers messages, and
--- else none. And between two messages that a connection gave one after the other it missed all that its publisher sent with numbers
--- between theirs, and nothing else was sent between them.
+-- After any calls on a new service: the messages that a publisher sent are numbered consecutively if the service numbers
+-- messages, and have no numbers otherwise. Between two messages that a connection gave one after the other it missed exactly
+-- the messages that the publisher sent with numbers between theirs.
 pub record GapsTell (T U : Type 0) (overrides : ℕ → ℕ → Type 0) (may : DegradationInfo → DegradationAction
     → Type 0) (decide : BackpressureInfo → BackpressureDecision → Type 0) : Type 0 where
   pub numbered : (service : ℕ) (sizes : ServiceSizes) (calls : List (PortCall T U

@@ -1,4 +1,4 @@
--- Who decides for a port.
+-- The handlers of a port.
 use Rattle.std.specs.Prelude.{◌≡◌, Option, None, Some}
 use Rattle.iox_domain.specs.DomainValues.declared.backpressure.BackpressureDecision.{BackpressureDecision}
 use Rattle.iox_domain.specs.DomainValues.declared.backpressure.BackpressureDecision.TheVariants.{Retry}
@@ -9,21 +9,22 @@ use Rattle.iox_domain.specs.DomainValues.declared.degradation.DegradationCause.{
 use Rattle.iox_domain.specs.DomainValues.declared.degradation.DegradationCause.TheVariants.{FailedToEstablishConnection}
 use Rattle.iox_domain.specs.DomainValues.declared.degradation.DegradationInfo.{DegradationInfo}
 
--- a connection that fails is passed over with a warning
+-- A failed connection is answered with `Warn`.
 abbrev pub passes_over : DegradationCause → DegradationInfo → DegradationAction → Type 0
 passes_over cause info action = action ≡ Warn
 
--- a send waits at a full mailbox
+-- A send waits at a full mailbox.
 abbrev pub waits : BackpressureInfo → BackpressureDecision → Type 0
 waits info decision = decision ≡ Retry
 
--- what may be answered where a connection of a port failed: what may be by who is kept for it, and a warning where nobody is
+-- What may be answered if a connection of a port failed: what the port's handlers may answer, or `Warn` if none are stored for
+-- it.
 abbrev pub kept_degrades : {H : Type 0} → (H → DegradationCause → DegradationInfo → DegradationAction → Type 0) → Option H
     → DegradationInfo → DegradationAction → Type 0
 kept_degrades degrades None = passes_over FailedToEstablishConnection
 kept_degrades degrades (Some kept) = degrades kept FailedToEstablishConnection
 
--- what may be decided where a mailbox is full: what may be by who is kept for the publisher, and the send waits where nobody is
+-- What may be decided at a full mailbox: what the publisher's handlers may decide, or to wait if none are stored for it.
 abbrev pub kept_decides : {H : Type 0} → (H → BackpressureInfo → BackpressureDecision → Type 0) → Option H → BackpressureInfo
     → BackpressureDecision → Type 0
 kept_decides decides None = waits

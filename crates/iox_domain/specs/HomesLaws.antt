@@ -1,4 +1,4 @@
--- What holds of every home, in other words than what it lends.
+-- A theorem about every home.
 use Rattle.std.specs.Prelude.{ℕ, ◌≡◌, Option}
 use Rattle.iox_domain.specs.declared.domain_id.DomainId.{DomainId}
 use Rattle.iox_domain.specs.declared.ports.service_ports.ServicePorts.{ServicePorts}
@@ -6,7 +6,8 @@ use Rattle.iox_domain.specs.Homes.{ports_of, with_ports, with_publisher, with_su
 use Rattle.iox_domain.specs.States.{publisher_handlers_in, subscriber_handler_in}
 use Rattle.iox_domain.specs.declared.state.DomainState.{DomainState}
 
--- Who decides for a port has no part in the ports of any domain of a home, and other ports in one change nothing about who decides.
+-- Storing and removing a port's handlers changes the ports of no domain, and other ports in one domain change no stored
+-- handlers.
 pub record AreApart {T U B D H : Type 0} (domain_of : DomainId → H → Option (DomainState T U B D)) (changed : DomainId
     → (DomainState T U B D → DomainState T U B D) → H → H) : Type 0 where
   pub ports_with_publisher : (id other : DomainId) (number : ℕ) (handlers : B) (home : H)

@@ -1,4 +1,4 @@
--- What fitting comes to, in other words.
+-- Theorems about which types fit.
 use Rattle.std.specs.Prelude.{ℕ, ◌≡◌, ◌≤◌, ◌⊎◌, ◌↔◌, true, is_some, codes, Option}
 use Rattle.iox_domain_values.specs.declared.service_sizes.ServiceSizes.{ServiceSizes}
 use Rattle.iox_describe_settings.specs.DescribeBase.Detail.{Detail, detail}
@@ -8,8 +8,8 @@ use Rattle.iox_describe_settings.specs.declared.static_config.Settings.{Settings
 use Rattle.iox_domain.specs.Fitting.{any_payload, any_user_header, FitTypes, Fits}
 use Rattle.iox_domain.specs.Sizes.{SizesOf}
 
--- The header is that of all services. The user header is the one asked for, and the payload has the name and the size of the one asked
--- for and at least its alignment, if they aren't those that stand for any; whether messages are values or slices is left open.
+-- The header is that of all services. The user header is the one asked for, unless that matches any. The payload has the name
+-- and the size of the one asked for, and at least its alignment, unless that matches any; it may be single values or slices.
 pub record TypesFit (asked_payload asked_user_header : Detail) (types : MessageTypeDetails) : Type 0 where
   pub header : types.header ≡ detail FixedSize (codes "Header") 24 8
   pub user_header : (asked_user_header ≡ any_user_header) ⊎ (types.user_header ≡ asked_user_header)
@@ -17,12 +17,12 @@ pub record TypesFit (asked_payload asked_user_header : Detail) (types : MessageT
       ⊎ ((types.payload.name ≡ asked_payload.name) × (types.payload.size ≡ asked_payload.size)
       × (asked_payload.alignment ≤ types.payload.alignment))
 
--- Types fit exactly if that holds.
+-- Types fit exactly if `TypesFit` holds.
 abbrev pub FitMeans : Type 0
 FitMeans = (payload user_header : Detail) (types : MessageTypeDetails) → FitTypes payload user_header types
     ↔ TypesFit payload user_header types
 
--- What fits has sizes, whatever is asked for expired connections.
+-- Settings that fit have sizes, whatever number of expired connections is asked for.
 abbrev pub WhatFitsHasSizes : Type 0
 WhatFitsHasSizes = (payload user_header : Detail) (settings : Settings) (expired_connection_buffer : ℕ) (sizes : Option ServiceSizes)
     → Fits payload user_header settings → SizesOf expired_connection_buffer settings sizes → is_some sizes ≡ true

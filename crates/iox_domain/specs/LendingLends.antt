@@ -1,4 +1,4 @@
--- What the ports of a service end as, once a `&mut` into a loan has ended.
+-- The final state of a service's ports once a `&mut` into a loan has ended.
 use Rattle.std.specs.Prelude.{ℕ, Option}
 use Rattle.std.specs.Borrow.{Fml, LendsIf, MutBor, RattleType}
 use Rattle.iox_domain_ports.specs.Messages.{write_value, write_user_header}
@@ -7,12 +7,14 @@ use Rattle.iox_domain.specs.declared.ports.service_ports.ServicePorts.{ServicePo
 use Rattle.iox_domain.specs.contracts.ports.service_ports.ServicePorts.{the_row}
 
 module _ (T U : RattleType) where
-  -- the last value behind the reference is written at a place of the loan in a slot; where none was lent nothing has changed
+  -- The ports end with the last value behind the reference written at this place of the loan in this slot; if nothing was lent,
+  -- they are unchanged.
   abbrev pub LendsValue : MutBor (ServicePorts T.Denot U.Denot) → ℕ → ℕ → ℕ → Option (MutBor T.Denot) → Fml
   LendsValue ports number slot place answer
       = LendsIf (the_row T U) T ports answer (λ value. loan_changed_in number slot (write_value place value) ports.now) ports.now
 
-  -- the last user header behind the reference is that of the loan in a slot; where none was lent nothing has changed
+  -- The ports end with the last user header behind the reference in the loan in this slot; if nothing was lent, they are
+  -- unchanged.
   abbrev pub LendsUserHeader : MutBor (ServicePorts T.Denot U.Denot) → ℕ → ℕ → Option (MutBor U.Denot) → Fml
   LendsUserHeader ports number slot answer
       = LendsIf (the_row T U) U ports answer (λ user_header. loan_changed_in number slot (write_user_header user_header) ports.now)

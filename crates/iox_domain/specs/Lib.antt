@@ -1,4 +1,4 @@
--- The definitions that the contracts about loans that may still be made cite.
+-- The definitions that contracts about the ports of a service cite.
 pub mod Kept
 pub mod Handling
 pub mod States

@@ -1,4 +1,4 @@
--- What each call adds to what lives, and takes from it.
+-- How each call changes the counts of what is alive.
 use Rattle.std.specs.Prelude.{ℕ, ◌+◌, ◌^◌, ◌<◌, ◌≡◌, Bool, true, is_some, Option, None, Some, Result, Ok, Err}
 use Rattle.iox_domain.specs.DomainValues.declared.backpressure.BackpressureDecision.{BackpressureDecision}
 use Rattle.iox_domain.specs.DomainValues.declared.backpressure.BackpressureInfo.{BackpressureInfo}
@@ -30,37 +30,37 @@ use Rattle.iox_domain.specs.PortsSubscribing as subscribing
 use Rattle.iox_domain.specs.declared.ports.making.PublisherConfig.{PublisherConfig}
 use Rattle.iox_domain.specs.declared.ports.service_ports.ServicePorts.{ServicePorts}
 
--- as much lives of each owner, and of all, as before
+-- Of each owner, and of all owners together, as much is alive as before.
 abbrev pub AsMuchLives : {T U : Type 0} → ServicePorts T U → ServicePorts T U → Type 0
 AsMuchLives old new = (owner : Option ℕ) → living owner new ≡ living owner old
 
--- one more lives of an owner, and of all; of each other owner as much as before
+-- One more is alive of this owner, and of all owners together; of each other owner as much as before.
 abbrev pub OneMoreLives : {T U : Type 0} → ℕ → ServicePorts T U → ServicePorts T U → Type 0
 OneMoreLives number old new = (owner : Option ℕ) → living owner new ≡ living owner old + counted owner number 1
 
--- one less lives of an owner, and of all; of each other owner as much as before
+-- One less is alive of this owner, and of all owners together; of each other owner as much as before.
 abbrev pub OneLessLives : {T U : Type 0} → ℕ → ServicePorts T U → ServicePorts T U → Type 0
 OneLessLives number old new = (owner : Option ℕ) → living owner new + counted owner number 1 ≡ living owner old
 
--- a loan that is made is one more
+-- A loan that was made adds one.
 abbrev pub LoanAdds : {T U : Type 0} → ℕ → Option (Result ℕ LoanError) → ServicePorts T U → ServicePorts T U → Type 0
 LoanAdds number None old new = AsMuchLives old new
 LoanAdds number (Some (Err error)) old new = AsMuchLives old new
 LoanAdds number (Some (Ok slot)) old new = OneMoreLives number old new
 
--- a send that ended is one less, that of its loan; while it waits it counts as the loan did
+-- A send that is finished takes one away, that of its loan; while the send waits it counts as its loan did.
 abbrev pub SendTakes : {T U : Type 0} → ℕ → Option (Result Sent SendError) → ServicePorts T U → ServicePorts T U → Type 0
 SendTakes number None old new = AsMuchLives old new
 SendTakes number (Some (Ok sent.Blocked)) old new = AsMuchLives old new
 SendTakes number (Some (Ok (sent.Delivered connections))) old new = OneLessLives number old new
 SendTakes number (Some (Err error)) old new = OneLessLives number old new
 
--- a send that is given up is one less
+-- A send that is given up takes one away.
 abbrev pub GivingUpTakes : {T U : Type 0} → ℕ → Option ℕ → ServicePorts T U → ServicePorts T U → Type 0
 GivingUpTakes number None old new = AsMuchLives old new
 GivingUpTakes number (Some delivered) old new = OneLessLives number old new
 
--- What each call at a publisher adds to what lives of its owner, and takes from it.
+-- How each call at a publisher changes the count of what is alive of its owner.
 pub record PublisherSteps (T U : Type 0) (may_degrade : DegradationInfo → DegradationAction → Type 0) (may : BackpressureInfo
     → BackpressureDecision → Type 0) : Type 0 where
   pub loan : (number values elements : ℕ) (port : PublisherPort T U) (old new : ServicePorts T U) (answer : Option (Result ℕ LoanError))
@@ -87,14 +87,14 @@ pub record PublisherSteps (T U : Type 0) (may_degrade : DegradationInfo → Degr
   pub leave : (number : ℕ) (port : PublisherPort T U) (old new : ServicePorts T U) → port_of number old.publishers ≡ Some port
       → LeavesAt number (Some port) old true new → OneLessLives port.owner.number old new
 
--- a sample that came is one more
+-- A sample that was received adds one.
 abbrev pub ReceivingAdds : {T U : Type 0} → ℕ → Option (Result (Option Taken) ReceiveError) → ServicePorts T U → ServicePorts T U → Type 0
 ReceivingAdds number None old new = AsMuchLives old new
 ReceivingAdds number (Some (Err error)) old new = AsMuchLives old new
 ReceivingAdds number (Some (Ok None)) old new = AsMuchLives old new
 ReceivingAdds number (Some (Ok (Some taken))) old new = OneMoreLives number old new
 
--- What each call at a subscriber adds to what lives of its owner, and takes from it. What is held is counted up to 2^64 - 1.
+-- How each call at a subscriber changes the count of what is alive of its owner. Held samples are counted up to 2^64 - 1.
 pub record SubscriberSteps (T U : Type 0) (may : DegradationInfo → DegradationAction → Type 0) : Type 0 where
   pub update : (number : ℕ) (port : SubscriberPort) (old new : ServicePorts T U) (answer : Option (Result (Unit {0}) ConnectionFailure))
       → subscriber_of number old.subscribers ≡ Some port
@@ -112,7 +112,7 @@ pub record SubscriberSteps (T U : Type 0) (may : DegradationInfo → Degradation
   pub leave : (number : ℕ) (port : SubscriberPort) (old new : ServicePorts T U) → subscriber_of number old.subscribers ≡ Some port
       → subscribing.LeavesAt number (Some port) old true new → OneLessLives port.owner.number old new
 
--- A port that comes, under a number that is new, is one more.
+-- A port that is created, under a new number, adds one.
 pub record CreatingSteps (T U : Type 0) (overrides : ℕ → ℕ → Type 0) (may : DegradationInfo → DegradationAction → Type 0) : Type 0 where
   pub publisher : (config : PublisherConfig) (user_header : U) (needed place : Option ℕ) (number : ℕ) (old new : ServicePorts T U)
       → port_of old.next_port old.publishers ≡ None

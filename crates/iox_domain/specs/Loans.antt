@@ -1,4 +1,4 @@
--- How many loans the publishers of a service may still make, and what each call of a port makes of that.
+-- How many more loans the publishers of a service may make, and how each call of a port changes that.
 use Rattle.std.specs.Prelude.{ℕ, ◌+◌, ◌-◌, ◌≤◌, ◌≡◌, length, sum_by, true, Some, Ok, if◌then◌else◌}
 use Rattle.std.specs.Map.{values_of}
 use Rattle.iox_domain.specs.DomainValues.declared.backpressure.BackpressureDecision.{BackpressureDecision}
@@ -13,33 +13,33 @@ use Rattle.iox_domain.specs.PortsPublishing.{LeavesAt}
 use Rattle.iox_domain.specs.declared.ports.service_ports.ServicePorts.{ServicePorts}
 use Rattle.iox_domain.specs.Calls.{PortCall, PublisherComes, Lends, GivesLoanUp, Sends, Happens}
 
--- how many loans a publisher may still make: none once it left
+-- How many more loans the publisher may make; none once it is closed.
 abbrev pub spare_loans : {T U : Type 0} → PublisherPort T U → ℕ
 spare_loans port = if port.stands then port.sender.uses.most_loans - length port.sender.uses.loans else 0
 
--- how many loans all publishers of a service may still make
+-- How many more loans all publishers of the service may make.
 abbrev pub loans_left : {T U : Type 0} → ServicePorts T U → ℕ
 loans_left ports = sum_by (λ port. spare_loans port) (values_of ports.publishers)
 
--- how many loans a call made
+-- How many loans the call made.
 abbrev pub lent_by : {T U : Type 0} → PortCall T U → ℕ
 lent_by (Lends publisher values elements (Some (Ok slot))) = 1
 lent_by call = 0
 
--- how many loans a call may have ended: the one that is given up, or whose send began
+-- How many loans the call may have ended: the one that it dropped, or the one that it began to send.
 abbrev pub ended_by : {T U : Type 0} → PortCall T U → ℕ
 ended_by (GivesLoanUp publisher slot) = 1
 ended_by (Sends publisher slot (Some answer)) = 1
 ended_by call = 0
 
--- how many loans a publisher that comes by a call may make
+-- How many loans the publisher may make that the call created.
 abbrev pub brought_by : {T U : Type 0} → PortCall T U → ℕ
 brought_by (PublisherComes config user_header (Ok number)) = config.max_loaned_samples
 brought_by call = 0
 
--- In a new service no loan may be made. After each call at most as many may still be made as before, and as many more as it may
--- have ended and as the publisher that came by it may make, less the one that the call made. What a publisher that leaves could
--- still make may no longer be made.
+-- In a new service no loan may be made. Each call makes at most as many more loans possible as it may have ended and as the
+-- publisher that it created may make, less the loan that it made. A publisher that is closed takes with it what it could still
+-- make.
 pub record LoansLeft (T U : Type 0) (overrides : ℕ → ℕ → Type 0) (may : DegradationInfo → DegradationAction
     → Type 0) (decide : BackpressureInfo → BackpressureDecision → Type 0) : Type 0 where
   pub begins : (service : ℕ) (sizes : ServiceSizes) → loans_left {T = T} {U = U} (no_ports service sizes) ≡ 0

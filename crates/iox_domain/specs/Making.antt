@@ -1,4 +1,4 @@
--- A publisher and a subscriber come.
+-- A publisher and a subscriber are created.
 use Rattle.std.specs.Prelude.{ℕ, ◌≡◌, ◌+◌, ◌^◌, max, nat_lt, List, Option, None, Some, Result, Ok, Err, if◌then◌else◌}
 use Rattle.std.specs.declared.alloc.AllocError.{AllocError}
 use Rattle.iox_domain_ports.specs.Container.declared.container.Member.{Member}
@@ -32,29 +32,30 @@ use Rattle.iox_domain.specs.Subscribers.{subscriber_added}
 use Rattle.iox_domain.specs.declared.ports.making.PublisherConfig.{PublisherConfig}
 use Rattle.iox_domain.specs.declared.ports.service_ports.ServicePorts.{ServicePorts}
 
--- how many slots a publisher needs in the worst case; none are enough for 2^32 or more, or for so many values in one
+-- How many slots a publisher needs in the worst case; None if that is 2^32 or more, or if a slot is to have room for 2^32
+-- values or more.
 abbrev pub slots_needed : {T U : Type 0} → PublisherConfig → ServicePorts T U → Option ℕ
 slots_needed config ports = if nat_lt config.values (2 ^ 32) then within (worst_case ports.sizes config.max_loaned_samples) else None
 
--- a place, if a port may get the next number: ports are counted up to 2^64 - 2
+-- The place, if the port may get the next number: ports are numbered up to 2^64 - 2.
 abbrev pub numbered : {T U : Type 0} → Option ℕ → ServicePorts T U → Option ℕ
 numbered place ports = if nat_lt (ports.next_port + 1) (2 ^ 64) then place else None
 
--- the place that the next publisher gets
+-- The place that the next publisher gets.
 abbrev pub publisher_place : {T U : Type 0} → ServicePorts T U → Option ℕ
 publisher_place ports = numbered (free_place ports.publisher_list) ports
 
--- the place that the next subscriber gets
+-- The place that the next subscriber gets.
 abbrev pub subscriber_place : {T U : Type 0} → ServicePorts T U → Option ℕ
 subscriber_place ports = numbered (free_place ports.subscriber_list) ports
 
--- how many segments a publisher may have
+-- The maximum number of segments of a publisher.
 abbrev pub segments_of : AllocationStrategy → ℕ
 segments_of allocation.Static = 1
 segments_of allocation.BestFit = 255
 segments_of allocation.PowerOfTwo = 255
 
--- how many messages a publisher and its connections may have
+-- The capacities of a publisher and of its connections.
 abbrev pub sender_config : {T U : Type 0} → PublisherConfig → ℕ → ServicePorts T U → SenderConfig
 sender_config config slots ports = record {
   overflows = ports.sizes.enable_safe_overflow;
@@ -67,15 +68,16 @@ sender_config config slots ports = record {
   most_borrowed = ports.sizes.subscriber_max_borrowed_samples;
 }
 
--- which port comes next
+-- The identity of the next port.
 abbrev pub identity_of : {T U : Type 0} → PortOwner → ℕ → ServicePorts T U → PortIdentity
 identity_of owner place ports = record { service = ports.service; number = ports.next_port; owner = owner; place = place }
 
--- the number before the first message of a publisher of this config; none where the service doesn't number messages
+-- The sequence number before the first message of a publisher with this config; None if the service doesn't number messages.
 abbrev pub sequence_before : {T U : Type 0} → PublisherConfig → ServicePorts T U → Option ℕ
 sequence_before config ports = before_first ports.sizes.sequence_numbers config.first_sequence
 
--- A publisher comes at a place, with so many slots, as one that followed the list of subscribers; without memory nothing changes.
+-- A publisher with `slots` slots is created at this place, after it followed the list of subscribers. If an allocation fails
+-- nothing changes.
 abbrev pub AddsPublisher : {T U : Type 0} → (DegradationInfo → DegradationAction → Type 0) → PublisherConfig → U → ℕ → ℕ
     → ServicePorts T U → Result ℕ AllocError → ServicePorts T U → Type 0
 AddsPublisher may config user_header place slots old (Err error) new = new ≡ old
@@ -92,18 +94,20 @@ AddsPublisher {T} {U} may config user_header place slots old (Ok number) new =
       publishers = added old.next_port port old.publishers;
     })
 
--- what is answered of a publisher that came, or didn't for want of memory
+-- What is answered after a publisher was created, or an allocation failed.
 abbrev pub publisher_answer : Result ℕ AllocError → Result ℕ PublisherCreateError
 publisher_answer (Ok number) = Ok number
 publisher_answer (Err error) = Err publishing.UnableToCreateDataSegment
 
--- why a publisher isn't made that needs so many slots and gets this place: for want of memory, where there are such
+-- The error of a publisher that needs so many slots, and gets this place: `UnableToCreateDataSegment` for too many slots,
+-- `ExceedsMaxSupportedPublishers` without a place, and `UnableToCreateDataSegment` otherwise, since an allocation failed.
 abbrev pub publisher_refusal : Option ℕ → Option ℕ → PublisherCreateError
 publisher_refusal None place = publishing.UnableToCreateDataSegment
 publisher_refusal (Some needed) None = publishing.ExceedsMaxSupportedPublishers
 publisher_refusal (Some needed) (Some place) = publishing.UnableToCreateDataSegment
 
--- A publisher is made where it needs so many slots, and a place is free; it gets as many as an answer comes to that is allowed.
+-- What the call answers and changes: a publisher is created if the number of slots that it needs is allowed, and a place is
+-- free. It gets as many slots as the override answers, but at least 1 and at most the worst case.
 abbrev pub CreatesPublisher : {T U : Type 0} → (ℕ → ℕ → Type 0) → (DegradationInfo → DegradationAction → Type 0) → PublisherConfig → U
     → Option ℕ → Option ℕ → ServicePorts T U → Result ℕ PublisherCreateError → ServicePorts T U → Type 0
 CreatesPublisher overrides may config user_header None place old answer new = (answer ≡ Err publishing.UnableToCreateDataSegment)
@@ -114,7 +118,7 @@ CreatesPublisher overrides may config user_header (Some needed) (Some place) old
     (slots : ℕ) × overrides (max needed 1) slots × (outcome : Result ℕ AllocError)
     × AddsPublisher may config user_header place (places (max needed 1) slots) old outcome new × (answer ≡ publisher_answer outcome)
 
--- the subscriber of a number follows the list of publishers, if there is one
+-- The subscriber, if there is one, follows the list of publishers.
 abbrev pub FollowsFirst : {T U : Type 0} → (DegradationInfo → DegradationAction → Type 0) → ℕ → Option SubscriberPort → ServicePorts T U
     → ServicePorts T U → Type 0
 FollowsFirst may number None old new = new ≡ old
@@ -124,11 +128,11 @@ FollowsFirst {T} {U} may number (Some port) old new =
     × subscriber.Updates may listed old.publisher_list.changes port old.publishers outcome after publishers_after
     × (new ≡ with_both number after publishers_after old)
 
--- a subscriber comes under the next number
+-- The ports after a subscriber was added under the next number.
 abbrev pub with_new : {T U : Type 0} → SubscriberPort → ServicePorts T U → ServicePorts T U
 with_new port ports = record ports { subscribers = subscriber_added ports.next_port port ports.subscribers }
 
--- A subscriber comes at a place, and follows the list of publishers; without memory nothing changes.
+-- A subscriber is created at this place, and follows the list of publishers. If an allocation fails nothing changes.
 abbrev pub AddsSubscriber : {T U : Type 0} → (DegradationInfo → DegradationAction → Type 0) → PortOwner → ℕ → ℕ → ServicePorts T U
     → Result ℕ AllocError → ServicePorts T U → Type 0
 AddsSubscriber may owner place buffer_size old (Err error) new = new ≡ old
@@ -144,19 +148,19 @@ AddsSubscriber {T} {U} may owner place buffer_size old (Ok number) new =
           = entered place (record { subscriber = old.next_port; buffer_size = buffer_size }) old.subscriber_list;
     })
 
--- what is answered of a subscriber that came, or didn't for want of memory
+-- What is answered after a subscriber was created, or an allocation failed.
 abbrev pub subscriber_answer : Result ℕ AllocError → Result ℕ SubscriberCreateError
 subscriber_answer (Ok number) = Ok number
 subscriber_answer (Err error) = Err subscribing.OutOfMemory
 
--- why a subscriber isn't made for whom so many messages may wait, or that is refused for it, and that gets this place: for want
--- of memory, where there are such
+-- The error of a subscriber with this buffer size (or the error of that) and this place: the error of the buffer size,
+-- `ExceedsMaxSupportedSubscribers` without a place, and `OutOfMemory` otherwise, since an allocation failed.
 abbrev pub subscriber_refusal : Result ℕ SubscriberCreateError → Option ℕ → SubscriberCreateError
 subscriber_refusal (Err refusal) place = refusal
 subscriber_refusal (Ok buffer_size) None = subscribing.ExceedsMaxSupportedSubscribers
 subscriber_refusal (Ok buffer_size) (Some place) = subscribing.OutOfMemory
 
--- A subscriber is made where as many messages may wait for it as it names, and a place is free.
+-- What the call answers and changes: a subscriber is created if the service allows the buffer size, and a place is free.
 abbrev pub CreatesSubscriber : {T U : Type 0} → (DegradationInfo → DegradationAction → Type 0) → PortOwner
     → Result ℕ SubscriberCreateError → Option ℕ → ServicePorts T U → Result ℕ SubscriberCreateError → ServicePorts T U → Type 0
 CreatesSubscriber may owner (Err refusal) place old answer new = (answer ≡ Err refusal) × (new ≡ old)

@@ -1,4 +1,4 @@
--- Each number is given to one port.
+-- Each number is given to at most one port.
 use Rattle.std.specs.Prelude.{ℕ, ◌<◌, ◌≡◌, Bool, All, Option, None, Result}
 use Rattle.std.specs.Map.{keys_of}
 use Rattle.iox_domain.specs.DomainValues.declared.backpressure.BackpressureDecision.{BackpressureDecision}
@@ -29,12 +29,12 @@ use Rattle.iox_domain.specs.PortsSubscribing as subscribing
 use Rattle.iox_domain.specs.declared.ports.making.PublisherConfig.{PublisherConfig}
 use Rattle.iox_domain.specs.declared.ports.service_ports.ServicePorts.{ServicePorts}
 
--- each port has a number that was given out
+-- The number of each port is below the next one.
 abbrev pub IsNumbered : {T U : Type 0} → ServicePorts T U → Type 0
 IsNumbered ports = All (λ number. number < ports.next_port) (keys_of ports.publishers)
     × All (λ number. number < ports.next_port) (keys_of ports.subscribers)
 
--- Each port of a new service, and after each call, has a number that was given out: the number that comes next is nobody's.
+-- The number of each port is below the next one in a new service, and after each call; so no port has the next number yet.
 pub record NumbersStay (T U : Type 0) (overrides : ℕ → ℕ → Type 0) (may_degrade : DegradationInfo → DegradationAction
     → Type 0) (may : BackpressureInfo → BackpressureDecision → Type 0) : Type 0 where
   pub new : (service : ℕ) (sizes : ServiceSizes) → IsNumbered {T = T} {U = U} (no_ports service sizes)

@@ -1,10 +1,10 @@
--- What a domain is made of.
+-- The parts of a domain.
 use Rattle.std.specs.Prelude.{◌==◌, ◌&&◌, nat_le, Bool}
 use Rattle.std.specs.Bool.{beq}
 use Rattle.iox_domain.specs.declared.domain.Domain.{Domain}
 use Rattle.iox_domain.specs.declared.parts.DomainParts.{DomainParts}
 
--- the parts of a domain
+-- The parts of this domain.
 abbrev pub parts_of : {T U B D : Type 0} → Domain T U B D → DomainParts T U B D
 parts_of domain = record {
   id = domain.id;
@@ -21,7 +21,7 @@ parts_of domain = record {
   blank = domain.state.blank;
 }
 
--- the domain of these parts
+-- The domain of these parts.
 abbrev pub domain_of : {T U B D : Type 0} → DomainParts T U B D → Domain T U B D
 domain_of parts = record {
   id = parts.id;
@@ -42,7 +42,7 @@ domain_of parts = record {
   };
 }
 
--- whether parts are of one service, and allow as much as its nodes agreed on
+-- Whether the parts belong to one service, and their sizes are those on which its nodes agreed.
 abbrev pub agrees : {T U B D : Type 0} → DomainParts T U B D → Bool
 agrees parts =
     (parts.service == parts.id.service) && (parts.sizes.max_publishers == parts.agreed.max_publishers)

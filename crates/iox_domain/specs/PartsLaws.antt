@@ -1,4 +1,4 @@
--- That the parts of a domain agree.
+-- The parts of a domain agree.
 use Rattle.std.specs.Prelude.{ℕ, ◌≡◌, true}
 use Rattle.iox_domain.specs.DescribeSettings.declared.static_config.Settings.{Settings}
 use Rattle.iox_domain.specs.DomainValues.declared.backpressure.BackpressureDecision.{BackpressureDecision}
@@ -11,7 +11,7 @@ use Rattle.iox_domain.specs.Domains.{IsNewDomain}
 use Rattle.iox_domain.specs.Parts.{parts_of, agrees}
 use Rattle.iox_domain.specs.declared.domain.Domain.{Domain}
 
--- The parts of a new domain agree, and those of one agree after a call of its ports that agreed before it.
+-- The parts of a new domain agree, and each call of its ports preserves this.
 pub record PartsAgree (T U B D : Type 0) (overrides : ℕ → ℕ → Type 0) (may : DegradationInfo → DegradationAction
     → Type 0) (decide : BackpressureInfo → BackpressureDecision → Type 0) : Type 0 where
   pub new : (which : DomainId) (expired_connection_buffer : ℕ) (settings : Settings) (domain : Domain T U B D)

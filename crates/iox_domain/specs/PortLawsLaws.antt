@@ -1,4 +1,4 @@
--- What the calls of the ports of a service come to, in other words than their steps.
+-- Theorems about the calls of a service's ports.
 use Rattle.std.specs.Prelude.{ℕ, ◌≡◌, ◌≢◌, ◌<◌, ◌≤◌, ◌==◌, ◌&&◌, ◌⊎◌, Bool, true, false, List, length, get_or, is_some, Option, None}
 use Rattle.std.specs.Prelude.{Some, Result, Ok, Err}
 use Rattle.std.specs.List.{All}
@@ -33,26 +33,26 @@ use Rattle.iox_domain.specs.Subscribers.{subscriber_of}
 use Rattle.iox_domain.specs.PortsSubscribing.{ReceivesOne}
 use Rattle.iox_domain.specs.declared.ports.service_ports.ServicePorts.{ServicePorts}
 
--- a connection that there isn't holds nothing
+-- A connection that doesn't exist holds nothing.
 abbrev pub IsTidy : {T U : Type 0} → PublisherPort T U → Type 0
 IsTidy port = (index : ℕ) → (connection_of index port).stage ≡ stage.Vacant → connection_of index port ≡ nobody
 
--- a publisher goes by a number that was given out, and is tidy
+-- The publisher's number is below the next one, and it is tidy.
 abbrev pub IsSoundEntry : {T U : Type 0} → ℕ → ℕ × PublisherPort T U → Type 0
 IsSoundEntry next (number, port) = (number < next) × IsTidy port
 
--- each publisher of the service is so
+-- Each publisher of the service is a sound entry.
 abbrev pub IsSound : {T U : Type 0} → ServicePorts T U → Type 0
 IsSound ports = All (IsSoundEntry ports.next_port) ports.publishers
 
--- whether a call gives this sample back
+-- Whether the call releases this sample.
 abbrev pub gives_back : {T U : Type 0} → Taken → PortCall T U → Bool
 gives_back sample (Releases subscriber other answer) =
     (sample.publisher == other.publisher) && ((sample.index == other.index) && (sample.slot == other.slot))
 gives_back sample call = false
 
--- A sample that is held reads the same after each call but the one that gives it back, whoever calls; of a service that is sound, as a
--- new one is and as each call leaves it.
+-- A held sample reads the same after each call except the one that releases it, whichever port makes the call. This holds in a
+-- sound service; a new service is sound, and each call preserves this.
 pub record HeldStays (T U : Type 0) (overrides : ℕ → ℕ → Type 0) (may : DegradationInfo → DegradationAction
     → Type 0) (decide : BackpressureInfo → BackpressureDecision → Type 0) : Type 0 where
   pub begins : (service : ℕ) (sizes : ServiceSizes) (ports : ServicePorts T U) → ports ≡ no_ports service sizes → IsSound ports
@@ -61,33 +61,33 @@ pub record HeldStays (T U : Type 0) (overrides : ℕ → ℕ → Type 0) (may : 
       → Happens overrides may decide call old new → IsSound old
       → gives_back sample call ≡ false → sample_in sample old ≡ Some message → sample_in sample new ≡ Some message
 
--- What a subscriber receives is held then: it can be read at once.
+-- What a subscriber receives is held afterwards, so that it can be read.
 abbrev pub ReceivedIsHeld : (T U : Type 0) → (DegradationInfo → DegradationAction → Type 0) → Type 0
 ReceivedIsHeld T U may =
     (number : ℕ) (old new : ServicePorts T U) (sample : Taken)
     → AtSubscriber number (ReceivesOne may old.publisher_list) (subscriber_of number old.subscribers) old (Some (Ok (Some sample))) new
     → (message : Message T U) × (sample_in sample new ≡ Some message)
 
--- no two places of the list of subscribers are tied to one connection
+-- No two places of the list of subscribers are tied to the same connection.
 abbrev pub AreTiesApart : {T U : Type 0} → PublisherPort T U → Type 0
 AreTiesApart port = (one other index : ℕ) → get_or port.ties.items one None ≡ Some index
     → get_or port.ties.items other None ≡ Some index → one ≡ other
 
--- no subscriber is listed twice, and each goes by a number that was given out
+-- No subscriber is listed twice, and the number of each is below the next one.
 pub record IsListApart (next : ℕ) (places : List (Option (Member SubscriberEntry))) : Type 0 where
   pub apart : (one other : ℕ) (first second : Member SubscriberEntry) → get_or places one None ≡ Some first
       → get_or places other None ≡ Some second
       → first.value.subscriber ≡ second.value.subscriber → one ≡ other
   pub below : (place : ℕ) (member : Member SubscriberEntry) → get_or places place None ≡ Some member → member.value.subscriber < next
 
--- somebody reads at the connection of an index, or a place is tied to it
+-- Whether the connection with this index is known: a subscriber reads it, or a place is tied to it.
 abbrev pub IsKnown : {T U : Type 0} → ℕ → PublisherPort T U → Type 0
 IsKnown index port = (is_attached (get_or port.readers index None) ≡ true)
     ⊎ ((place : ℕ) × (get_or port.ties.items place None ≡ Some index))
 
--- The ties of a publisher are apart, and each is to a connection that goes on; each connection with a reader goes on; no place but its own
--- is tied to the connection of a listed subscriber; each tie is to a subscriber that came; there is room for each place of the list; and
--- a connection goes on only where somebody reads, or a place is tied to it.
+-- The ties of a publisher are consistent: no two are to the same connection; each is to a live connection; each connection with
+-- a reader is live; no place except its own is tied to the connection of a listed subscriber; each tie is to a subscriber with
+-- a number below the next one; there is capacity for each place of the list; and each live connection is known.
 pub record IsTiedWell {T U : Type 0} (next : ℕ) (places : List (Option (Member SubscriberEntry))) (port : PublisherPort T U) : Type 0 where
   pub apart : AreTiesApart port
   pub live : (place index : ℕ) → get_or port.ties.items place None ≡ Some index → is_live index port ≡ true
@@ -98,18 +98,18 @@ pub record IsTiedWell {T U : Type 0} (next : ℕ) (places : List (Option (Member
   pub room : length places ≤ port.ties.room
   pub known : (index : ℕ) → is_live index port ≡ true → IsKnown index port
 
--- so it is with a publisher that stands
+-- An open publisher has consistent ties.
 abbrev pub IsWellEntry : {T U : Type 0} → ℕ → List (Option (Member SubscriberEntry)) → ℕ × PublisherPort T U → Type 0
 IsWellEntry next places (number, port) = port.stands ≡ true → IsTiedWell next places port
 
--- The list of subscribers is apart, and so are the ties of each publisher that stands.
+-- No subscriber is listed twice, and the ties of each open publisher are consistent.
 pub record IsApart {T U : Type 0} (ports : ServicePorts T U) : Type 0 where
   pub places : length ports.subscriber_list.places ≡ ports.sizes.max_subscribers
   pub list : IsListApart ports.next_port ports.subscriber_list.places
   pub well : All (IsWellEntry ports.next_port ports.subscriber_list.places) ports.publishers
 
--- A mailbox is as it was, or it got the message that is sent, once: at a place from the one that the send had come to, up to the one that
--- it comes to next.
+-- The mailbox is unchanged, or it got the message that is being sent, once: at a place from where the send was up to where it
+-- is now.
 abbrev pub GotAtMostOnce : {T U : Type 0} → ℕ → PublisherPort T U → PublisherPort T U → Type 0
 GotAtMostOnce {T} {U} index old new =
     (connection_of index new ≡ connection_of index old)
@@ -118,8 +118,8 @@ GotAtMostOnce {T} {U} index old new =
     × (old.sender.uses.sending ≡ Some message)
     × (connection_of index new ≡ offered old.sender.uses.overflows message (connection_of index old)))
 
--- The ties of each publisher that stands are apart, of a service that is, as a new one is and as each call leaves it, also in the middle of
--- a send after its update; so a send, and one that is tried again, comes to each mailbox at most once.
+-- The list of subscribers and the ties of open publishers are consistent in a new service, and each call preserves this; the
+-- ties are also apart during a send, after its update. So a send, or one more try of it, comes to each mailbox at most once.
 pub record AtMostOnce (T U : Type 0) (overrides : ℕ → ℕ → Type 0) (may : DegradationInfo → DegradationAction
     → Type 0) (decide : BackpressureInfo → BackpressureDecision → Type 0) : Type 0 where
   pub begins : (service : ℕ) (sizes : ServiceSizes) (ports : ServicePorts T U) → ports ≡ no_ports service sizes → IsApart ports
@@ -133,22 +133,22 @@ pub record AtMostOnce (T U : Type 0) (overrides : ℕ → ℕ → Type 0) (may :
   pub once : (old new : PublisherPort T U) (answer : Result Sent SendError) (index : ℕ) → AreTiesApart old
       → Finishes decide old answer new → GotAtMostOnce index old new
 
--- Of any calls from a new service on: a connection of a publisher that stands goes on only where somebody reads, or a place of the list of
--- subscribers is tied to it.
+-- After any calls from a new service on, each live connection of an open publisher is known: a subscriber reads it, or a place of the
+-- list of subscribers is tied to it.
 pub record ConnectionsAreKnown (T U : Type 0) (overrides : ℕ → ℕ → Type 0) (may : DegradationInfo → DegradationAction
     → Type 0) (decide : BackpressureInfo → BackpressureDecision → Type 0) : Type 0 where
   pub known : (service : ℕ) (sizes : ServiceSizes) (calls : List (PortCall T U × ServicePorts T U)) (new : ServicePorts T U)
       (publisher index : ℕ) (port : PublisherPort T U) → Happen overrides may decide calls (no_ports service sizes) new
       → port_of publisher new.publishers ≡ Some port → port.stands ≡ true → is_live index port ≡ true → IsKnown index port
 
--- each subscriber that is listed has a connection at a publisher
+-- The publisher has a connection to each listed subscriber.
 abbrev pub ConnectsAll : {T U : Type 0} → ServicePorts T U → PublisherPort T U → Type 0
 ConnectsAll ports port =
     (place : ℕ) (member : Member SubscriberEntry) → get_or ports.subscriber_list.places place None ≡ Some member
     → is_some (connection_to member.value.subscriber port) ≡ true
 
--- A publisher that has a connection to each listed subscriber follows the list without memory: its update never fails, and its send is
--- never refused for it, whatever its handlers would say.
+-- A publisher that has a connection to each listed subscriber follows the list without allocating: its update never fails, and
+-- its send never fails with `ConnectionError`, whatever its handlers answer.
 pub record NeedsNoMemory (T U : Type 0) (may : DegradationInfo → DegradationAction → Type 0) (decide : BackpressureInfo
     → BackpressureDecision → Type 0) : Type 0 where
   pub update : (ports : ServicePorts T U) (number : ℕ) (port after : PublisherPort T U) (outcome : Result (Unit {0}) ConnectionFailure)

@@ -9,7 +9,7 @@ use Rattle.iox_domain.specs.Rolls.{new_roll}
 use Rattle.iox_domain.specs.Subscribers.{with_subscriber}
 use Rattle.iox_domain.specs.declared.ports.service_ports.ServicePorts.{ServicePorts}
 
--- a service without ports; the first gets number 1
+-- A service without ports; its first port gets number 1.
 abbrev pub no_ports : {T U : Type 0} → ℕ → ServiceSizes → ServicePorts T U
 no_ports service sizes = record {
   service = service;
@@ -21,16 +21,16 @@ no_ports service sizes = record {
   subscribers = [];
 }
 
--- the publisher of a number is as after a step, and gone if it is over then
+-- The ports with this publisher under its number, which is removed if it is over.
 abbrev pub with_publisher : {T U : Type 0} → ℕ → PublisherPort T U → ServicePorts T U → ServicePorts T U
 with_publisher number port ports = record ports { publishers = publishers.settled number (with_port number ports.publishers port) }
 
--- the subscriber of a number and the publishers are as after a step
+-- The ports with this subscriber under its number, and these publishers.
 abbrev pub with_both : {T U : Type 0} → ℕ → SubscriberPort → List (ℕ × PublisherPort T U) → ServicePorts T U → ServicePorts T U
 with_both number port publishers_after ports
     = record ports { subscribers = with_subscriber number ports.subscribers port; publishers = publishers_after }
 
--- What a call does at a publisher: nothing happens where there is none, and where the call answers none.
+-- What a call answers and changes at a publisher: if there is no publisher, or the call answers None, nothing changes.
 abbrev pub AtPublisher : {T U A : Type 0} → ℕ → (PublisherPort T U → Option A → PublisherPort T U → Type 0) → Option (PublisherPort T U)
     → ServicePorts T U → Option A → ServicePorts T U → Type 0
 AtPublisher number step None old answer new = (answer ≡ None) × (new ≡ old)
@@ -38,7 +38,8 @@ AtPublisher {T} {U} number step (Some port) old None new = (after : PublisherPor
 AtPublisher {T} {U} number step (Some port) old (Some value) new = (after : PublisherPort T U) × step port (Some value) after
     × (new ≡ with_publisher number after old)
 
--- What a call does at a subscriber, with the publishers: nothing happens where there is none, and where the call answers none.
+-- What a call answers and changes at a subscriber, and at the publishers: if there is no subscriber, or the call answers None,
+-- nothing changes.
 abbrev pub AtSubscriber : {T U A : Type 0} → ℕ
     → (SubscriberPort → List (ℕ × PublisherPort T U) → Option A → SubscriberPort → List (ℕ × PublisherPort T U) → Type 0)
     → Option SubscriberPort → ServicePorts T U → Option A → ServicePorts T U → Type 0

@@ -1,4 +1,4 @@
--- A publisher comes, and leaves.
+-- A publisher is created, and closed.
 use Rattle.std.specs.Prelude.{ℕ, ◌≡◌, Bool, true, false, List, Result, Ok, Err}
 use Rattle.iox_domain.specs.DomainValues.declared.create_error.PublisherCreateError.{PublisherCreateError}
 use Rattle.iox_domain.specs.DomainValues.declared.degradation.DegradationAction.{DegradationAction}
@@ -9,8 +9,8 @@ use Rattle.iox_domain.specs.States.{with_ports}
 use Rattle.iox_domain.specs.Kept.{kept, forgotten}
 use Rattle.iox_domain.specs.declared.state.DomainState.{DomainState}
 
--- A publisher comes, and who decides for it is kept under its number, which comes next; a refusal is told for what the ports are,
--- and nothing has changed.
+-- What creating a publisher answers and changes: its handlers are stored under its number, which is the next one. The error
+-- follows from the state of the ports, and then nothing has changed.
 abbrev pub MakesPublisher : {T U B D : Type 0} → (ℕ → ℕ → Type 0) → (DegradationInfo → DegradationAction → Type 0) → PublisherConfig → U
     → B → DomainState T U B D → Result ℕ PublisherCreateError → DomainState T U B D → Type 0
 MakesPublisher overrides may config user_header handlers old (Err error) new =
@@ -20,7 +20,7 @@ MakesPublisher overrides may config user_header handlers old (Ok number) new =
     new.ports
     × (new ≡ record (with_ports new.ports old) { publisher_handlers = kept old.ports.next_port handlers old.publisher_handlers })
 
--- who decides for a port is kept until it left
+-- The handlers that are stored after a port was closed, or wasn't.
 abbrev pub kept_unless : {H : Type 0} → Bool → ℕ → List (ℕ × H) → List (ℕ × H)
 kept_unless false number handlers = handlers
 kept_unless true number handlers = forgotten number handlers

@@ -1,4 +1,4 @@
--- A publisher lends as many values as it is handed, writes them and sends them, at once.
+-- A publisher loans as many values as it is given, writes them and sends them, at once.
 use Rattle.std.specs.Prelude.{ℕ, ◌≡◌, Bool, true, false, List, length, Option, None, Some, Result, Ok, Err}
 use Rattle.iox_domain_ports.specs.DomainValues.declared.backpressure.BackpressureDecision.{BackpressureDecision}
 use Rattle.iox_domain_ports.specs.DomainValues.declared.backpressure.BackpressureInfo.{BackpressureInfo}
@@ -17,11 +17,12 @@ use Rattle.iox_domain.specs.Lending.{LoansOne}
 use Rattle.iox_domain.specs.PortsPublishing.{is_free, SendsOne}
 use Rattle.iox_domain.specs.Rolls.{RollState}
 
--- a publisher whose loan in a slot has these values, where it has as many places
+-- The publisher after these values were written into the loan in this slot, if it has as many.
 abbrev pub with_values : {T U : Type 0} → ℕ → List T → PublisherPort T U → PublisherPort T U
 with_values slot values port = changed_if (has_length slot (length values) port.sender.uses) slot (write_all values) port
 
--- what follows the loan: its refusal is answered, and nothing else happens; else the values are written in its slot, and it is sent
+-- What follows the loan: if it failed, its error is returned and nothing else happens; otherwise the values are written into
+-- its slot, and the message is sent.
 abbrev pub SendsLent : {T U : Type 0} → (DegradationInfo → DegradationAction → Type 0)
     → (BackpressureInfo → BackpressureDecision → Type 0) → RollState SubscriberEntry → List T → Result ℕ LoanError → PublisherPort T U
     → Result Sent SendError → PublisherPort T U → Type 0
@@ -29,7 +30,7 @@ SendsLent may_degrade may list values (Err error) port answer after = (answer �
 SendsLent may_degrade may list values (Ok slot) port answer after
     = SendsOne may_degrade may list slot (with_values slot values port) (Some answer) after
 
--- as many values are lent, and then written and sent
+-- As many values as given are loaned, and then written and sent.
 abbrev pub PutsValues : {T U : Type 0} → (DegradationInfo → DegradationAction → Type 0)
     → (BackpressureInfo → BackpressureDecision → Type 0) → RollState SubscriberEntry → List T → PublisherPort T U
     → Result Sent SendError → PublisherPort T U → Type 0
@@ -37,7 +38,7 @@ PutsValues {T} {U} may_degrade may list values port answer after =
     (lent : Result ℕ LoanError) × (lender : PublisherPort T U) × LoansOne (length values) (length values) port (Some lent) lender
     × SendsLent may_degrade may list values lent lender answer after
 
--- a publisher that is free does this; another doesn't
+-- A free publisher puts the values; at another one nothing happens.
 abbrev pub PutsIf : {T U : Type 0} → Bool → (DegradationInfo → DegradationAction → Type 0)
     → (BackpressureInfo → BackpressureDecision → Type 0) → RollState SubscriberEntry → List T → PublisherPort T U
     → Option (Result Sent SendError) → PublisherPort T U → Type 0
@@ -45,7 +46,7 @@ PutsIf false may_degrade may list values port answer after = (answer ≡ None) �
 PutsIf true may_degrade may list values port answer after =
     (sent : Result Sent SendError) × PutsValues may_degrade may list values port sent after × (answer ≡ Some sent)
 
--- A publisher lends as many values, writes them and sends them.
+-- What putting these values answers and changes at the publisher.
 abbrev pub PutsOne : {T U : Type 0} → (DegradationInfo → DegradationAction → Type 0)
     → (BackpressureInfo → BackpressureDecision → Type 0) → RollState SubscriberEntry → List T → PublisherPort T U
     → Option (Result Sent SendError) → PublisherPort T U → Type 0

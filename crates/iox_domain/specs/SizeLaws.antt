@@ -14,8 +14,8 @@ use Rattle.iox_domain.specs.declared.ports.service_ports.ServicePorts.{ServicePo
 use Rattle.iox_domain.specs.Calls.{PortCall, Happens}
 use Rattle.iox_domain.specs.Order.{Happen}
 
--- Whether a full mailbox lets its oldest message go, how many messages are kept for subscribers that come later, how many of a
--- connection may wait and be borrowed, and whether messages have numbers.
+-- Whether a full mailbox drops its oldest message, how many messages the history keeps, how many messages of a connection may
+-- wait and be borrowed, and whether messages are numbered.
 pub record MadeFor : Type 0 where
   pub overflows : Bool
   pub history : ℕ
@@ -23,7 +23,7 @@ pub record MadeFor : Type 0 where
   pub most_borrowed : ℕ
   pub numbered : Bool
 
--- what a publisher and its connections are made for
+-- What the publisher and its connections are made for.
 abbrev pub made_for : {T U : Type 0} → PublisherPort T U → MadeFor
 made_for port = record {
   overflows = port.sender.uses.overflows;
@@ -33,7 +33,7 @@ made_for port = record {
   numbered = is_some port.last_sequence;
 }
 
--- what a service allows
+-- What the service allows.
 abbrev pub allowed_by : ServiceSizes → MadeFor
 allowed_by sizes = record {
   overflows = sizes.enable_safe_overflow;
@@ -43,22 +43,22 @@ allowed_by sizes = record {
   numbered = sizes.sequence_numbers;
 }
 
--- no more messages wait at a connection than it is made for, it is made for no more than may wait, and no more of it are borrowed
--- than may be
+-- No more messages wait in the connection than its limit, that limit is at most what the sizes allow, and no more messages are
+-- borrowed than they allow.
 abbrev pub IsWithin : {X : Type 0} → MadeFor → Connection X → Type 0
 IsWithin sizes connection = (length connection.waiting ≤ connection.limit) × (connection.limit ≤ sizes.most_waiting)
     × (length connection.borrowed ≤ sizes.most_borrowed)
 
--- a publisher, under its number, is made for just this, and each of its connections keeps within it
+-- The publisher is made for just these sizes, and each of its connections keeps within them.
 abbrev pub IsMadeFor : {T U : Type 0} → MadeFor → ℕ × PublisherPort T U → Type 0
 IsMadeFor sizes (number, port) = (made_for port ≡ sizes) × ((index : ℕ) → IsWithin sizes (connection_of index port))
 
--- each publisher is made for just what its service allows, and keeps within it
+-- Each publisher is made for just what its service allows, and keeps within it.
 abbrev pub AreAllowed : {T U : Type 0} → ServicePorts T U → Type 0
 AreAllowed ports = All (IsMadeFor (allowed_by ports.sizes)) ports.publishers
 
--- Each publisher of a new service, and after each call, and so after any calls, is made for just what the service allows, and
--- keeps within it; and what the service allows never changes.
+-- Each publisher of a new service is made for just what the service allows and keeps within it; each call, and so any calls,
+-- preserve this. What the service allows never changes.
 pub record SizesAgree (T U : Type 0) (overrides : ℕ → ℕ → Type 0) (may : DegradationInfo → DegradationAction
     → Type 0) (decide : BackpressureInfo → BackpressureDecision → Type 0) : Type 0 where
   pub begins : (service : ℕ) (sizes : ServiceSizes) → AreAllowed {T = T} {U = U} (no_ports service sizes)

@@ -1,4 +1,4 @@
--- How much a description allows to its ports.
+-- The limits that a description sets for ports.
 use Rattle.std.specs.Prelude.{ℕ, ◌≡◌, max, Option, None, Some}
 use Rattle.iox_domain_values.specs.declared.service_sizes.ServiceSizes.{ServiceSizes}
 use Rattle.iox_describe_settings.specs.Agreement.{AreWithinLimits}
@@ -6,7 +6,7 @@ use Rattle.iox_describe_settings.specs.declared.static_config.Settings.{Settings
 use Rattle.iox_describe_settings.specs.declared.static_config.Settings.TheVariants.{PublishSubscribe}
 use Rattle.iox_describe_settings.specs.declared.static_config.publish_subscribe.StaticConfig.{StaticConfig}
 
--- The numbers of a publish-subscribe service. As many connections may wait to be read after their publishers left as was asked for, and
+-- The limits of a publish-subscribe service. A subscriber keeps as many connections of closed publishers as was asked for, and
 -- at least as many as samples of one connection may be held.
 abbrev pub sizes : ℕ → StaticConfig → ServiceSizes
 sizes expired_connection_buffer config = record {
@@ -20,7 +20,7 @@ sizes expired_connection_buffer config = record {
   expired_connections = max expired_connection_buffer config.subscriber_max_borrowed_samples;
 }
 
--- The numbers of settings, if they are those of a publish-subscribe service and within the limits of a description.
+-- The limits that settings set, if they are settings of a publish-subscribe service and within the limits of a description.
 abbrev pub SizesOf : ℕ → Settings → Option ServiceSizes → Type 0
 SizesOf expired_connection_buffer settings None = (config : StaticConfig) → settings ≡ PublishSubscribe config
     → AreWithinLimits settings → ⊥

@@ -1,4 +1,4 @@
--- What each call of a port does to the ports of its service, by the port's number.
+-- What each call of a port answers and changes, by the port's number.
 use Rattle.std.specs.Prelude.{ℕ, Bool, List, Option, Result, Ok}
 use Rattle.iox_domain.specs.DomainValues.declared.backpressure.BackpressureDecision.{BackpressureDecision}
 use Rattle.iox_domain.specs.DomainValues.declared.backpressure.BackpressureInfo.{BackpressureInfo}
@@ -26,82 +26,83 @@ use Rattle.iox_domain.specs.declared.ports.making.PublisherConfig.{PublisherConf
 use Rattle.iox_domain.specs.declared.ports.making.SubscriberConfig.{SubscriberConfig}
 use Rattle.iox_domain.specs.declared.ports.service_ports.ServicePorts.{ServicePorts}
 
--- The publisher of a number lends a slot for so many values and elements.
+-- What a loan of `values` values and `elements` elements at the publisher with this number answers and changes.
 abbrev pub LoansBy : {T U : Type 0} → ℕ → ℕ → ℕ → ServicePorts T U → Option (Result ℕ LoanError) → ServicePorts T U → Type 0
 LoansBy number values elements old answer new = AtPublisher number (LoansOne values elements) (port_of number old.publishers) old answer new
 
--- The publisher of a number follows the list of subscribers.
+-- What an update of the publisher with this number answers and changes.
 abbrev pub UpdatesBy : {T U : Type 0} → (DegradationInfo → DegradationAction → Type 0) → ℕ → ServicePorts T U
     → Option (Result (Unit {0}) ConnectionFailure) → ServicePorts T U → Type 0
 UpdatesBy may number old answer new
     = AtPublisher number (publishing.UpdatesOne may old.subscriber_list) (port_of number old.publishers) old answer new
 
--- The publisher of a number sends the written loan in a slot.
+-- What a send of the written loan in this slot by the publisher with this number answers and changes.
 abbrev pub SendsBy : {T U : Type 0} → (DegradationInfo → DegradationAction → Type 0)
     → (BackpressureInfo → BackpressureDecision → Type 0) → ℕ → ℕ → ServicePorts T U → Option (Result Sent SendError) → ServicePorts T U
     → Type 0
 SendsBy may_degrade may number slot old answer new
     = AtPublisher number (publishing.SendsOne may_degrade may old.subscriber_list slot) (port_of number old.publishers) old answer new
 
--- The publisher of a number lends as many values, writes them and sends them.
+-- What putting these values by the publisher with this number answers and changes: it loans as many, writes them and sends
+-- them.
 abbrev pub PutsBy : {T U : Type 0} → (DegradationInfo → DegradationAction → Type 0)
     → (BackpressureInfo → BackpressureDecision → Type 0) → ℕ → List T → ServicePorts T U → Option (Result Sent SendError)
     → ServicePorts T U → Type 0
 PutsBy may_degrade may number values old answer new
     = AtPublisher number (PutsOne may_degrade may old.subscriber_list values) (port_of number old.publishers) old answer new
 
--- The send of the publisher of a number that waits is tried again.
+-- What a retry of the waiting send of the publisher with this number answers and changes.
 abbrev pub RetriesBy : {T U : Type 0} → (BackpressureInfo → BackpressureDecision → Type 0) → ℕ → ℕ → ServicePorts T U
     → Option (Result Sent SendError) → ServicePorts T U → Type 0
 RetriesBy may number elapsed old answer new
     = AtPublisher number (publishing.RetriesOne may elapsed) (port_of number old.publishers) old answer new
 
--- The send of the publisher of a number that waits ends.
+-- What giving up the waiting send of the publisher with this number answers and changes.
 abbrev pub GivesUpBy : {T U : Type 0} → ℕ → ServicePorts T U → Option ℕ → ServicePorts T U → Type 0
 GivesUpBy number old answer new = AtPublisher number publishing.GivesUpOne (port_of number old.publishers) old answer new
 
--- The publisher of a number leaves.
+-- What closing the publisher with this number answers and changes.
 abbrev pub PublisherLeaves : {T U : Type 0} → ℕ → ServicePorts T U → Bool → ServicePorts T U → Type 0
 PublisherLeaves number old answer new = publishing.LeavesAt number (port_of number old.publishers) old answer new
 
--- The subscriber of a number follows the list of publishers.
+-- What an update of the subscriber with this number answers and changes.
 abbrev pub FollowsBy : {T U : Type 0} → (DegradationInfo → DegradationAction → Type 0) → ℕ → ServicePorts T U
     → Option (Result (Unit {0}) ConnectionFailure) → ServicePorts T U → Type 0
 FollowsBy may number old answer new
     = AtSubscriber number (subscribing.UpdatesOne may old.publisher_list) (subscriber_of number old.subscribers) old answer new
 
--- It is told whether some connection of the subscriber of a number has data.
+-- What the question for data answers and changes: whether some connection of the subscriber with this number has data.
 abbrev pub TellsBy : {T U : Type 0} → (DegradationInfo → DegradationAction → Type 0) → ℕ → ServicePorts T U
     → Option (Result Bool ConnectionFailure) → ServicePorts T U → Type 0
 TellsBy may number old answer new = AtSubscriber number (subscribing.HasSamplesOne may old.publisher_list)
     (subscriber_of number old.subscribers) old answer new
 
--- The subscriber of a number receives.
+-- What a receive by the subscriber with this number answers and changes.
 abbrev pub ReceivesBy : {T U : Type 0} → (DegradationInfo → DegradationAction → Type 0) → ℕ → ServicePorts T U
     → Option (Result (Option Taken) ReceiveError) → ServicePorts T U → Type 0
 ReceivesBy may number old answer new
     = AtSubscriber number (subscribing.ReceivesOne may old.publisher_list) (subscriber_of number old.subscribers) old answer new
 
--- The subscriber of a number leaves.
+-- What closing the subscriber with this number answers and changes.
 abbrev pub SubscriberLeaves : {T U : Type 0} → ℕ → ServicePorts T U → Bool → ServicePorts T U → Type 0
 SubscriberLeaves number old answer new = subscribing.LeavesAt number (subscriber_of number old.subscribers) old answer new
 
--- A publisher comes, under this number.
+-- A publisher is created, under this number.
 abbrev pub PublisherComes : {T U : Type 0} → (ℕ → ℕ → Type 0) → (DegradationInfo → DegradationAction → Type 0) → PublisherConfig → U
     → ServicePorts T U → ℕ → ServicePorts T U → Type 0
 PublisherComes overrides may config user_header old number new
     = CreatesPublisher overrides may config user_header (slots_needed config old) (publisher_place old) old (Ok number) new
 
--- Why a publisher doesn't come.
+-- Why a publisher isn't created.
 abbrev pub why_no_publisher : {T U : Type 0} → PublisherConfig → ServicePorts T U → PublisherCreateError
 why_no_publisher config ports = publisher_refusal (slots_needed config ports) (publisher_place ports)
 
--- A subscriber comes, under this number.
+-- A subscriber is created, under this number.
 abbrev pub SubscriberComes : {T U : Type 0} → (DegradationInfo → DegradationAction → Type 0) → SubscriberConfig → ServicePorts T U → ℕ
     → ServicePorts T U → Type 0
 SubscriberComes may config old number new
     = CreatesSubscriber may config.owner (buffer_of config.buffer_size old.sizes) (subscriber_place old) old (Ok number) new
 
--- Why a subscriber doesn't come.
+-- Why a subscriber isn't created.
 abbrev pub why_no_subscriber : {T U : Type 0} → SubscriberConfig → ServicePorts T U → SubscriberCreateError
 why_no_subscriber config ports = subscriber_refusal (buffer_of config.buffer_size ports.sizes) (subscriber_place ports)

@@ -1,4 +1,4 @@
--- What the subscribers end as, once a `&mut` to one of them has ended.
+-- The final state of the subscribers once a `&mut` to one of them has ended.
 use Rattle.std.specs.Prelude.{ℕ, List, Option}
 use Rattle.std.specs.Borrow.{Fml, LendsIf, MutBor}
 use Rattle.iox_domain_ports.specs.declared.subscriber_port.SubscriberPort.{SubscriberPort}
@@ -6,6 +6,6 @@ use Rattle.iox_domain_ports.specs.contracts.subscriber_port.SubscriberPort as po
 use Rattle.iox_domain.specs.Subscribers.{with_subscriber}
 use Rattle.iox_domain.specs.contracts.ports.subscribers.Subscribers.{the_row}
 
--- the last subscriber behind the reference stands under the number; where there was none nothing has changed
+-- The subscribers end with the last subscriber behind the reference under this number; if none was lent, they are unchanged.
 abbrev pub LendsSubscriber : MutBor (List (ℕ × SubscriberPort)) → ℕ → Option (MutBor SubscriberPort) → Fml
 LendsSubscriber ports number answer = LendsIf the_row port.the_row ports answer (with_subscriber number ports.now) ports.now

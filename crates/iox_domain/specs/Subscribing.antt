@@ -1,4 +1,4 @@
--- A subscriber comes.
+-- A subscriber is created.
 use Rattle.std.specs.Prelude.{ℕ, ◌≡◌, Result, Ok, Err}
 use Rattle.iox_domain.specs.DomainValues.declared.create_error.SubscriberCreateError.{SubscriberCreateError}
 use Rattle.iox_domain.specs.DomainValues.declared.degradation.DegradationAction.{DegradationAction}
@@ -10,8 +10,8 @@ use Rattle.iox_domain.specs.States.{with_ports}
 use Rattle.iox_domain.specs.Kept.{kept}
 use Rattle.iox_domain.specs.declared.state.DomainState.{DomainState}
 
--- A subscriber comes, and who decides for it is kept under its number, which comes next; a refusal is told for what the ports
--- are, and nothing has changed.
+-- What creating a subscriber answers and changes: its handler is stored under its number, which is the next one. The error
+-- follows from the state of the ports, and then nothing has changed.
 abbrev pub MakesSubscriber : {T U B D : Type 0} → (DegradationInfo → DegradationAction → Type 0) → SubscriberConfig → D
     → DomainState T U B D → Result ℕ SubscriberCreateError → DomainState T U B D → Type 0
 MakesSubscriber may config handler old (Err error) new =

@@ -1,4 +1,4 @@
--- A send with all of its tries: who took its message, and how many of them are counted.
+-- A send with all of its tries: which connections took its message, and how many of them are counted.
 use Rattle.std.specs.Prelude.{ℕ, ◌+◌, ◌<◌, ◌≤◌, ◌≡◌, ◌==◌, ◌++◌, ◌∷◌, [], true, false, Bool, is_some, List, length, get_or, None, Some}
 use Rattle.std.specs.Prelude.{Result, Ok, if◌then◌else◌}
 use Rattle.iox_domain.specs.DomainValues.declared.backpressure.BackpressureDecision.{BackpressureDecision}
@@ -19,13 +19,13 @@ use Rattle.iox_domain.specs.Calls.{PortCall, Retries, GivesSendUp, Happens}
 use Rattle.iox_domain.specs.PortLawsLaws.{IsSound, AreTiesApart}
 use Rattle.iox_domain.specs.declared.ports.service_ports.ServicePorts.{ServicePorts}
 
--- how often an index stands in a list
+-- How often the index occurs in the list.
 abbrev pub how_often : ℕ → List ℕ → ℕ
 how_often index [] = 0
 how_often index (one ∷ rest) = (if index == one then 1 else 0) + how_often index rest
 
--- The connection of an index took the message that is being sent, at a place that the send went over: it went on, had room for
--- the message or let its oldest go, and the message is the newest that waits there.
+-- The connection at this index took the message that is being sent, at a place that the send visited: the connection was live,
+-- it had room for the message or dropped its oldest, and the message is now the newest that waits in it.
 pub record Took {T U : Type 0} (index : ℕ) (old new : PublisherPort T U) : Type 0 where
   pub place : ℕ
   pub message : Message T U
@@ -37,8 +37,8 @@ pub record Took {T U : Type 0} (index : ℕ) (old new : PublisherPort T U) : Typ
   pub accepted : accepts old.sender.uses.overflows (connection_of index old) ≡ true
   pub got : connection_of index new ≡ offered old.sender.uses.overflows message (connection_of index old)
 
--- One try: these connections took the message, each once, and no other changed; of the places that it went over each whose connection goes
--- on and accepts the message is among them; and they are counted, and nobody else.
+-- One try of a send: exactly these connections took the message, each once, and no other one changed. Of the places that the
+-- try visited, each whose connection is live and accepts the message is among them. Exactly these connections are counted.
 pub record TryComesTo {T U : Type 0} (takers : List ℕ) (old new : PublisherPort T U) : Type 0 where
   pub once : (index : ℕ) → how_often index takers ≤ 1
   pub took : (index : ℕ) → 0 < how_often index takers → Took index old new
@@ -48,40 +48,43 @@ pub record TryComesTo {T U : Type 0} (takers : List ℕ) (old new : PublisherPor
       → accepts old.sender.uses.overflows (connection_of index old) ≡ true → 0 < how_often index takers
   pub counted : new.progress.delivered ≡ old.progress.delivered + length takers
 
--- A send is where it was: how far it is and how many took its message, the message, and which connection each place of the list is tied to.
+-- The send is where it was: its progress and the number of connections that took the message, the message, and the connection
+-- to which each place of the list is tied.
 pub record IsSameSend {T U : Type 0} (old new : PublisherPort T U) : Type 0 where
   pub place : new.progress.place ≡ old.progress.place
   pub delivered : new.progress.delivered ≡ old.progress.delivered
   pub sending : new.sender.uses.sending ≡ old.sender.uses.sending
   pub ties : new.ties ≡ old.ties
 
--- One try of a send: the publisher as it begins, what it answers, and the publisher then.
+-- One try of a send: the publisher before it, its answer, and the publisher after it.
 pub record Try (T U : Type 0) : Type 0 where
   pub before : PublisherPort T U
   pub answer : Result Sent SendError
   pub after : PublisherPort T U
 
--- The tries of a send, one after the other: each goes on where the one before stopped, whatever its connections got and gave in between.
+-- The tries of a send, one after the other: each continues where the one before stopped, whatever its connections got and gave
+-- in between.
 abbrev pub AreTries : {T U : Type 0} → (BackpressureInfo → BackpressureDecision → Type 0) → PublisherPort T U → List (Try T U)
     → PublisherPort T U → Type 0
 AreTries decide first [] last = IsSameSend first last
 AreTries decide first (one ∷ rest) last = IsSameSend first one.before × Finishes decide one.before one.answer one.after
     × AreTries decide one.after rest last
 
--- in each of the tries took who is listed for it
+-- In each try exactly the connections took the message that are listed for it.
 abbrev pub TriesComeTo : {T U : Type 0} → List (List ℕ) → List (Try T U) → Type 0
 TriesComeTo [] [] = Unit {0}
 TriesComeTo [] (one ∷ rest) = ⊥
 TriesComeTo (takers ∷ more) [] = ⊥
 TriesComeTo (takers ∷ more) (one ∷ rest) = TryComesTo takers one.before one.after × TriesComeTo more rest
 
--- all that are listed
+-- All connections that are listed, one list after the other.
 abbrev pub all_takers : List (List ℕ) → List ℕ
 all_takers [] = []
 all_takers (takers ∷ more) = takers ++ all_takers more
 
--- A send, with all of its tries: each connection takes its message at most once in all of them, and as many took it as are counted.
--- A send begins at the first place with none counted; what it answers in the end, and what is told when it is given up, is that count.
+-- A send with all of its tries: each connection takes the message at most once in all of them, and as many took it as are
+-- counted. A send begins at the first place with a count of 0. That count is what the send answers in the end, and what giving
+-- it up answers.
 pub record SendReachesOnce (T U : Type 0) (decide : BackpressureInfo → BackpressureDecision → Type 0) : Type 0 where
   pub begins : (at : ℕ) (loan : Loan T U) (port : PublisherPort T U) → ((begun_by at (Some loan) port).progress.place ≡ 0)
       × ((begun_by at (Some loan) port).progress.delivered ≡ 0)
@@ -92,13 +95,13 @@ pub record SendReachesOnce (T U : Type 0) (decide : BackpressureInfo → Backpre
       → count ≡ new.progress.delivered
   pub gives_up : (count : ℕ) (port after : PublisherPort T U) → GivesUpOne port (Some count) after → count ≡ port.progress.delivered
 
--- whether a call goes on with the send of a publisher that waits, or ends it
+-- Whether the call continues the waiting send of this publisher, or gives it up.
 abbrev pub goes_on_with : {T U : Type 0} → ℕ → PortCall T U → Bool
 goes_on_with publisher (Retries number elapsed answer) = publisher == number
 goes_on_with publisher (GivesSendUp number answer) = publisher == number
 goes_on_with publisher call = false
 
--- A send that waits is where it was after each call but those that go on with it, whoever calls.
+-- After each call, except those that continue it or give it up, a waiting send is where it was, whichever port makes the call.
 pub record SendWaits (T U : Type 0) (overrides : ℕ → ℕ → Type 0) (may : DegradationInfo → DegradationAction
     → Type 0) (decide : BackpressureInfo → BackpressureDecision → Type 0) : Type 0 where
   pub waits : (call : PortCall T U) (old new : ServicePorts T U) (publisher : ℕ) (port : PublisherPort T U)

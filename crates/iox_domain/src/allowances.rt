@@ -1,7 +1,8 @@
-//! How many loans the publishers of a service may still make, and what each call of a port makes of that: who sets aside room for
-//! as many as a publisher may make, when it comes, never lacks it for a loan.
+//! How many more loans and samples the ports of a service may still have, and how each call of a port changes that. A caller
+//! that reserves room for as many as a port may have when it creates the port never lacks room for a loan or a sample.
 //!
-//! A proof cites a law by a call of its function, which does nothing; what it states is then among the facts of the caller:
+//! A proof cites a theorem by calling its function, which does nothing; what the theorem states is then among the facts of the
+//! caller:
 //!
 //! ```
 //! loans_left_by_calls::<T, U, O, B>(overriding, handlers);

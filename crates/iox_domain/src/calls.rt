@@ -1,4 +1,5 @@
-//! The calls of ports at the home of their domain: each is one look-up, and then the call of what the domain lends.
+//! The calls of ports at the home of their domain: each looks up the domain once, and then makes the call of the domain's
+//! state.
 ghost use Rattle.std.specs.Prelude.{◌≡◌, option_copied};
 ghost use Rattle.std.specs.Borrow.{sem, LendsIf};
 ghost use Rattle.std.specs.Option.{option_copied_mut};
@@ -20,9 +21,9 @@ use iox_domain_values::{
 };
 use std::alloc::Global;
 
-/// The ports of the domain of an id, if it is here.
+/// The ports of the domain with this id, if the home contains it.
 ///
-/// This port's own.
+/// Not in `iceoryx2`.
 pub fn ports<'a, T: Copy, U: Copy, H: Home<T, U>>(
     home: &'a H,
     id: DomainId,
@@ -38,9 +39,9 @@ where
     }
 }
 
-/// The ports of the domain of an id, if it is here, to be changed in their place.
+/// A mutable reference to the ports of the domain with this id, if the home contains it.
 ///
-/// This port's own.
+/// Not in `iceoryx2`.
 pub fn ports_mut<'a, T: Copy, U: Copy, H: Home<T, U>>(
     home: &'a mut H,
     id: DomainId,
@@ -58,8 +59,8 @@ where
     }
 }
 
-/// A publisher lends a slot for so many values and elements: `ServicePorts::loan` says what that does. None, and nothing happens, also
-/// where the domain isn't here.
+/// The publisher loans a slot for so many values and elements: `ServicePorts::loan` says what that does. The call answers None,
+/// and nothing happens, also if the home doesn't contain the domain.
 ///
 /// Ported from `iceoryx2::port::publisher::Publisher::loan_slice_uninit`.
 pub fn loan<T: Copy, U: Copy, H: Home<T, U>>(
@@ -77,8 +78,8 @@ pub fn loan<T: Copy, U: Copy, H: Home<T, U>>(
     domain.loan(alloc, number, values, elements)
 }
 
-/// A publisher follows the list of subscribers: `ServicePorts::update_publisher` says what that does. None, and nothing happens, also
-/// where the domain isn't here.
+/// The publisher follows the list of subscribers: `ServicePorts::update_publisher` says what that does. The call answers None,
+/// and nothing happens, also if the home doesn't contain the domain.
 ///
 /// Ported from `iceoryx2::port::publisher::Publisher::update_connections`.
 pub fn update_publisher<T: Copy, U: Copy, H: Home<T, U>>(
@@ -95,8 +96,8 @@ pub fn update_publisher<T: Copy, U: Copy, H: Home<T, U>>(
     domain.update_publisher(alloc, number)
 }
 
-/// A publisher sends the written loan in a slot: `ServicePorts::send` says what that does. None, and nothing happens, also where the
-/// domain isn't here.
+/// The publisher sends the written loan in this slot: `ServicePorts::send` says what that does. The call answers None, and
+/// nothing happens, also if the home doesn't contain the domain.
 ///
 /// Ported from `iceoryx2::sample_mut::SampleMut::send`.
 pub fn send<T: Copy, U: Copy, H: Home<T, U>>(
@@ -115,8 +116,8 @@ pub fn send<T: Copy, U: Copy, H: Home<T, U>>(
     domain.send(alloc, number, slot)
 }
 
-/// A publisher lends as many values, writes them and sends them: `ServicePorts::put` says what that does. None, and nothing happens, also
-/// where the domain isn't here.
+/// The publisher loans as many values, writes them and sends them: `ServicePorts::put` says what that does. The call answers
+/// None, and nothing happens, also if the home doesn't contain the domain.
 ///
 /// Ported from `iceoryx2::port::publisher::Publisher::send_copy`, for slices.
 /// Example: `let sent = calls::put(home, alloc, id, number, &[7, 8]);`
@@ -136,10 +137,11 @@ pub fn put<T: Copy, U: Copy, H: Home<T, U>>(
     domain.put(alloc, number, values)
 }
 
-/// The send of a publisher that waits is tried again, after so many nanoseconds: `ServicePorts::retry` says what that does. None, and
-/// nothing happens, also where the domain isn't here.
+/// The publisher's waiting send is tried again, `elapsed` nanoseconds after its mailbox was first found full:
+/// `ServicePorts::retry` says what that does. The call answers None, and nothing happens, also if the home doesn't contain the
+/// domain.
 ///
-/// This port's own: `iceoryx2::port::publisher::Publisher::send` waits itself.
+/// Not in `iceoryx2`: `iceoryx2::port::publisher::Publisher::send` waits itself.
 pub fn retry<T: Copy, U: Copy, H: Home<T, U>>(
     home: &mut H,
     id: DomainId,
@@ -154,8 +156,8 @@ pub fn retry<T: Copy, U: Copy, H: Home<T, U>>(
     domain.retry(number, elapsed)
 }
 
-/// A publisher leaves: `ServicePorts::leave_publisher` says what that does. Who decided for it is dropped. Answers false, and nothing
-/// happens, also where the domain isn't here.
+/// Closes the publisher: `ServicePorts::leave_publisher` says what that does. Its handlers are dropped. The call answers false,
+/// and nothing happens, also if the home doesn't contain the domain.
 ///
 /// Ported from dropping an `iceoryx2::port::publisher::Publisher`.
 pub fn leave_publisher<T: Copy, U: Copy, H: Home<T, U>>(
@@ -172,8 +174,8 @@ pub fn leave_publisher<T: Copy, U: Copy, H: Home<T, U>>(
     domain.leave_publisher(number)
 }
 
-/// A subscriber follows the list of publishers: `ServicePorts::update_subscriber` says what that does. None, and nothing happens,
-/// also where the domain isn't here.
+/// The subscriber follows the list of publishers: `ServicePorts::update_subscriber` says what that does. The call answers None,
+/// and nothing happens, also if the home doesn't contain the domain.
 ///
 /// Ported from `iceoryx2::port::subscriber::Subscriber::update_connections`.
 pub fn update_subscriber<T: Copy, U: Copy, H: Home<T, U>>(
@@ -190,8 +192,8 @@ pub fn update_subscriber<T: Copy, U: Copy, H: Home<T, U>>(
     domain.update_subscriber(alloc, number)
 }
 
-/// Whether some connection of a subscriber has data: `ServicePorts::has_samples` says what that does. None, and nothing happens, also
-/// where the domain isn't here.
+/// Whether some connection of the subscriber has data: `ServicePorts::has_samples` says what that does. The call answers None,
+/// and nothing happens, also if the home doesn't contain the domain.
 ///
 /// Ported from `iceoryx2::port::subscriber::Subscriber::has_samples`.
 pub fn has_samples<T: Copy, U: Copy, H: Home<T, U>>(
@@ -208,7 +210,8 @@ pub fn has_samples<T: Copy, U: Copy, H: Home<T, U>>(
     domain.has_samples(alloc, number)
 }
 
-/// A subscriber receives: `ServicePorts::receive` says what that does. None, and nothing happens, also where the domain isn't here.
+/// The subscriber receives: `ServicePorts::receive` says what that does. The call answers None, and nothing happens, also if
+/// the home doesn't contain the domain.
 ///
 /// Ported from `iceoryx2::port::subscriber::Subscriber::receive`.
 pub fn receive<T: Copy, U: Copy, H: Home<T, U>>(
@@ -225,8 +228,8 @@ pub fn receive<T: Copy, U: Copy, H: Home<T, U>>(
     domain.receive(alloc, number)
 }
 
-/// A subscriber leaves: `ServicePorts::leave_subscriber` says what that does. Who decided for it is dropped. Answers false, and
-/// nothing happens, also where the domain isn't here.
+/// Closes the subscriber: `ServicePorts::leave_subscriber` says what that does. Its handler is dropped. The call answers false,
+/// and nothing happens, also if the home doesn't contain the domain.
 ///
 /// Ported from dropping an `iceoryx2::port::subscriber::Subscriber`.
 pub fn leave_subscriber<T: Copy, U: Copy, H: Home<T, U>>(
@@ -243,9 +246,9 @@ pub fn leave_subscriber<T: Copy, U: Copy, H: Home<T, U>>(
     domain.leave_subscriber(number)
 }
 
-/// A publisher comes, and its number is the answer: `ServicePorts::create_publisher` says what it gets, and when it is refused. Who
-/// decides for it is kept until it leaves; a loan has this user header at first. None, and nothing happens, where the domain isn't
-/// here.
+/// Creates a publisher, and answers its number: `ServicePorts::create_publisher` says what the publisher gets, and when the
+/// call fails. Its handlers are stored until it is closed; a loan first has this user header. The call answers None, and
+/// nothing happens, if the home doesn't contain the domain.
 ///
 /// Ported from `iceoryx2::service::port_factory::publisher::PortFactoryPublisher::create`.
 pub fn create_publisher<T: Copy, U: Copy, O: Overrides, H: Home<T, U>>(
@@ -266,8 +269,9 @@ pub fn create_publisher<T: Copy, U: Copy, O: Overrides, H: Home<T, U>>(
     Some(domain.create_publisher(alloc, config, user_header, overriding, handlers))
 }
 
-/// A subscriber comes, and its number is the answer: `ServicePorts::create_subscriber` says what it gets, and when it is refused. Who
-/// decides for it is kept until it leaves. None, and nothing happens, where the domain isn't here.
+/// Creates a subscriber, and answers its number: `ServicePorts::create_subscriber` says what the subscriber gets, and when the
+/// call fails. Its handler is stored until it is closed. The call answers None, and nothing happens, if the home doesn't
+/// contain the domain.
 ///
 /// Ported from `iceoryx2::service::port_factory::subscriber::PortFactorySubscriber::create`.
 pub fn create_subscriber<T: Copy, U: Copy, H: Home<T, U>>(

@@ -16,20 +16,20 @@ use iox_domain_values::{DegradationHandler, DomainError, Handlers};
 use iox_queues_base::Words;
 use std::alloc::{AllocError, Global};
 
-/// One publish-subscribe service: its ports, and who decides for them.
+/// One publish-subscribe service: its ports, and their handlers.
 ///
-/// It is one owned value, and a home: each call of a port is handed it. Who decides is a type of its own for publishers and for
-/// subscribers, so that a domain has no `dyn` in it unless these have. Ported from what the ports of an `iceoryx2` service share.
+/// It is one owned value, and a home: each call of a port takes it. The handlers of publishers and of subscribers are type
+/// parameters, so a domain has no `dyn` in it unless these have. Ported from what the ports of an `iceoryx2` service share.
 pub struct Domain<T, U, B = Handlers, D = DegradationHandler> {
-    /// Which domain it is.
+    /// The id of the domain.
     pub id: DomainId,
-    /// What its nodes agreed on.
+    /// The service configuration on which its nodes agreed.
     pub agreed: StaticConfig,
-    /// Its ports, and who decides for them: all that the calls of ports change.
+    /// Its ports and their handlers: all that the calls of ports change.
     pub state: DomainState<T, U, B, D>,
 }
 
-/// Said here once, so that no crate above proves it anew.
+/// Stated here once, so that no crate above proves it again.
 impl<T: Drop, U: Drop, B: Drop, D: Drop> Drop for Domain<T, U, B, D> {
     fn drop(self) {
         let Domain {
@@ -41,7 +41,7 @@ impl<T: Drop, U: Drop, B: Drop, D: Drop> Drop for Domain<T, U, B, D> {
 }
 
 impl<T, U, B, D> Domain<T, U, B, D> {
-    // Its fields.
+    // The domain's fields.
     pub(crate) fn into_fields(self) -> (DomainId, StaticConfig, DomainState<T, U, B, D>)
         ensures { result ≡ (self.id, self.agreed, self.state) }
     {
@@ -53,9 +53,9 @@ impl<T, U, B, D> Domain<T, U, B, D> {
 impl<T: Words + ZeroCopySend, U: Copy + ZeroCopySend, B: Drop, D: Drop> Domain<T, U, B, D> {
     ghost use Rattle.iox_domain.specs.Domains.{IsNewDomain};
 
-    /// Whether a domain over values of `T`, or slices of them, with user headers of `U` can be made by a description: it is that of a
-    /// publish-subscribe service within the limits of a description, and a builder over `T` or `Slice<T>` and `U` finds its types
-    /// compatible.
+    /// Whether a domain over values of `T`, or slices of them, with user headers of `U` can be made from this description: it
+    /// is that of a publish-subscribe service within the limits of a description, and a builder over `T` or `Slice<T>` and `U`
+    /// finds its types compatible.
     pub fn fits(description: &Description) -> bool
         ensures { IsTrue result ↔ Fits (detail FixedSize T.name T.size T.alignment) (detail FixedSize U.name U.size U.alignment)
             description.now.settings }
@@ -63,10 +63,11 @@ impl<T: Words + ZeroCopySend, U: Copy + ZeroCopySend, B: Drop, D: Drop> Domain<T
         fits::<T, U>(description)
     }
 
-    /// A domain without ports, by a description that fits. So many connections of a subscriber may wait to be read after their
-    /// publishers left, or as many as samples of one connection may be held, whichever is more.
+    /// A domain without ports, from a description that fits. A subscriber keeps as many connections of closed publishers as
+    /// `expired_connection_buffer` says, and at least as many as samples of one connection may be held.
     ///
-    /// Refused with `OutOfMemory` where an allocation fails; its lists take none to speak of before a port comes.
+    /// The call fails with `OutOfMemory` if an allocation fails; the lists of ports take hardly any memory before a port is
+    /// created.
     pub fn new(
         alloc: Global,
         id: DomainId,

@@ -1,9 +1,9 @@
-//! Which domain it is.
+//! The id of a domain.
 
-/// Which domain it is.
+/// The id of a domain.
 #[derive(Clone, Copy, Debug, PartialEq, Eq)]
 pub struct DomainId {
-    /// The number of its hub: 0 where it is alone.
+    /// The number of its hub; 0 if the domain belongs to none.
     pub hub: u64,
     /// The number of its service.
     pub service: u64,

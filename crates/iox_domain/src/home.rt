@@ -1,4 +1,4 @@
-//! What holds domains, and a domain as the home of its own ports.
+//! What contains domains, and a domain as the home of its own ports.
 ghost use Rattle.std.specs.Prelude.{◌≡◌, ℕ, Option, None, Some, IfNone, IfSome, IsTrue, option_copied, option_map};
 ghost use Rattle.std.specs.Borrow.{sem, Lends, LendsIf};
 ghost use Rattle.std.specs.Option.{option_copied_mut};
@@ -11,63 +11,64 @@ use crate::domain_id::DomainId;
 use crate::state::DomainState;
 use iox_domain_values::{Decides, Degrades};
 
-/// What lends something of each domain by its id, as its state.
+/// A home of domains, which lends the state `S` of each domain by its id.
 ///
-/// It is over the type of what is lent, so that a call in a function over any home costs the prover nothing.
+/// The trait is generic over the type of that state, so a call in a function over any home adds no proof time.
 pub trait LendsDomains<S> {
-    // what the domain of an id lends, if it is here
+    // The state that the home lends under this id, if it contains the domain.
     ghost domain_of: { DomainId → Self → Option S };
 
-    // a home after one step of what the domain of an id lends, if it is here
+    // The home after one step of the state that it lends under this id, if it contains the domain.
     ghost changed: { DomainId → (S → S) → Self → Self };
 
-    // whether the domain of an id is here, at this place
+    // Whether the home contains the domain with this id, at this place.
     ghost stands_at: { DomainId → ℕ → Self → Type 0 };
 
-    /// Where the domain of this id is, if it is here.
+    /// The place of the domain with this id, if the home contains it.
     fn place(&self, id: DomainId) -> Option<usize>
         ensures some { IfSome result (λ place. stands_at id place self.now) }
         ensures none { IfNone result (domain_of id self.now ≡ None) };
 
-    /// The state of the domain of this id, which is at this place.
+    /// The state of the domain with this id, which is at this place.
     fn domain_at(&self, id: DomainId, place: usize) -> &S
         requires { stands_at id place self.now }
         ensures { domain_of id self.now ≡ Some result.now };
 
-    /// The same, to be changed there.
+    /// A mutable reference to the state of the domain with this id, which is at this place.
     fn domain_mut_at(&mut self, id: DomainId, place: usize) -> &mut S
         requires { stands_at id place self.old }
         ensures* writes_back { sem 𝓛 (Lends Self.row S.row self.entry result (λ last. changed id (λ before. last) self.old)) }
         ensures value { domain_of id self.old ≡ Some result.now };
 
-    // what was changed is found so
+    // After a step of the state with this id, the home lends the state that the step made of it.
     ghost changed_found: { (id : DomainId) (step : S → S) (home : Self)
         → domain_of id (changed id step home) ≡ option_map step (domain_of id home) };
 
-    // the other domains stay as they were
+    // A step of the state with one id doesn't change what the home lends for another id.
     ghost others_stay: { (id other : DomainId) (step : S → S) (home : Self) → (id ≡ other → ⊥)
         → domain_of other (changed id step home) ≡ domain_of other home };
 
-    // steps that make the same of what is there are one
+    // Two steps that make the same of the state with this id make the same of the home.
     ghost alike: { (id : DomainId) (one other : S → S) (home : Self)
         → option_map one (domain_of id home) ≡ option_map other (domain_of id home) → changed id one home ≡ changed id other home };
 
-    // a step that changes nothing
+    // A step that changes nothing leaves the home as it is.
     ghost unchanged: { (id : DomainId) (home : Self) → changed id (λ state. state) home ≡ home };
 
-    // two steps are one
+    // Two steps one after the other are the same as both in one.
     ghost again: { (id : DomainId) (first second : S → S) (home : Self)
         → changed id second (changed id first home) ≡ changed id (λ state. second (first state)) home };
 }
 
-/// What holds domains, and with them the ports of their services: one domain, or those of a hub. Each call of a port is handed it.
+/// What contains domains, and so the ports of their services: one domain, or all those of a hub. Each call of a port takes a
+/// home.
 ///
-/// It lends a domain by its id, and repeats none of its calls: a call of a port is one look-up, and then one of what was lent. Who decides
-/// is part of that, and a type of the home's own.
+/// A home lends a domain by its id and repeats none of its calls: a call of a port looks up the domain once, and then makes a
+/// call of its state. The types of the handlers are chosen by the home.
 pub trait Home<T, U>: LendsDomains<DomainState<T, U, Self::ForPublishers, Self::ForSubscribers>> {
-    /// Who decides for publishers.
+    /// The handlers of publishers.
     type ForPublishers: Decides + Degrades;
-    /// Who decides for subscribers.
+    /// The handlers of subscribers.
     type ForSubscribers: Degrades;
 }
 
@@ -108,7 +109,7 @@ impl<T: Copy, U: Copy, B: Decides + Degrades, D: Degrades> LendsDomains<DomainSt
     ghost again = { homely.again };
 }
 
-/// The state of the domain of an id, if it is here.
+/// The state of the domain with this id, if the home contains it.
 pub(crate) fn domain<'a, S: 'a, H: LendsDomains<S>>(home: &'a H, id: DomainId) -> Option<&'a S>
     ensures { option_copied result ≡ H.domain_of id home.now }
 {
@@ -118,7 +119,7 @@ pub(crate) fn domain<'a, S: 'a, H: LendsDomains<S>>(home: &'a H, id: DomainId) -
     }
 }
 
-/// The state of the domain of an id, if it is here, to be changed in its place.
+/// A mutable reference to the state of the domain with this id, if the home contains it.
 pub(crate) fn domain_mut<'a, S: 'a, H: LendsDomains<S>>(
     home: &'a mut H,
     id: DomainId,
@@ -132,7 +133,7 @@ pub(crate) fn domain_mut<'a, S: 'a, H: LendsDomains<S>>(
     }
 }
 
-// Whether two ids are one.
+// Whether both ids are the same.
 fn is(a: DomainId, b: DomainId) -> bool
     ensures { result ≡ same_id a b }
 {

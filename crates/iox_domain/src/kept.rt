@@ -1,4 +1,4 @@
-//! What is kept for ports, by their numbers.
+//! Values that are stored for ports, by their numbers.
 ghost use Rattle.std.specs.Prelude.{◌≡◌, option_copied, is_some, IfOk, OnOk, OnErr, OnSome, Some, [], true};
 ghost use Rattle.iox_domain.specs.Kept.{kept_under, kept, forgotten, put_back};
 
@@ -6,9 +6,9 @@ use std::alloc::{AllocError, Global};
 use std::collections::BTreeMap;
 use std::marker::Model;
 
-/// What is kept for ports, by their numbers: at most one value for each.
+/// Values that are stored for ports, by their numbers: at most one for each.
 ///
-/// Contracts see each with its number, by rising number.
+/// Contracts see each value with its number, by rising number.
 #[derive(Drop)]
 pub struct Kept<H> {
     values: BTreeMap<u64, H>,
@@ -23,7 +23,7 @@ impl<H> Model for Kept<H> {
 }
 
 impl<H: Drop> Kept<H> {
-    /// Nothing is kept.
+    /// No value is stored.
     pub fn new(alloc: Global) -> Self
         ensures { result ≡ [] }
     {
@@ -32,15 +32,15 @@ impl<H: Drop> Kept<H> {
         }
     }
 
-    /// What is kept under a number, if anything is.
+    /// The value stored under this number, if there is one.
     pub fn get(&self, number: u64) -> Option<&H>
         ensures { option_copied result ≡ kept_under number self.now }
     {
         self.values.get(&number)
     }
 
-    /// Keeps a value under a number, and answers what was kept there before. It fails only where an allocation fails, and then nothing
-    /// has changed.
+    /// Stores a value under this number, and answers the value that was stored there before. The call fails only if an
+    /// allocation fails; then nothing has changed.
     pub fn keep(&mut self, number: u64, value: H) -> Result<Option<H>, AllocError>
         ensures before { IfOk result (λ before. before ≡ kept_under number self.old) }
         ensures ok { OnOk result (self.new ≡ kept number value self.old) }
@@ -51,21 +51,21 @@ impl<H: Drop> Kept<H> {
         Ok(self.values.insert(number, value)?)
     }
 
-    /// Undoes a `keep` of this number, which answered `before`.
+    /// Undoes a `keep` of this number that answered `before`.
     pub fn put_back(&mut self, number: u64, before: Option<H>)
         requires { OnSome before (is_some (kept_under number self.old) ≡ true) }
         ensures { self.new ≡ put_back number before self.old }
     {
         match before {
             Some(value) => {
-                // A number that is there takes no memory.
+                // Replacing the value of a number that exists allocates nothing.
                 let _ = self.values.insert(number, value);
             }
             None => self.forget(number),
         }
     }
 
-    /// Keeps nothing under a number any longer.
+    /// Removes the value under this number, if there is one.
     pub fn forget(&mut self, number: u64)
         ensures { self.new ≡ forgotten number self.old }
     {

@@ -1,25 +1,25 @@
-//! One publish-subscribe service with its ports, by their numbers, and who decides for them.
+//! One publish-subscribe service with its ports, by their numbers, and their handlers.
 //!
 //! | Module | What it has |
 //! |---|---|
 //! | `calls` | the calls of ports at the home of their domain |
 //! | `settings` | what the ports of a service take from its description and from their users |
 //! | `ports` | the ports of one service by their numbers: `ServicePorts` |
-//! | `port_laws` | what the calls of these ports come to, in other words |
-//! | `allowances` | how many loans and samples the ports may still have, and what each call makes of that |
-//! | `domain_id` | which domain it is |
-//! | `domain` | a domain: which service it is of, its ports and their handlers |
-//! | `home` | what holds domains, and a domain as the home of its own ports |
-//! | `kept` | what is kept for ports, by their numbers |
-//! | `laws` | what its calls come to, in other words |
-//! | `living` | how many ports, loans and samples live |
-//! | `nobody` | who decides where nobody is named |
-//! | `parts` | what a domain is made of |
-//! | `publishing` | a publisher comes, follows the subscribers, sends and leaves |
+//! | `port_laws` | theorems about the calls of these ports |
+//! | `allowances` | how many more loans and samples the ports may have, and how each call changes that |
+//! | `domain_id` | the id of a domain |
+//! | `domain` | a domain: its id, its service configuration, its ports and their handlers |
+//! | `home` | what contains domains, and a domain as the home of its own ports |
+//! | `kept` | values that are stored for ports, by their numbers |
+//! | `laws` | theorems about domains and homes |
+//! | `living` | how many ports, loans and samples are alive |
+//! | `nobody` | the handler that is used if none is set |
+//! | `parts` | the parts of a domain |
+//! | `publishing` | a publisher is created, follows the subscribers, sends and is closed |
 //! | `state` | what a domain lends to the calls of its ports |
-//! | `subscribing` | a subscriber comes, follows the publishers, receives and leaves |
+//! | `subscribing` | a subscriber is created, follows the publishers, receives and is closed |
 //!
-//! Writing, reading and releasing ask nobody: these calls are those of the domain's `state.ports`.
+//! Writing, reading and releasing ask no handler: these calls are those of the domain's `state.ports`.
 //!
 //! First calls, of a new domain:
 //!

@@ -1,4 +1,4 @@
-//! Who decides where nobody is named.
+//! The handler that is used if none is set.
 ghost use Rattle.iox_domain.specs.Handling.{passes_over, waits};
 
 use iox_domain_values::{
@@ -6,7 +6,7 @@ use iox_domain_values::{
     DegradationInfo, Degrades,
 };
 
-/// Who decides where nobody is named: a send waits at a full mailbox, and a connection that fails is passed over with a warning.
+/// The handler that is used if none is set: a send waits at a full mailbox, and a failed connection is answered with `Warn`.
 #[derive(Drop)]
 pub struct Nobody;
 

@@ -1,4 +1,4 @@
-//! What a domain is made of.
+//! The parts of a domain.
 ghost use Rattle.std.specs.Prelude.{◌≡◌, true};
 ghost use Rattle.iox_domain.specs.Parts.{parts_of, domain_of, agrees};
 
@@ -11,40 +11,40 @@ use iox_describe_settings::publish_subscribe::StaticConfig;
 use iox_domain_ports::{PublisherEntry, Publishers, SubscriberEntry};
 use iox_domain_values::{DegradationHandler, Handlers, ServiceSizes};
 
-/// What a domain is made of: its settings, the places of its ports, the publishers with their slots, connections and histories, the
-/// subscribers, and who decides for them. Each part is the domain's own, so neither way takes memory.
+/// The parts of a domain: its configuration, the places of its ports, the publishers with their slots, connections and
+/// histories, the subscribers, and the handlers. The parts are the domain's own fields, so neither conversion allocates.
 ///
-/// This port's own.
+/// Not in `iceoryx2`.
 #[derive(Drop)]
 pub struct DomainParts<T, U, B = Handlers, D = DegradationHandler> {
-    /// Which domain it is.
+    /// The id of the domain.
     pub id: DomainId,
-    /// What its nodes agreed on.
+    /// The service configuration on which its nodes agreed.
     pub agreed: StaticConfig,
     /// The number of its service.
     pub service: u64,
-    /// How much it allows.
+    /// The limits of the service.
     pub sizes: ServiceSizes,
     /// The number that the next port gets.
     pub next_port: u64,
-    /// Which publishers are listed, each at its place.
+    /// The list of publishers, each at its place.
     pub publisher_places: Roll<PublisherEntry>,
-    /// Which subscribers are listed, each at its place.
+    /// The list of subscribers, each at its place.
     pub subscriber_places: Roll<SubscriberEntry>,
     /// The publishers, with their slots, connections and histories.
     pub publishers: Publishers<T, U>,
     /// The subscribers.
     pub subscribers: Subscribers,
-    /// Who decides for each publisher.
+    /// The handlers of each publisher.
     pub publisher_handlers: Kept<B>,
-    /// Who decides for each subscriber.
+    /// The handler of each subscriber.
     pub subscriber_handlers: Kept<D>,
-    /// What fills a slot that was never written.
+    /// The value that fills a slot that was never written.
     pub blank: T,
 }
 
 impl<T, U, B, D> DomainParts<T, U, B, D> {
-    /// Whether these are parts of one domain: they are of its service, and allow as much as its nodes agreed on.
+    /// Whether these are parts of one domain: they belong to its service, and their sizes are those on which its nodes agreed.
     pub fn agrees(&self) -> bool
         ensures { result ≡ agrees self.now }
     {
@@ -64,7 +64,7 @@ impl<T, U, B, D> DomainParts<T, U, B, D> {
 }
 
 impl<T, U, B, D> Domain<T, U, B, D> {
-    /// What it is made of.
+    /// The parts of the domain.
     pub fn into_parts(self) -> DomainParts<T, U, B, D>
         ensures { result ≡ parts_of self }
     {
@@ -100,7 +100,7 @@ impl<T, U, B, D> Domain<T, U, B, D> {
         }
     }
 
-    /// The domain of these parts, which agree. Of the parts of a domain it is that domain.
+    /// The domain of these parts, which must agree. Of the parts of a domain it is that domain.
     pub fn of_parts(parts: DomainParts<T, U, B, D>) -> Self
         requires { agrees parts ≡ true }
         ensures domain { result ≡ domain_of parts }

@@ -1,15 +1,16 @@
-//! The ports of one service by their numbers: who is listed, whose connections there are, and what each call of a port does to them.
+//! The ports of one service by their numbers: the lists of ports, the ports with their connections, and what each call of a
+//! port does to them.
 //!
 //! - [`roll`]: the list of the ports of one kind.
-//! - [`subscribers`]: the subscribers of a service, by number.
+//! - [`subscribers`]: the subscribers of a service by their numbers.
 //! - [`service_ports`]: the ports of a service.
-//! - [`making`]: a publisher and a subscriber come.
-//! - [`lending`]: a publisher lends a slot, what is to be sent is written there, and a loan is given up.
-//! - [`putting`]: a publisher lends values, writes and sends them at once.
-//! - [`publishing`]: a publisher follows the subscribers, sends and leaves.
-//! - [`subscribing`]: a subscriber follows the publishers, receives, releases and leaves.
+//! - [`making`]: a publisher and a subscriber are created.
+//! - [`lending`]: a publisher loans a slot, what is to be sent is written there, and a loan is dropped.
+//! - [`putting`]: a publisher loans values, writes and sends them at once.
+//! - [`publishing`]: a publisher follows the subscribers, sends and is closed.
+//! - [`subscribing`]: a subscriber follows the publishers, receives, releases and is closed.
 //! - [`reading`]: what is read of a sample.
-//! - [`living`]: how much lives.
+//! - [`living`]: how much is alive.
 //!
 //! First calls, of a publisher:
 //!

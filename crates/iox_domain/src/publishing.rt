@@ -1,4 +1,4 @@
-//! A publisher comes, follows the subscribers, sends and leaves.
+//! A publisher is created, follows the subscribers, sends and is closed.
 ghost use Rattle.std.specs.Prelude.{◌≡◌};
 ghost use Rattle.iox_domain.specs.DomainValues.declared.degradation.DegradationCause.TheVariants as cause;
 ghost use Rattle.iox_domain.specs.DomainPorts.Publishers.{port_of};
@@ -21,8 +21,8 @@ use iox_domain_values::{
 use std::alloc::Global;
 
 impl<T: Copy, U: Copy, B: Decides + Degrades, D: Degrades> DomainState<T, U, B, D> {
-    /// A publisher comes, and its number is the answer: `ServicePorts::create_publisher` says what it gets, and when it is refused. Who
-    /// decides for it is kept until it leaves; a loan has this user header at first.
+    /// Creates a publisher, and answers its number: `ServicePorts::create_publisher` says what the publisher gets, and when the
+    /// call fails. Its handlers are stored until it is closed; a loan first has this user header.
     ///
     /// Ported from `iceoryx2::service::port_factory::publisher::PortFactoryPublisher::create`.
     pub fn create_publisher<O: Overrides>(
@@ -61,7 +61,7 @@ impl<T: Copy, U: Copy, B: Decides + Degrades, D: Degrades> DomainState<T, U, B, 
         }
     }
 
-    /// The publisher lends a slot for so many values and elements: `ServicePorts::loan` says what that does.
+    /// The publisher loans a slot for so many values and elements: `ServicePorts::loan` says what that does.
     ///
     /// Ported from `iceoryx2::port::publisher::Publisher::loan_slice_uninit`.
     pub fn loan(
@@ -97,7 +97,7 @@ impl<T: Copy, U: Copy, B: Decides + Degrades, D: Degrades> DomainState<T, U, B, 
         }
     }
 
-    /// The publisher sends the written loan in a slot: `ServicePorts::send` says what that does and answers.
+    /// The publisher sends the written loan in this slot: `ServicePorts::send` says what that does and answers.
     ///
     /// Ported from `iceoryx2::sample_mut::SampleMut::send`.
     pub fn send(
@@ -118,7 +118,7 @@ impl<T: Copy, U: Copy, B: Decides + Degrades, D: Degrades> DomainState<T, U, B, 
         }
     }
 
-    /// The publisher lends as many values, writes them and sends them: `ServicePorts::put` says what that does and answers.
+    /// The publisher loans as many values, writes them and sends them: `ServicePorts::put` says what that does and answers.
     ///
     /// Ported from `iceoryx2::port::publisher::Publisher::send_copy`, for slices.
     /// Example: `let sent = state.put(alloc, number, &[7, 8]);`
@@ -141,9 +141,10 @@ impl<T: Copy, U: Copy, B: Decides + Degrades, D: Degrades> DomainState<T, U, B, 
         }
     }
 
-    /// Tries the place again at which the publisher's send waits, after so many nanoseconds: `ServicePorts::retry` says what that does.
+    /// Tries the place at which the publisher's send waits once more, `elapsed` nanoseconds after its mailbox was first found
+    /// full: `ServicePorts::retry` says what that does.
     ///
-    /// This port's own: `iceoryx2::port::publisher::Publisher::send` waits itself.
+    /// Not in `iceoryx2`: `iceoryx2::port::publisher::Publisher::send` waits itself.
     pub fn retry(&mut self, number: u64, elapsed: u64) -> Option<Result<Sent, SendError>>
         ensures retries { AtPublisher number
             (RetriesOne (kept_decides (λ kept. B.decides kept) (kept_under number self.old.publisher_handlers)) elapsed)
@@ -156,7 +157,7 @@ impl<T: Copy, U: Copy, B: Decides + Degrades, D: Degrades> DomainState<T, U, B, 
         }
     }
 
-    /// The publisher leaves: `ServicePorts::leave_publisher` says what that does. Who decided for it is dropped.
+    /// Closes the publisher: `ServicePorts::leave_publisher` says what that does. Its handlers are dropped.
     ///
     /// Ported from dropping an `iceoryx2::port::publisher::Publisher`.
     pub fn leave_publisher(&mut self, number: u64) -> bool

@@ -1,14 +1,14 @@
-//! What the ports of a service take from its description and from their users, before any port is made.
+//! What the ports of a service take from its description and from their users, before any port is created.
 //!
 //! | Module | What it has |
 //! |---|---|
-//! | `sizes` | how much a description allows to its ports |
-//! | `fitting` | whether the messages that a description tells of can hold values of given types |
-//! | `custom` | the types that stand for any payload and any user header |
-//! | `laws` | what fitting comes to, in other words |
-//! | `publisher_settings`, `subscriber_settings` | what a publisher and a subscriber are made with |
+//! | `sizes` | the limits that a description sets for ports |
+//! | `fitting` | whether the messages that a description defines can hold values of given types |
+//! | `custom` | the types that match any payload and any user header |
+//! | `laws` | theorems about which types fit |
+//! | `publisher_settings`, `subscriber_settings` | the settings with which a publisher and a subscriber are created |
 //!
-//! It names the header of a message and the types that can be sent again.
+//! The module re-exports the header of a message and the trait of types that can be sent (`ZeroCopySend`).
 //!
 //! First calls. `Domain::new` makes the first, the builders of `iox_delivery_factories` the second.
 //!

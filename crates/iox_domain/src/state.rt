@@ -4,17 +4,17 @@ use crate::kept::Kept;
 use crate::ports::ServicePorts;
 use iox_domain_values::{DegradationHandler, Handlers};
 
-/// All of a domain that the calls of its ports change: the ports, and who decides for them. A home lends it by the domain's id.
+/// All of a domain that the calls of its ports change: the ports, and their handlers. A home lends it by the domain's id.
 ///
-/// This port's own.
+/// Not in `iceoryx2`.
 #[derive(Drop)]
 pub struct DomainState<T, U, B = Handlers, D = DegradationHandler> {
     /// The ports.
     pub ports: ServicePorts<T, U>,
-    /// Who decides for each publisher that exists.
+    /// The handlers of each open publisher.
     pub publisher_handlers: Kept<B>,
-    /// Who decides for each subscriber that exists.
+    /// The handler of each open subscriber.
     pub subscriber_handlers: Kept<D>,
-    /// What fills a slot that was never written. It is never read.
+    /// The value that fills a slot that was never written. It is never read.
     pub blank: T,
 }

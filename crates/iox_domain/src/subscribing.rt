@@ -1,4 +1,4 @@
-//! A subscriber comes, follows the publishers, receives and leaves.
+//! A subscriber is created, follows the publishers, receives and is closed.
 ghost use Rattle.std.specs.Prelude.{◌≡◌};
 ghost use Rattle.iox_domain.specs.DomainValues.declared.degradation.DegradationCause.TheVariants as cause;
 ghost use Rattle.iox_domain.specs.Ports.{AtSubscriber};
@@ -20,8 +20,8 @@ use iox_domain_values::{
 use std::alloc::Global;
 
 impl<T: Copy, U: Copy, B: Decides + Degrades, D: Degrades> DomainState<T, U, B, D> {
-    /// A subscriber comes, and its number is the answer: `ServicePorts::create_subscriber` says what it gets, and when it is refused. Who
-    /// decides for it is kept until it leaves.
+    /// Creates a subscriber, and answers its number: `ServicePorts::create_subscriber` says what the subscriber gets, and when
+    /// the call fails. Its handler is stored until it is closed.
     ///
     /// Ported from `iceoryx2::service::port_factory::subscriber::PortFactorySubscriber::create`.
     pub fn create_subscriber(
@@ -88,7 +88,7 @@ impl<T: Copy, U: Copy, B: Decides + Degrades, D: Degrades> DomainState<T, U, B, 
         }
     }
 
-    /// The subscriber receives: `ServicePorts::receive` says which message comes, and when it is refused.
+    /// The subscriber receives: `ServicePorts::receive` says which message it gets, and when that fails.
     ///
     /// Ported from `iceoryx2::port::subscriber::Subscriber::receive`.
     pub fn receive(
@@ -107,7 +107,7 @@ impl<T: Copy, U: Copy, B: Decides + Degrades, D: Degrades> DomainState<T, U, B, 
         }
     }
 
-    /// The subscriber leaves: `ServicePorts::leave_subscriber` says what that does. Who decided for it is dropped.
+    /// Closes the subscriber: `ServicePorts::leave_subscriber` says what that does. Its handler is dropped.
     ///
     /// Ported from dropping an `iceoryx2::port::subscriber::Subscriber`.
     pub fn leave_subscriber(&mut self, number: u64) -> bool

@@ -1,4 +1,4 @@
--- What a domain does when a subscriber comes is what the machine's service does.
+-- Creating a subscriber in a domain matches the machine's command.
 use Rattle.std.specs.Prelude.{ℕ, ◌+◌, ◌^◌, ◌<◌, ◌≡◌, true, List, None, Some, Result, Ok, Err}
 use Rattle.iox_command.specs.DomainValues.declared.create_error.SubscriberCreateError.{SubscriberCreateError}
 use Rattle.iox_command.specs.DomainValues.declared.degradation.DegradationAction.{DegradationAction}
@@ -25,24 +25,25 @@ use Rattle.iox_machine.specs.Service.{Service}
 use Rattle.iox_machine.specs.State.{State, Factory, is_service_of}
 use Rattle.iox_machine.specs.Table.{at}
 
--- what is replied where a subscriber came, under this number, or didn't
+-- The reply after a subscriber was created under this number, or wasn't.
 abbrev pub came_or_refused : {T : Type 0} → ℕ → Result ℕ SubscriberCreateError → Reply T
 came_or_refused name (Ok number) = reply.SubscriberMade name
 came_or_refused name (Err why) = reply.Refused (refusal.Subscriber why)
 
--- the subscriber of a number, if it came, has this name
+-- The names after the subscriber with number `number`, if it was created, got this name.
 abbrev pub with_came : ℕ → ℕ → Result ℕ SubscriberCreateError → Naming → Naming
 with_came number name (Ok came) names = record names { subscriber = with_name number name names.subscriber }
 with_came number name (Err why) names = names
 
--- A command asks for what a domain is asked for: by this factory, and for so many waiting messages.
+-- The command asks for what the domain is asked for: a subscriber of this factory, with this buffer size.
 pub record IsAskedSo (factory : ℕ) (options : SubscriberOptions) (config : SubscriberConfig) : Type 0 where
   pub owner : config.owner.number ≡ factory
   pub buffer_size : config.buffer_size ≡ options.buffer_size
 
--- A subscriber comes, by a factory of the service, and follows the list of publishers; or it is told why it doesn't. It gets the next
--- number, which no subscriber has yet. At least one message may wait for it, one port more and one change more of the list of subscribers
--- can be counted, and the ports are roomy: so they are after any calls, as `SamplesLeft` says.
+-- Creating a subscriber through a factory of the service matches the command: it follows the list of publishers, or the reply
+-- says why it isn't created. The theorem assumes that no subscriber has the next number, that the service lets at least one
+-- message wait, that one more port and one more change of the list of subscribers can be counted, and that the ports are roomy,
+-- as they are after any calls (`SamplesLeft`).
 abbrev pub SubscriberComesMatches : (T U : Type 0) → Choices T → (DegradationInfo → DegradationAction → Type 0) → Type 0
 SubscriberComesMatches T U choices may = (types : MessageTypeDetails) (buffer : ℕ) (names : Naming) (lent : List (ℕ × LentSlot))
     (held : List (ℕ × Taken)) (old new : ServicePorts T U) (service : Service T) (state : State T) (factory : ℕ) (made : Factory)

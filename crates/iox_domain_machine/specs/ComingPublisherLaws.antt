@@ -1,4 +1,4 @@
--- What a domain does when a publisher comes is what the machine's service does.
+-- Creating a publisher in a domain matches the machine's command.
 use Rattle.std.specs.Prelude.{ℕ, ◌+◌, ◌^◌, ◌<◌, ◌≡◌, true, List, None, Some, Result, Ok, Err, unwrap_or}
 use Rattle.iox_command.specs.DomainValues.declared.create_error.PublisherCreateError.{PublisherCreateError}
 use Rattle.iox_command.specs.DomainValues.declared.degradation.DegradationAction.{DegradationAction}
@@ -25,19 +25,20 @@ use Rattle.iox_machine.specs.Service.{Service}
 use Rattle.iox_machine.specs.State.{State, Factory, is_service_of}
 use Rattle.iox_machine.specs.Table.{at}
 
--- what is replied where a publisher came, under this number, or didn't
+-- The reply after a publisher was created under this number, or wasn't.
 abbrev pub publisher_came_or_refused : {T : Type 0} → ℕ → Result ℕ PublisherCreateError → Reply T
 publisher_came_or_refused name (Ok number) = reply.PublisherMade name
 publisher_came_or_refused name (Err why) = reply.Refused (refusal.Publisher why)
 
--- the publisher of a number, if it came, has this name
+-- The names after the publisher with number `number`, if it was created, got this name.
 abbrev pub with_publisher_came : ℕ → ℕ → Result ℕ PublisherCreateError → Naming → Naming
 with_publisher_came number name (Ok came) names = record names { publisher = with_name number name names.publisher }
 with_publisher_came number name (Err why) names = names
 
--- A command asks for what a domain is asked for: by this factory, for so many loans, so many values in a slot at first, single values, and
--- this way to grow, each with the domain's default where it isn't named; for the domain's default as the first number of its messages; and
--- as many slots are answered as the command names, or those that are needed.
+-- The command asks for what the domain is asked for: a publisher of this factory, with these limits of loans and of values in a
+-- slot of the first segment, single values, and this allocation strategy, each with the domain's default if the command doesn't
+-- give it; and with the domain's default as its first sequence number. The override answers as many slots as the command says,
+-- or as the worst case needs.
 pub record IsPublisherAskedSo (overrides : ℕ → ℕ → Type 0) (factory : ℕ) (options : PublisherOptions)
     (config : PublisherConfig) : Type 0 where
   pub owner : config.owner.number ≡ factory
@@ -48,9 +49,10 @@ pub record IsPublisherAskedSo (overrides : ℕ → ℕ → Type 0) (factory : �
   pub first_sequence : config.first_sequence ≡ publisher_defaults.first_sequence
   pub slots : (needed named : ℕ) → overrides needed named → named ≡ unwrap_or options.preallocated_samples needed
 
--- A publisher comes, by a factory of the service, and follows the list of subscribers; or it is told why it doesn't. It gets the next
--- number, which no publisher has yet. One port more and one change more of the list of publishers can be counted, and the ports are roomy:
--- so they are after any calls, as `SamplesLeft` says. Connections that are made have names then.
+-- Creating a publisher through a factory of the service matches the command: it follows the list of subscribers, or the reply
+-- says why it isn't created. Connections that it makes get names. The theorem assumes that no publisher has the next number,
+-- that one more port and one more change of the list of publishers can be counted, and that the ports are roomy, as they are
+-- after any calls (`SamplesLeft`).
 abbrev pub PublisherComesMatches : (T U : Type 0) → Choices T → (ℕ → ℕ → Type 0) → (DegradationInfo → DegradationAction → Type 0)
     → Type 0
 PublisherComesMatches T U choices overrides may = (types : MessageTypeDetails) (buffer : ℕ) (names : Naming)

@@ -1,4 +1,5 @@
--- Which service ports stand for once a user header is written, and what the header of a sample tells.
+-- Writing a user header doesn't change which service the ports represent, and the header of a sample says what the machine has
+-- of it.
 use Rattle.std.specs.Prelude.{ℕ, ◌≡◌, Bool, List, Some}
 use Rattle.iox_domain.specs.DescribeBase.declared.header.Header.{Header}
 use Rattle.iox_domain.specs.DomainPorts.Messages.{write_user_header}
@@ -14,21 +15,21 @@ use Rattle.iox_machine.specs.Message.{Sample}
 use Rattle.iox_machine.specs.Service.{Service}
 use Rattle.iox_machine.specs.Table.{at}
 
--- The user header of a loan is written, where its publisher passes a test: the ports stand for the same service.
+-- After the user header of a loan was written, if its publisher passes a test, the ports represent the same service.
 abbrev pub UserHeaderStands : Type 0 → Type 0 → Type 0
 UserHeaderStands T U = (names : Naming) (lent : List (ℕ × LentSlot)) (held : List (ℕ × Taken)) (buffer : ℕ) (ports : ServicePorts T U)
     (service : Service T) (publisher slot : ℕ) (test : PublisherPort T U → Bool) (user_header : U)
     → StandsFor names lent held buffer ports service
     → StandsFor names lent held buffer (written_in publisher test slot (write_user_header user_header) ports) service
 
--- A sample has a header, which tells what the machine's sample does: whose message it is, by name, and its sequence number.
+-- The sample has a header, which says what the machine's sample does: its publisher, by name, and its sequence number.
 pub record HeaderTells {T U : Type 0} (names : Naming) (ports : ServicePorts T U) (taken : Taken) (sample : Sample T) : Type 0 where
   pub header : Header
   pub found : header_in taken ports ≡ Some header
   pub sequence : header.sequence ≡ sample.message.sequence
   pub publisher : names.publisher header.publisher_id ≡ sample.publisher
 
--- The header of a sample that goes by a number tells what the machine has of it.
+-- The header of the sample with this number says what the machine has of it.
 abbrev pub HeaderMatches : Type 0 → Type 0 → Type 0
 HeaderMatches T U = (names : Naming) (lent : List (ℕ × LentSlot)) (held : List (ℕ × Taken)) (buffer : ℕ) (ports : ServicePorts T U)
     (service : Service T) (number : ℕ) (taken : Taken)

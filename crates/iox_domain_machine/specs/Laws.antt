@@ -1,4 +1,4 @@
--- What a domain does at a call is what the machine's service does at its command.
+-- Calls at a domain match commands at the machine's service; `Matches` says what that means.
 use Rattle.std.specs.Prelude.{ℕ, ◌≡◌, ◌≢◌, Bool, true, false, List, [], ◌∷◌, length, is_some, Option, None, Some, if◌then◌else◌}
 use Rattle.std.specs.Global.{Vec}
 use Rattle.std.specs.Vec.{vec_items}
@@ -29,29 +29,30 @@ use Rattle.iox_machine.specs.Service.{Service, new_service}
 use Rattle.iox_machine.specs.State.{State, counted}
 use Rattle.iox_machine.specs.Table.{at, removed}
 
--- what is replied where a call did something, or nothing
+-- The reply after a call that did something, or nothing.
 abbrev pub done_or_skipped : {T : Type 0} → Bool → Reply T
 done_or_skipped true = reply.Done
 done_or_skipped false = reply.Skipped
 
--- what is replied where a send was given up: how many took its message
+-- The reply after a send was given up, with how many connections took its message; or after no send waited.
 abbrev pub gave_up_or_skipped : {T : Type 0} → Option ℕ → Reply T
 gave_up_or_skipped None = reply.Skipped
 gave_up_or_skipped (Some count) = reply.Delivered count
 
--- a machine that has one service
+-- The machine whose only service is this one.
 abbrev pub with_alone : {T : Type 0} → Service T → State T → State T
 with_alone service state = record state { services = service ∷ [] }
 
--- Ports of a domain before any port came stand for a service that nobody uses yet.
+-- The ports of a new domain represent a new service, which has no ports yet.
 abbrev pub NewStands : Type 0 → Type 0 → Type 0
 NewStands T U = (buffer number : ℕ) (name : List ℕ) (settings : StaticConfig)
     → StandsFor {T = T} {U = U} nameless [] [] buffer (no_ports number (sizes buffer settings)) (new_service name settings)
 
--- A machine is made for messages of certain types, with what others may choose; and its subscribers keep at least so many connections to
--- publishers that left.
+-- The machine's messages have certain types, `choices` says what handlers may choose, and each subscriber keeps at least
+-- `buffer` connections of closed publishers.
 module _ (T U : Type 0) (choices : Choices T) where
-  -- A machine that has this service alone answers a command so, and has one then for which these ports stand.
+  -- A machine whose only service is this one gives this reply to the command, and its service afterwards is represented by
+  -- these ports.
   abbrev pub Matches : MessageTypeDetails → ℕ → Command T → Reply T → State T → Service T → Naming → List (ℕ × LentSlot) → List (ℕ × Taken)
       → ServicePorts T U → Type 0
   Matches types buffer command answer state service names lent held ports =
@@ -60,7 +61,7 @@ module _ (T U : Type 0) (choices : Choices T) where
       (record (with_alone after state) { made = counted answer state.made })
       × StandsFor names lent held buffer ports after
 
-  -- One value of a written loan is written.
+  -- Setting one value of a written loan matches the command.
   abbrev pub SetMatches : Type 0
   SetMatches = (types : MessageTypeDetails) (buffer : ℕ) (names : Naming) (lent : List (ℕ × LentSlot)) (held : List (ℕ × Taken))
       (ports : ServicePorts T U) (service : Service T) (state : State T) (loan place : ℕ) (value : T) (out : LentSlot)
@@ -71,7 +72,7 @@ module _ (T U : Type 0) (choices : Choices T) where
       (if is_written_loan (loan_in out.publisher out.slot ports) then written_in out.publisher
       (λ port. has_place out.slot place port.sender.uses) out.slot (write_value place value) ports else ports)
 
-  -- All values of a loan are written.
+  -- Filling a loan with values matches the command.
   abbrev pub FillMatches : Type 0
   FillMatches = (types : MessageTypeDetails) (buffer : ℕ) (names : Naming) (lent : List (ℕ × LentSlot)) (held : List (ℕ × Taken))
       (ports : ServicePorts T U) (service : Service T) (state : State T) (loan : ℕ) (values : List T) (out : LentSlot)
@@ -81,7 +82,7 @@ module _ (T U : Type 0) (choices : Choices T) where
       lent held
       (written_in out.publisher (λ port. has_length out.slot (length values) port.sender.uses) out.slot (write_all values) ports)
 
-  -- A loan is given up, of ports that are sound: so they are after any calls, as `HeldStays` says.
+  -- Dropping a loan matches the command, if the ports are sound, as they are after any calls (`HeldStays`).
   abbrev pub DropMatches : Type 0
   DropMatches = (types : MessageTypeDetails) (buffer : ℕ) (names : Naming) (lent : List (ℕ × LentSlot)) (held : List (ℕ × Taken))
       (ports : ServicePorts T U) (service : Service T) (state : State T) (loan : ℕ) (out : LentSlot)
@@ -90,7 +91,7 @@ module _ (T U : Type 0) (choices : Choices T) where
       (done_or_skipped (passes out.publisher (λ port. is_some (place_of out.slot port)) ports)) state service names
       (removed loan lent) held (gave_up_in out.publisher out.slot ports)
 
-  -- A sample that goes by a number is there, and is read with its values, where there is room for them.
+  -- The sample with this number exists, and reading its values matches the command, if these fit into a vector.
   abbrev pub ReadMatches : Type 0
   ReadMatches = (types : MessageTypeDetails) (buffer : ℕ) (names : Naming) (lent : List (ℕ × LentSlot)) (held : List (ℕ × Taken))
       (ports : ServicePorts T U) (service : Service T) (state : State T) (sample : ℕ) (taken : Taken)
@@ -99,7 +100,7 @@ module _ (T U : Type 0) (choices : Choices T) where
       × ((values : Vec T) → vec_items values ≡ message.values
       → Matches types buffer (command.Read sample) (reply.Values values) state service names lent held ports)
 
-  -- A sample that goes by a number is there, and it is told which number its message has, if it has one.
+  -- The sample with this number exists, and answering the sequence number of its message, if it has one, matches the command.
   abbrev pub SequenceMatches : Type 0
   SequenceMatches = (types : MessageTypeDetails) (buffer : ℕ) (names : Naming) (lent : List (ℕ × LentSlot)) (held : List (ℕ × Taken))
       (ports : ServicePorts T U) (service : Service T) (state : State T) (sample : ℕ) (taken : Taken)
@@ -107,7 +108,7 @@ module _ (T U : Type 0) (choices : Choices T) where
       → (message : domain.Message T U) × (sample_in taken ports ≡ Some message)
       × Matches types buffer (command.Sequence sample) (reply.Sequence message.sequence) state service names lent held ports
 
-  -- A send that waits is given up.
+  -- Giving up a waiting send matches the command.
   abbrev pub GiveUpMatches : Type 0
   GiveUpMatches = (types : MessageTypeDetails) (buffer : ℕ) (names : Naming) (lent : List (ℕ × LentSlot)) (held : List (ℕ × Taken))
       (old new : ServicePorts T U)

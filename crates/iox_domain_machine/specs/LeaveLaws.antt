@@ -1,4 +1,4 @@
--- What a domain does when a publisher or a subscriber leaves is what the machine's service does.
+-- Closing a publisher or a subscriber in a domain matches the machine's command.
 use Rattle.std.specs.Prelude.{ℕ, ◌≡◌, ◌≢◌, Bool, true, List}
 use Rattle.iox_command.specs.NegotiateBase.DescribeBase.declared.message_type.MessageTypeDetails.{MessageTypeDetails}
 use Rattle.iox_command.specs.declared.command.Command.TheVariants as command
@@ -17,8 +17,8 @@ use Rattle.iox_machine.specs.Choices.{Choices}
 use Rattle.iox_machine.specs.Service.{Service}
 use Rattle.iox_machine.specs.State.{State}
 
--- A publisher leaves, of ports that are sound: so they are after any calls, as `HeldStays` says. One change more of the list of
--- publishers can be counted.
+-- Closing a publisher matches the command. The theorem assumes that the ports are sound, as they are after any calls
+-- (`HeldStays`), and that one more change of the list of publishers can be counted.
 abbrev pub PublisherLeaveMatches : (T U : Type 0) → Choices T → Type 0
 PublisherLeaveMatches T U choices = (types : MessageTypeDetails) (buffer : ℕ) (names : Naming) (lent : List (ℕ × LentSlot))
     (held : List (ℕ × Taken)) (old new : ServicePorts T U) (service : Service T) (state : State T) (number : ℕ) (answer : Bool)
@@ -27,8 +27,8 @@ PublisherLeaveMatches T U choices = (types : MessageTypeDetails) (buffer : ℕ) 
     → Matches T U choices types buffer (command.Leave (port.Publisher (names.publisher number))) (done_or_skipped answer) state
     service names lent held new
 
--- A subscriber leaves, of ports that are roomy: so they are after any calls, as `SamplesLeft` says. One change more of the list of
--- subscribers can be counted.
+-- Closing a subscriber matches the command. The theorem assumes that the ports are roomy, as they are after any calls
+-- (`SamplesLeft`), and that one more change of the list of subscribers can be counted.
 abbrev pub SubscriberLeaveMatches : (T U : Type 0) → Choices T → Type 0
 SubscriberLeaveMatches T U choices = (types : MessageTypeDetails) (buffer : ℕ) (names : Naming) (lent : List (ℕ × LentSlot))
     (held : List (ℕ × Taken)) (old new : ServicePorts T U) (service : Service T) (state : State T) (number : ℕ) (answer : Bool)

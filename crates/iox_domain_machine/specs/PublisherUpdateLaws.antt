@@ -1,4 +1,4 @@
--- What a domain does at the update of a publisher is what the machine's service does.
+-- The update of a publisher in a domain matches the machine's command.
 use Rattle.std.specs.Prelude.{ℕ, ◌≡◌, ◌≢◌, true, List, Option, Some, Result}
 use Rattle.iox_command.specs.DomainValues.declared.connection_failure.ConnectionFailure.{ConnectionFailure}
 use Rattle.iox_command.specs.DomainValues.declared.degradation.DegradationAction.{DegradationAction}
@@ -21,15 +21,16 @@ use Rattle.iox_machine.specs.Service.{Publisher, Service}
 use Rattle.iox_machine.specs.State.{State}
 use Rattle.iox_machine.specs.Table.{at}
 
--- Where the machine's publisher of this name stands, whatever a handler answers may be chosen for it.
+-- If the machine's publisher with this name is open, each answer of the handler is a choice of it.
 abbrev pub DegradesAs : {T : Type 0} → Choices T → (DegradationInfo → DegradationAction → Type 0) → ℕ → Service T → Type 0
 DegradesAs {T} choices may name service =
     (publisher : Publisher T) → at name service.publishers ≡ Some publisher → publisher.stands ≡ true
     → (info : DegradationInfo) (action : DegradationAction) → may info action → choices.publisher_acts name publisher.degradation action
 
 module _ (T U : Type 0) (choices : Choices T) (may : DegradationInfo → DegradationAction → Type 0) where
-  -- A publisher follows the list of subscribers, of ports whose ties are apart and whose sizes are those allowed: so they are after any
-  -- calls, as `AtMostOnce` and `SizesAgree` say. Its new connections get names.
+  -- Updating a publisher matches the command, and new connections get names. The theorem assumes that ties are apart and sizes
+  -- are those allowed, as they are after any calls (`AtMostOnce`, `SizesAgree`), and that each answer of the handler is a
+  -- choice of the machine's publisher.
   abbrev pub PublisherUpdateMatches : Type 0
   PublisherUpdateMatches = (types : MessageTypeDetails) (buffer : ℕ) (names : Naming) (lent : List (ℕ × LentSlot))
       (held : List (ℕ × Taken)) (old new : ServicePorts T U) (service : Service T) (state : State T) (number : ℕ)

@@ -1,4 +1,4 @@
--- Which publisher of the machine one of a domain is.
+-- Which publisher of the machine a publisher of a domain represents.
 use Rattle.std.specs.Prelude.{ℕ, ◌+◌, ◌-◌, ◌^◌, ◌<◌, ◌≤◌, ◌≡◌, min, true, false, List, length, drop, get_or, is_some, map, nat_le, Option}
 use Rattle.std.specs.Prelude.{None, Some, option_map}
 use Rattle.iox_domain.specs.DomainPorts.Messages as domain
@@ -13,9 +13,9 @@ use Rattle.iox_domain_machine.specs.Naming.{message_as}
 use Rattle.iox_machine.specs.PortList.{those}
 use Rattle.iox_machine.specs.Service.{Publisher, Send}
 
--- A send that waits has this message, goes to those who are connected at the places that are left, and was taken by as many so far. It
--- waits at the first of these places, where somebody is connected, and was tried there again as often, counted up to 2^64 - 1, and for as
--- long.
+-- The waiting send of the domain represents that of the machine: it has the same message, goes to the subscribers that are
+-- connected at the remaining places, and was taken by as many so far. It waits at the first of these places, where a subscriber
+-- is connected, and was tried there as often, counted up to 2^64 - 1, and for as long.
 pub record SendStandsFor {T U : Type 0} (name : ℕ → ℕ) (connected : List (Option ℕ)) (progress : ProgressState)
     (sent : domain.Message T U) (send : Send T) : Type 0 where
   pub message : send.message ≡ message_as name sent
@@ -26,16 +26,16 @@ pub record SendStandsFor {T U : Type 0} (name : ℕ → ℕ) (connected : List (
   pub elapsed : progress.elapsed ≡ send.elapsed
   pub meets : is_some (get_or connected progress.place None) ≡ true
 
--- a send waits of both, or of neither
+-- A send waits at both publishers, and represents the machine's; or it waits at neither.
 abbrev pub BlockedStandsFor : {T U : Type 0} → (ℕ → ℕ) → List (Option ℕ) → ProgressState → Option (domain.Message T U) → Option (Send T)
     → Type 0
 BlockedStandsFor name connected progress None blocked = blocked ≡ None
 BlockedStandsFor {T} name connected progress (Some message) blocked =
     (send : Send T) × (blocked ≡ Some send) × SendStandsFor name connected progress message send
 
--- The messages of a publisher that are in use have names by their slots, each its own, below the one that the next message gets. One is
--- of the current segment by its name exactly if it is by its slot, and no slot lies behind that. A slot that is lent has no other use.
--- And the next message is one of the current segment.
+-- The messages of a publisher that are in use have names by their slots, each its own, below the name of the next message. A
+-- message is of the current segment by its name exactly if it is by its slot, and no slot is behind that segment. A loaned slot
+-- has no other use. The next message is of the current segment.
 pub record NamesSlots (name : ℕ → ℕ) (uses : Uses ℕ ℕ) (first next : ℕ) : Type 0 where
   pub apart : (one other : ℕ) → 0 < times one (in_use uses) → 0 < times other (in_use uses) → name one ≡ name other → one ≡ other
   pub below : (slot : ℕ) → 0 < times slot (in_use uses) → name slot < next
@@ -44,9 +44,9 @@ pub record NamesSlots (name : ℕ → ℕ) (uses : Uses ℕ ℕ) (first next : �
   pub sole : (slot : ℕ) → 0 < times slot uses.loans → times slot (in_use uses) ≡ 1
   pub ahead : first ≤ next
 
--- A publisher of a domain is this one of the machine, where its messages have these names by their slots, and its subscribers by the
--- indices of their connections; so many may be listed. No message is in its history twice, its values are counted one by one, no send
--- waits of one that left, and there is a slot at least.
+-- A publisher of a domain represents this one of the machine, with these names of messages by their slots and of subscribers by
+-- the indices of their connections; at most `most_subscribers` are listed. No message is in the history twice, an element is
+-- one value, no send of a closed publisher waits, and there is at least one slot.
 pub record PublisherStandsFor {T U : Type 0} (name reader : ℕ → ℕ) (most_subscribers : ℕ) (port : PublisherPort T U)
     (publisher : Publisher T) : Type 0 where
   pub factory : publisher.factory ≡ port.owner.number

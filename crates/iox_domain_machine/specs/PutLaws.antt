@@ -1,4 +1,4 @@
--- What a publisher's put is, of a domain and of the machine.
+-- A publisher's put in a domain matches the machine's command.
 use Rattle.std.specs.Prelude.{ℕ, ◌≡◌, ◌≢◌, true, List, Option, Some, Result}
 use Rattle.iox_command.specs.DomainValues.declared.backpressure.BackpressureDecision.{BackpressureDecision}
 use Rattle.iox_command.specs.DomainValues.declared.backpressure.BackpressureInfo.{BackpressureInfo}
@@ -24,10 +24,11 @@ use Rattle.iox_machine.specs.Service.{Service, Publisher}
 use Rattle.iox_machine.specs.State.{State}
 use Rattle.iox_machine.specs.Table.{at}
 
--- A publisher lends a message for some values, and sends it with them, or it is told why not. It follows the list of subscribers before it
--- sends, where that changed. No loan that goes by a number is made. The message and connections get names, and what is in use keeps its
--- names. What is told of the message is told as its send begins. The ports are roomy: so they are after any calls, as `SamplesLeft` says.
--- What may be decided at a full mailbox, and answered where a connection failed, may be chosen for the machine's publisher.
+-- Putting values matches the command: the publisher loans a message for them, writes and sends it, or the reply says why it
+-- doesn't. It follows the list of subscribers before it sends, if the list changed. No loan with a number is made. The message
+-- and new connections get names, and what is in use keeps its names. The header of the message is recorded as its send begins.
+-- The theorem assumes that the ports are roomy, as they are after any calls (`SamplesLeft`), and that each decision at a full
+-- mailbox, and each answer for a failed connection, is a choice of the machine's publisher.
 abbrev pub PutMatches : (T U : Type 0) → Choices T → (BackpressureInfo → BackpressureDecision → Type 0)
     → (DegradationInfo → DegradationAction → Type 0) → Type 0
 PutMatches T U choices may may_degrade = (types : MessageTypeDetails) (buffer : ℕ) (names : Naming) (lent : List (ℕ × LentSlot))

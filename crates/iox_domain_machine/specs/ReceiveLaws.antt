@@ -1,4 +1,4 @@
--- What a domain does when a subscriber asks for samples, and receives, is what the machine's service does.
+-- A subscriber's question for samples, and its receive, in a domain match the machine's commands.
 use Rattle.std.specs.Prelude.{ℕ, ◌+◌, ◌<◌, ◌≡◌, ◌≢◌, ◌^◌, ◌-◌, Bool, List, [], ◌∷◌, ◌++◌, Option, None, Some, Result, Ok, Err}
 use Rattle.std.specs.Global.{Vec}
 use Rattle.std.specs.Vec.{vec_items}
@@ -27,20 +27,20 @@ use Rattle.iox_machine.specs.Service.{Service}
 use Rattle.iox_machine.specs.State.{State}
 use Rattle.iox_machine.specs.Table.{at}
 
--- what is replied where it is told whether some connection has data
+-- The reply that says whether some connection has data, or why that can't be said.
 abbrev pub told_or_skipped : {T : Type 0} → Option (Result Bool ConnectionFailure) → Reply T
 told_or_skipped None = reply.Skipped
 told_or_skipped (Some (Ok has_data)) = reply.Has has_data
 told_or_skipped (Some (Err failure)) = reply.Refused (refusal.Connection failure)
 
--- what is replied to a receive whose sample gets this number, with these values, if one came
+-- The reply to a receive, whose sample, if there is one, gets this number and these values.
 abbrev pub received_or_not : {T : Type 0} → ℕ → Vec T → Option (Result (Option Taken) ReceiveError) → Reply T
 received_or_not sample values None = reply.Skipped
 received_or_not sample values (Some (Ok (Some taken))) = reply.Received sample values
 received_or_not sample values (Some (Ok None)) = reply.NothingWaits
 received_or_not sample values (Some (Err why)) = reply.Refused (refusal.Receive why)
 
--- these are the values of the sample that came, if one did
+-- These are the values of the sample that was received, if one was.
 abbrev pub AreReceived : {T U : Type 0} → Vec T → Option (Result (Option Taken) ReceiveError) → ServicePorts T U → Type 0
 AreReceived values None ports = Unit {0}
 AreReceived {T} {U} values (Some (Ok (Some taken))) ports =
@@ -48,17 +48,19 @@ AreReceived {T} {U} values (Some (Ok (Some taken))) ports =
 AreReceived values (Some (Ok None)) ports = Unit {0}
 AreReceived values (Some (Err why)) ports = Unit {0}
 
--- the sample that came, if one did, goes by this number, behind the others
+-- The samples with their numbers after the sample that was received, if one was, was added with this number.
 abbrev pub with_held : ℕ → Option (Result (Option Taken) ReceiveError) → List (ℕ × Taken) → List (ℕ × Taken)
 with_held sample None held = held
 with_held sample (Some (Ok (Some taken))) held = held ++ (sample, taken) ∷ []
 with_held sample (Some (Ok None)) held = held
 with_held sample (Some (Err why)) held = held
 
--- A machine is made for messages of certain types, with what others may choose; and a handler may decide so where a connection fails.
+-- The machine's messages have certain types, `choices` says what handlers may choose, and `may` says what a handler may answer
+-- for a failed connection.
 module _ (T U : Type 0) (choices : Choices T) (may : DegradationInfo → DegradationAction → Type 0) where
-  -- A subscriber is told whether some connection of it has data, once its connections are up to date. The ports are roomy: so they are
-  -- after any calls, as `SamplesLeft` says. Connections that are made have names then.
+  -- Asking whether some connection of the subscriber has data, after an update, matches the command. New connections get names.
+  -- The theorem assumes that the ports are roomy, as they are after any calls (`SamplesLeft`), and that each answer of the
+  -- handler is a choice of the machine's subscriber.
   abbrev pub HasMatches : Type 0
   HasMatches = (types : MessageTypeDetails) (buffer : ℕ) (names : Naming) (lent : List (ℕ × LentSlot)) (held : List (ℕ × Taken))
       (old new : ServicePorts T U) (service : Service T) (state : State T) (number : ℕ) (answer : Option (Result Bool ConnectionFailure))
@@ -67,8 +69,10 @@ module _ (T U : Type 0) (choices : Choices T) (may : DegradationInfo → Degrada
       → (reader : ℕ → ℕ → ℕ) × Matches T U choices types buffer (command.Has (names.subscriber number)) (told_or_skipped answer) state
       service (record names { reader = reader }) lent held new
 
-  -- A subscriber receives, once its connections are up to date: a sample, which gets the next number, that no sample has yet; or it is told
-  -- why none came. The ports are roomy, and it holds fewer than 2^64 - 1 samples.
+  -- Receiving, after an update, matches the command: the subscriber gets a sample with the next number, or the reply says why
+  -- it gets none. New connections get names. The theorem assumes that no sample has the next number, that the subscriber holds
+  -- fewer than 2^64 - 1 samples, that the ports are roomy, as they are after any calls (`SamplesLeft`), and that each answer of
+  -- the handler is a choice of the machine's subscriber.
   abbrev pub ReceiveMatches : Type 0
   ReceiveMatches = (types : MessageTypeDetails) (buffer : ℕ) (names : Naming) (lent : List (ℕ × LentSlot)) (held : List (ℕ × Taken))
       (old new : ServicePorts T U) (service : Service T) (state : State T) (number : ℕ)

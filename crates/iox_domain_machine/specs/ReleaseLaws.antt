@@ -1,4 +1,4 @@
--- What a domain does at the release of a sample is what the machine's service does.
+-- The release of a sample in a domain matches the machine's command.
 use Rattle.std.specs.Prelude.{ℕ, ◌≡◌, Bool, List, Some}
 use Rattle.iox_command.specs.NegotiateBase.DescribeBase.declared.message_type.MessageTypeDetails.{MessageTypeDetails}
 use Rattle.iox_command.specs.declared.command.Command.TheVariants as command
@@ -15,7 +15,8 @@ use Rattle.iox_machine.specs.Service.{Service}
 use Rattle.iox_machine.specs.State.{State}
 use Rattle.iox_machine.specs.Table.{at, removed}
 
--- A sample is released by the subscriber that received it, of ports that are sound: so they are after any calls, as `HeldStays` says.
+-- Releasing a sample, by the subscriber that received it, matches the command. The theorem assumes that the ports are sound, as
+-- they are after any calls (`HeldStays`).
 abbrev pub ReleaseMatches : (T U : Type 0) → Choices T → Type 0
 ReleaseMatches T U choices = (types : MessageTypeDetails) (buffer : ℕ) (names : Naming) (lent : List (ℕ × LentSlot))
     (held : List (ℕ × Taken)) (old new : ServicePorts T U) (service : Service T) (state : State T) (sample : ℕ) (taken : Taken)

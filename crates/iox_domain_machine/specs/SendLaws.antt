@@ -1,4 +1,4 @@
--- What a publisher's send is, of a domain and of the machine.
+-- A publisher's send in a domain matches the machine's command.
 use Rattle.std.specs.Prelude.{ℕ, ◌-◌, ◌^◌, ◌≡◌, ◌≢◌, min, true, List, Option, None, Some, Result, Ok, Err}
 use Rattle.iox_command.specs.DomainValues.Actions.{decision_of}
 use Rattle.iox_command.specs.DomainValues.declared.backpressure.BackpressureDecision.{BackpressureDecision}
@@ -27,19 +27,20 @@ use Rattle.iox_machine.specs.Service.{Service, Publisher}
 use Rattle.iox_machine.specs.State.{State}
 use Rattle.iox_machine.specs.Table.{at, removed}
 
--- what is replied to a send
+-- The reply to a send.
 abbrev pub sent_or_skipped : {T : Type 0} → Option (Result Sent SendError) → Reply T
 sent_or_skipped None = reply.Skipped
 sent_or_skipped (Some (Ok (sent.Delivered count))) = reply.Delivered count
 sent_or_skipped (Some (Ok sent.Blocked)) = reply.Blocked
 sent_or_skipped (Some (Err why)) = reply.Refused (refusal.Send why)
 
--- the loans that go by numbers after a send of one: it is one no longer, unless the send was skipped
+-- The loans with their numbers after a send of the loan with this number: it is removed, unless the send was skipped.
 abbrev pub lent_after_send : ℕ → Option (Result Sent SendError) → List (ℕ × LentSlot) → List (ℕ × LentSlot)
 lent_after_send loan None lent = lent
 lent_after_send loan (Some result) lent = removed loan lent
 
--- Whatever may be decided at a full mailbox may be chosen for a publisher of the machine, by its name, which counts retries on.
+-- Each decision that may be made at a full mailbox is a choice of the machine's publisher with this name; the machine counts
+-- retries without a limit.
 abbrev pub DecidesAs : {T : Type 0} → Choices T → (BackpressureInfo → BackpressureDecision → Type 0) → ℕ → Publisher T → Type 0
 DecidesAs choices may name publisher =
     (info : BackpressureInfo) (decision : BackpressureDecision) (retries : ℕ) → may info decision
@@ -47,8 +48,9 @@ DecidesAs choices may name publisher =
     → choices.publisher_decides name retries info.elapsed_time (decision_of publisher.strategy publisher.handler) decision
 
 module _ (T U : Type 0) (choices : Choices T) (may : BackpressureInfo → BackpressureDecision → Type 0) where
-  -- A send that waits is tried again, after so many nanoseconds; of ports that are roomy: so they are after any calls, as `SamplesLeft`
-  -- says. What may be decided at a full mailbox may be chosen for the machine's publisher.
+  -- Retrying a waiting send, after this number of nanoseconds, matches the command. The theorem assumes that the ports are
+  -- roomy, as they are after any calls (`SamplesLeft`), and that each decision at a full mailbox is a choice of the machine's
+  -- publisher.
   abbrev pub RetryMatches : Type 0
   RetryMatches = (types : MessageTypeDetails) (buffer : ℕ) (names : Naming) (lent : List (ℕ × LentSlot)) (held : List (ℕ × Taken))
       (old new : ServicePorts T U) (service : Service T) (state : State T) (number nanoseconds : ℕ)
@@ -60,9 +62,10 @@ module _ (T U : Type 0) (choices : Choices T) (may : BackpressureInfo → Backpr
       → Matches T U choices types buffer (command.Retry (names.publisher number) nanoseconds) (sent_or_skipped answer) state service
       names lent held new
 
-  -- A loan that goes by a number is sent: its publisher follows the list of subscribers first, where that changed, and its new connections
-  -- get names. The ports are roomy: so they are after any calls, as `SamplesLeft` says. What may be decided at a full mailbox, and answered
-  -- where a connection failed, may be chosen for the machine's publisher.
+  -- Sending the loan with this number matches the command: its publisher follows the list of subscribers first, if the list
+  -- changed, and new connections get names. The theorem assumes that the ports are roomy, as they are after any calls
+  -- (`SamplesLeft`), and that each decision at a full mailbox, and each answer for a failed connection, is a choice of the
+  -- machine's publisher.
   abbrev pub SendMatches : (DegradationInfo → DegradationAction → Type 0) → Type 0
   SendMatches may_degrade = (types : MessageTypeDetails) (buffer : ℕ) (names : Naming) (lent : List (ℕ × LentSlot))
       (held : List (ℕ × Taken)) (old new : ServicePorts T U) (service : Service T) (state : State T) (loan : ℕ) (out : LentSlot)

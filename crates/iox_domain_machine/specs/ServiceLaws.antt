@@ -1,4 +1,4 @@
--- What one domain among others does is what the machine does that has the services of all.
+-- A call at one domain among others matches the command at a machine with the services of all.
 use Rattle.std.specs.Prelude.{ℕ, ◌≡◌, ◌≢◌, List, ◌∷◌, ◌++◌, Some}
 use Rattle.iox_command.specs.NegotiateBase.DescribeBase.declared.message_type.MessageTypeDetails.{MessageTypeDetails}
 use Rattle.iox_command.specs.declared.command.Command.{Command}
@@ -18,15 +18,15 @@ use Rattle.iox_machine.specs.Service.{Service}
 use Rattle.iox_machine.specs.State.{State, counted}
 use Rattle.iox_machine.specs.Table.{at}
 
--- Some port has this name.
+-- Some port has this name, which isn't 0.
 abbrev pub IsNamed : (ℕ → ℕ) → ℕ → Type 0
 IsNamed name number = (port : ℕ) × (name port ≡ number) × (number ≢ 0)
 
--- What goes by a number is that of a domain.
+-- The table has an entry of this domain under this number.
 abbrev pub GoesBy : {V : Type 0} → ℕ → ℕ → List (ℕ × (ℕ × V)) → Type 0
 GoesBy {V} domain number table = (value : V) × (at number table ≡ Some (domain, value))
 
--- A command names a port, a loan or a sample of a domain.
+-- The command names a port, a loan or a sample of this domain.
 abbrev pub NamesOf : {T : Type 0} → ℕ → Naming → List (ℕ × (ℕ × LentSlot)) → List (ℕ × (ℕ × Taken)) → Command T → Type 0
 NamesOf domain names lent held (command.Loan publisher length) = IsNamed names.publisher publisher
 NamesOf domain names lent held (command.LoanUninit publisher length) = IsNamed names.publisher publisher
@@ -48,13 +48,13 @@ NamesOf domain names lent held (command.Sequence sample) = GoesBy domain sample 
 NamesOf domain names lent held (command.Release sample) = GoesBy domain sample held
 NamesOf domain names lent held other = ⊥
 
--- What goes by numbers changes at one domain alone, and each number still goes by once at most.
+-- The table changes only in entries of this domain, and still has each number at most once.
 abbrev pub ChangesAt : {V : Type 0} → ℕ → List (ℕ × (ℕ × V)) → List (ℕ × (ℕ × V)) → Type 0
 ChangesAt domain old new = ((other : ℕ) → other ≢ domain → those_of other new ≡ those_of other old) × ComesOnce new
 
--- Domains stand for the services of a machine, and a command names something of one of them. If what this domain does matches the command
--- at its service alone, the machine with all services does the command with the same answer, and all domains stand for its services then.
--- No port comes by it.
+-- The domains represent the services of a machine, and a command names something of one of them. If the call of this domain
+-- matches the command at its own service alone, the machine with all services gives the same reply to the command, and all
+-- domains represent its services afterwards. The call creates no port.
 abbrev pub AmongOthersMatches : (T U : Type 0) → Choices T → Type 0
 AmongOthersMatches T U choices = (types : MessageTypeDetails) (buffer : ℕ) (names : ℕ → Naming)
     (lent lent_then : List (ℕ × (ℕ × LentSlot))) (held held_then : List (ℕ × (ℕ × Taken))) (before behind : List (ℕ × ServicePorts T U))

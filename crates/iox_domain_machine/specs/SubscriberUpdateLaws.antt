@@ -1,4 +1,4 @@
--- What a domain does when a subscriber brings its connections up to date is what the machine's service does.
+-- The update of a subscriber in a domain matches the machine's command.
 use Rattle.std.specs.Prelude.{ℕ, ◌≡◌, ◌≢◌, true, List, Option, None, Some, Result, Ok, Err}
 use Rattle.iox_command.specs.DomainValues.declared.connection_failure.ConnectionFailure.{ConnectionFailure}
 use Rattle.iox_command.specs.DomainValues.declared.degradation.DegradationAction.{DegradationAction}
@@ -22,20 +22,21 @@ use Rattle.iox_machine.specs.Service.{Service, Subscriber}
 use Rattle.iox_machine.specs.State.{State}
 use Rattle.iox_machine.specs.Table.{at}
 
--- what is replied to an update: whether it went well, or why a connection failed
+-- The reply to an update: that it is done, or why a connection failed.
 abbrev pub updated_or_skipped : {T : Type 0} → Option (Result (Unit {0}) ConnectionFailure) → Reply T
 updated_or_skipped None = reply.Skipped
 updated_or_skipped (Some (Ok done)) = reply.Done
 updated_or_skipped (Some (Err failure)) = reply.Refused (refusal.Connection failure)
 
--- Whatever is done where a connection fails may be chosen for a subscriber of the machine, by its name, if it stands.
+-- If the machine's subscriber with this name is open, each answer of the handler is a choice of it.
 abbrev pub ActsAs : {T : Type 0} → Choices T → (DegradationInfo → DegradationAction → Type 0) → ℕ → Service T → Type 0
 ActsAs choices may name service =
     (subscriber : Subscriber) → at name service.subscribers ≡ Some subscriber → subscriber.stands ≡ true
     → (info : DegradationInfo) (action : DegradationAction) → may info action → choices.subscriber_acts name subscriber.degradation action
 
--- A subscriber follows the list of publishers: the connections of those that left end or expire, and those that are listed are connected.
--- The ports are roomy: so they are after any calls, as `SamplesLeft` says. Connections that are made have names then.
+-- Updating a subscriber matches the command: connections of closed publishers end or expire, listed publishers are connected,
+-- and new connections get names. The theorem assumes that the ports are roomy, as they are after any calls (`SamplesLeft`), and
+-- that each answer of the handler is a choice of the machine's subscriber.
 abbrev pub SubscriberUpdateMatches : (T U : Type 0) → Choices T → (DegradationInfo → DegradationAction → Type 0) → Type 0
 SubscriberUpdateMatches T U choices may = (types : MessageTypeDetails) (buffer : ℕ) (names : Naming) (lent : List (ℕ × LentSlot))
     (held : List (ℕ × Taken)) (old new : ServicePorts T U) (service : Service T) (state : State T) (number : ℕ)

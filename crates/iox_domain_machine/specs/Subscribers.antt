@@ -1,4 +1,4 @@
--- Which subscriber of the machine one of a domain is.
+-- Which subscriber of the machine a subscriber of a domain represents.
 use Rattle.std.specs.Prelude.{ℕ, ◌≡◌, true, map, option_map}
 use Rattle.std.specs.Option.{option_map_or}
 use Rattle.iox_domain.specs.DomainPorts.Places.{reached}
@@ -6,12 +6,13 @@ use Rattle.iox_domain.specs.DomainPorts.Subscribing.{attached_at}
 use Rattle.iox_domain.specs.DomainPorts.declared.subscriber_port.SubscriberPort.{SubscriberPort}
 use Rattle.iox_machine.specs.Service.{Subscriber}
 
--- the publisher that a key leads to, by its name; 0 without one
+-- The name of the publisher to which the connection with this key leads; 0 without a connection.
 abbrev pub publisher_by : (ℕ → ℕ) → SubscriberPort → ℕ → ℕ
 publisher_by name port key = option_map_or (λ attached. name attached.publisher) (attached_at key port) 0
 
--- A subscriber of a domain is this one of the machine, where publishers have these names; so many may be listed, and so many connections
--- to publishers that left are kept. While it stands it has the same connections.
+-- A subscriber of a domain represents this one of the machine, with these names of publishers; at most `most_publishers` are
+-- listed, and `most_expired` connections of closed publishers are kept. While the subscriber is open it has the same
+-- connections.
 pub record SubscriberStandsFor (name : ℕ → ℕ) (most_publishers most_expired : ℕ) (port : SubscriberPort) (subscriber : Subscriber)
     : Type 0 where
   pub factory : subscriber.factory ≡ port.owner.number

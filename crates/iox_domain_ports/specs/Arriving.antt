@@ -1,11 +1,12 @@
--- A subscriber comes.
+-- A subscriber is created.
 use Rattle.std.specs.Prelude.{ℕ, ◌+◌, [], replicate, None, true}
 use Rattle.std.specs.List.{range_with_len}
 use Rattle.iox_domain_values.specs.declared.port_owner.PortIdentity.{PortIdentity}
 use Rattle.iox_domain_ports.specs.Ties.{no_ties}
 use Rattle.iox_domain_ports.specs.declared.subscriber_port.SubscriberPort.{SubscriberPort}
 
--- a subscriber without connections and samples, of which at most so many may go on, and so many more expire
+-- A new subscriber without connections and samples, with capacity for `most_connections` connections of open publishers and
+-- `most_expired` expired ones.
 abbrev pub new_subscriber : PortIdentity → ℕ → ℕ → ℕ → SubscriberPort
 new_subscriber identity buffer_size most_connections most_expired = record {
   service = identity.service;

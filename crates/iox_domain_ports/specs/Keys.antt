@@ -1,15 +1,15 @@
 -- The keys of connections in an order.
 use Rattle.std.specs.Prelude.{ℕ, ◌≡◌, List, [], ◌∷◌, ◌++◌, length, nat_lt, slice_get, Some, if◌then◌else◌}
 
--- keys in the order in which they came, at most so many
+-- Keys in the order in which they were added, at most `room` of them.
 pub record KeysState : Type 0 where
   pub items : List ℕ
   pub room : ℕ
 
--- one key more behind the others, if there is room
+-- The keys after `key` was added behind the others, if there is room for it.
 abbrev pub with_last : ℕ → KeysState → KeysState
 with_last key keys = if nat_lt (length keys.items) keys.room then record keys { items = keys.items ++ key ∷ [] } else keys
 
--- a key stands at some place of a list
+-- The key is at some place of the list.
 abbrev pub IsKeyOf : ℕ → List ℕ → Type 0
 IsKeyOf key keys = (place : ℕ) × (slice_get keys place ≡ Some key)

@@ -1,4 +1,4 @@
--- A publisher comes and leaves.
+-- A publisher is created and closed.
 use Rattle.std.specs.Prelude.{zero, suc, ℕ, ◌+◌, true, false, [], length, get_or, Option, None, if◌then◌else◌}
 use Rattle.iox_domain_values.specs.declared.data_segment.AllocationStrategy.{AllocationStrategy}
 use Rattle.iox_domain_values.specs.declared.port_owner.PortIdentity.{PortIdentity}
@@ -9,8 +9,8 @@ use Rattle.iox_domain_ports.specs.Progress.{start}
 use Rattle.iox_domain_ports.specs.Ports.{ended_at}
 use Rattle.iox_domain_ports.specs.declared.publisher_port.PublisherPort.{PublisherPort}
 
--- a publisher that is connected to nobody, with room for so many subscribers, whose elements have so many values each, and whose first
--- message gets the number behind this one
+-- A new publisher that is connected to nobody, with capacity for `most_subscribers` subscribers. Each of its elements has
+-- `unit` values, and its first message gets the sequence number behind `last_sequence`.
 abbrev pub new_port : {T U : Type 0} → PortIdentity → ℕ → AllocationStrategy → ℕ → Option ℕ → SenderConfig → U → PublisherPort T U
 new_port identity most_subscribers allocation unit last_sequence config user_header = record {
   service = identity.service;
@@ -46,15 +46,15 @@ new_port identity most_subscribers allocation unit last_sequence config user_hea
   };
 }
 
--- the connection of this index ends if nobody reads there
+-- The publisher after the connection at this index ended, unless a subscriber reads from it.
 abbrev pub parted_at : {T U : Type 0} → ℕ → PublisherPort T U → PublisherPort T U
 parted_at index port = if is_attached (get_or port.readers index None) then port else ended_at index port
 
--- so many connections from one on end, those where somebody reads apart
+-- The publisher after `count` connections from `index` on ended, except those from which a subscriber reads.
 abbrev pub parted_from : {T U : Type 0} → ℕ → ℕ → PublisherPort T U → PublisherPort T U
 parted_from zero index port = port
 parted_from (suc count) index port = parted_from count (index + 1) (parted_at index port)
 
--- the publisher left: connections where nobody reads end
+-- The publisher after it was closed: its connections from which no subscriber reads have ended.
 abbrev pub departed : {T U : Type 0} → PublisherPort T U → PublisherPort T U
 departed port = parted_from (length port.sender.uses.connections) 0 (record port { stands = false })

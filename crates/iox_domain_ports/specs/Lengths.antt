@@ -1,38 +1,39 @@
--- How long loans and segments are: their lengths are counted in elements, of which each has so many values.
+-- The lengths of loans and segments. They are counted in elements, each of which has `unit` values.
 use Rattle.std.specs.Prelude.{ℕ, ◌*◌, ◌^◌, ◌<◌, ◌≤◌, ◌≡◌, ◌↔◌, max, Option, None, Some}
 use Rattle.iox_domain_values.specs.Segments.{SegmentLength}
 use Rattle.iox_domain_values.specs.Sizes.{within}
 use Rattle.iox_domain_values.specs.declared.data_segment.AllocationStrategy.{AllocationStrategy}
 
--- how much room so many elements take, of so many values each; one without values takes as much as one value
+-- How many values' memory these elements take. An element without values takes as much as one value.
 abbrev pub span : ℕ → ℕ → ℕ
 span unit elements = elements * max unit 1
 
--- how much room a loan takes: as much as its elements, and at least as much as its values
+-- How many values' memory a loan takes: that of its elements, and at least that of its values.
 abbrev pub extent : ℕ → ℕ → ℕ → ℕ
 extent unit values elements = max values (span unit elements)
 
--- how much room a new segment for elements of so many values has, if it has room for so many of them: at least that of the loan
--- that it is opened for, and at most 2^32 - 1
+-- For how many values the slots of a new segment have room, if they are to have room for `length` elements: at least for the
+-- loan for which the segment is opened. None if that is 2^32 or more.
 abbrev pub room_for : ℕ → ℕ → Option ℕ → Option ℕ
 room_for unit values None = None
 room_for unit values (Some length) = within (extent unit values length)
 
--- How many values fit in a slot of the segment that a longer loan opens: as many as the elements have for which its strategy opens one.
+-- For how many values the slots of the segment have room that a longer loan opens: for as many elements as the strategy says,
+-- if it opens one.
 abbrev pub SegmentRoom : AllocationStrategy → ℕ → ℕ → ℕ → Option ℕ → Type 0
 SegmentRoom allocation unit values elements room =
     (length : Option ℕ) × SegmentLength allocation elements length × (room ≡ room_for unit values length)
 
--- Lengths are those of elements, of which each has so many values: all elements of a loan, with all of their values.
+-- Lengths may be counted in elements instead of values, for a loan that has all values of its elements.
 pub record CountsElements : Type 0 where
-  -- elements of one value each are as long as there are values
+  -- A loan of elements with one value each is as long as it has values.
   pub single : (values : ℕ) → extent 1 values values ≡ values
-  -- a loan fits where there is room for so many elements exactly if it has no more
+  -- A loan fits into a slot with room for `length` elements exactly if it has at most `length` elements.
   pub fits : (unit elements length : ℕ) → (extent unit (elements * unit) elements ≤ span unit length) ↔ (elements ≤ length)
-  -- a segment has room for just as many elements as its strategy opens one for
+  -- A segment has room for just as many elements as the strategy says, and for fewer than 2^32 values.
   pub opens : (allocation : AllocationStrategy) (unit elements room : ℕ)
       → SegmentRoom allocation unit (elements * unit) elements (Some room)
       → (length : ℕ) × SegmentLength allocation elements (Some length) × (room ≡ span unit length) × (room < 2 ^ 32)
-  -- none is opened where the strategy opens none, or where these have 2^32 values or more
+  -- No segment is opened exactly where the strategy opens none, or where its elements have 2^32 values or more.
   pub refuses : (allocation : AllocationStrategy) (unit elements : ℕ) → SegmentRoom allocation unit (elements * unit) elements None
       → (length : ℕ) → SegmentLength allocation elements (Some length) → 2 ^ 32 ≤ span unit length

@@ -1,4 +1,4 @@
--- What a loan comes to, in other words than its steps.
+-- Theorems about loans.
 use Rattle.std.specs.Prelude.{ℕ, ◌+◌, ◌<◌, ◌≤◌, ◌≡◌, ◌⊎◌, ◌++◌, ◌∷◌, [], length, IsSome, Option, None, Some, Result, Ok, Err}
 use Rattle.iox_domain_values.specs.declared.data_segment.AllocationStrategy.{AllocationStrategy}
 use Rattle.iox_domain_values.specs.declared.data_segment.AllocationStrategy.TheVariants as strategy
@@ -12,21 +12,21 @@ use Rattle.iox_domain_ports.specs.Lengths.{extent, SegmentRoom}
 use Rattle.iox_domain_ports.specs.Loaning.{with_sender, Loans}
 use Rattle.iox_domain_ports.specs.declared.publisher_port.PublisherPort.{PublisherPort}
 
--- a segment has as many slots as the worst case needs
+-- A segment has as many slots as the worst case needs.
 abbrev pub IsAmple : {T U : Type 0} → PublisherPort T U → Type 0
 IsAmple port = worst_case port.sender.uses ≤ port.sender.uses.size
 
--- something in use stands in each slot of the current segment
+-- Each slot of the current segment is in use.
 abbrev pub IsFull : {T U : Type 0} → SenderState T U → Type 0
 IsFull sender =
     (slot : ℕ) → sender.uses.first ≤ slot → slot < sender.uses.first + sender.uses.size → 0 < times slot (in_use (slots_of sender))
 
--- the loan isn't too long, or it may have a new segment
+-- The loan isn't too long, or its strategy may open a new segment.
 abbrev pub MayBeLent : {T U : Type 0} → AllocationStrategy → ℕ → ℕ → PublisherPort T U → Type 0
 MayBeLent allocation values elements port = allocation ≡ strategy.Static → extent port.unit values elements ≤ port.sender.room
 
--- The loan fits, but each slot is in use; or it is longer than fits, and then no segment was opened for it, or each slot of the
--- new one is in use.
+-- The loan fits, but each slot is in use; or the loan is longer than fits, and no segment was opened for it, or each slot of
+-- the new segment is in use.
 abbrev pub LacksSlot : {T U : Type 0} → AllocationStrategy → ℕ → ℕ → PublisherPort T U → PublisherPort T U → Type 0
 LacksSlot allocation values elements old new =
     ((extent old.unit values elements ≤ old.sender.room) × IsFull old.sender × (new ≡ old))
@@ -34,8 +34,8 @@ LacksSlot allocation values elements old new =
     × ((new ≡ old) ⊎ ((room : ℕ) × SegmentRoom allocation old.unit values elements (Some room)
     × (new ≡ with_sender (opened_for room old.sender) old) × IsFull new.sender)))
 
--- A loan was made: none of its values is written, its slot was free, and it fits there; only it came, and if it didn't fit
--- before, a segment.
+-- A loan was made: none of its values is written, its slot wasn't in use, and it fits into the slot. Nothing else changed,
+-- except that a segment was opened if the loan didn't fit before.
 pub record IsLent {T U : Type 0} (allocation : AllocationStrategy) (values elements : ℕ) (old : PublisherPort T U) (slot : ℕ)
     (new : PublisherPort T U) : Type 0 where
   pub room : length old.sender.uses.loans < old.sender.uses.most_loans
@@ -51,7 +51,7 @@ pub record IsLent {T U : Type 0} (allocation : AllocationStrategy) (values eleme
   pub connections : new.sender.uses.connections ≡ old.sender.uses.connections
   pub history : new.sender.uses.history ≡ old.sender.uses.history
 
--- What each answer of a loan tells. No two of them can be told of the same publisher, but for want of memory.
+-- What each answer of a loan says about the publisher. Answers exclude each other, except that memory may run out.
 abbrev pub Tells : {T U : Type 0} → AllocationStrategy → ℕ → ℕ → PublisherPort T U → Option (Result ℕ LoanError) → PublisherPort T U
     → Type 0
 Tells allocation values elements old None new = IsSome old.sender.uses.sending × (new ≡ old)
@@ -68,12 +68,12 @@ Tells allocation values elements old (Some (Err refusal.InternalFailure)) new = 
 Tells allocation values elements old (Some (Ok slot)) new =
     (old.sender.uses.sending ≡ None) × MayBeLent allocation values elements old × IsLent allocation values elements old slot new
 
--- Each answer of a loan tells that.
+-- Each answer of a loan says about the publisher what `Tells` has for it.
 abbrev pub LoanTells : (T U : Type 0) → Type 0
 LoanTells T U = (allocation : AllocationStrategy) (values elements : ℕ) (old new : PublisherPort T U) (answer : Option (Result ℕ LoanError))
     → Loans allocation values elements old answer new → Tells allocation values elements old answer new
 
--- In a segment that is opened no slot is in use, where nothing in use stands past the segments before it: such a segment isn't full.
+-- No slot of a new segment is in use if the slots in use were all within the segments before it; so a new segment isn't full.
 abbrev pub NewSegmentIsFree : (T U : Type 0) → Type 0
 NewSegmentIsFree T U = (room : ℕ) (sender : SenderState T U)
     → ((slot : ℕ) → 0 < times slot (in_use (slots_of sender)) → slot < sender.uses.first + sender.uses.size)

@@ -3,13 +3,13 @@ use Rattle.std.specs.Prelude.{Bool, true, false, List, [], ◌∷◌, length, re
 use Rattle.iox_domain_ports.specs.declared.messages.marks.Marking.{Marking}
 use Rattle.iox_domain_ports.specs.declared.messages.marks.Marking.TheVariants.{Unwritten, Written, EachMarked}
 
--- the marks of a slot; `row` are those that are kept one by one
+-- The marks of the values of one slot; `row` has those that are kept one by one.
 abbrev pub marks_of : Marking → List Bool → List Bool
 marks_of Unwritten row = replicate (length row) false
 marks_of Written row = replicate (length row) true
 marks_of EachMarked row = row
 
--- the marks of all slots
+-- The marks of the values of all slots.
 abbrev pub all_marks : List Marking → List (List Bool) → List (List Bool)
 all_marks [] rows = rows
 all_marks (marking ∷ markings) [] = []

@@ -1,4 +1,4 @@
--- What the steps of a publisher come to, in other words.
+-- Theorems about the steps of a publisher.
 use Rattle.std.specs.Prelude.{ℕ, ◌+◌, ◌<◌, ◌≤◌, ◌≡◌, ◌≢◌, ◌↔◌, ◌&&◌, Bool, true, if◌then◌else◌, List, [], ◌∷◌, eqb, nat_lt, nat_le}
 use Rattle.std.specs.Prelude.{slice_get, Option, Some}
 use Rattle.std.specs.List.{list_any}
@@ -8,27 +8,27 @@ use Rattle.iox_domain_ports.specs.Messages.{Message, Loan, is_written, write_all
 use Rattle.iox_domain_ports.specs.MessagesSending.{change_loan}
 use Rattle.iox_domain_slots.specs.Counting.{times}
 
--- how many different numbers are in a list
+-- How many different numbers the list has.
 abbrev pub different : List ℕ → ℕ
 different [] = 0
 different (number ∷ numbers) = if list_any (λ other. eqb number other) numbers then different numbers else 1 + different numbers
 
--- those of a list that are slots of a segment
+-- Those numbers of the list that are slots of the segment.
 abbrev pub of_segment : ℕ → ℕ → List ℕ → List ℕ
 of_segment first size [] = []
 of_segment first size (slot ∷ slots) = if nat_le first slot && nat_lt slot (first + size) then slot
     ∷ of_segment first size slots else of_segment first size slots
 
--- Something in use stands in each slot of a segment exactly if as many different loans and messages of it are in use as it has slots.
+-- Each slot of a segment is in use exactly if as many different slots of that segment are in use as it has slots.
 abbrev pub FullExactlyIf : Type 0
 FullExactlyIf = (first size : ℕ) (slots : List ℕ)
     → ((slot : ℕ) → first ≤ slot → slot < first + size → 0 < times slot slots) ↔ (different (of_segment first size slots) ≡ size)
 
--- a subscriber holds this message, at this place of what its connection has borrowed
+-- The subscriber of this connection holds this message, at this place of the borrowed ones.
 abbrev pub IsHeld : {L X : Type 0} → ℕ → ℕ → X → Uses L X → Type 0
 IsHeld index at message uses = slice_get (connection_at index uses).borrowed at ≡ Some message
 
--- A message that a subscriber holds stays as it is, at its place, through these steps.
+-- A message that a subscriber holds stays as it is, and at its place, through each of these steps.
 pub record HeldStays (T U : Type 0) : Type 0 where
   pub loan : (index at : ℕ) (message : Message T U) (one : Loan T U) (uses : Uses (Loan T U) (Message T U))
       → IsHeld index at message uses → IsHeld index at message (loaned one uses)
@@ -60,7 +60,7 @@ pub record HeldStays (T U : Type 0) : Type 0 where
       → IsHeld index at message uses
       → IsHeld index at message (with_connection other (welcomed history (connection_at other uses)) uses)
 
--- A loan whose values are written all at once is wholly written, and just these values are sent.
+-- A loan whose values are written at once is completely written, and its message has just these values.
 pub record WholeIsSent (T U : Type 0) : Type 0 where
   pub whole : (values : List T) (loan : Loan T U) → is_written (write_all values loan) ≡ true
   pub values : (sequence : Option ℕ) (values : List T) (loan : Loan T U) → (sent_as sequence (write_all values loan)).values ≡ values

@@ -8,8 +8,8 @@ use Rattle.iox_domain_ports.specs.Messages.{Message, Loan, new_loan, is_written}
 use Rattle.iox_domain_ports.specs.Payloads.{PayloadsState, payload_at}
 use Rattle.iox_domain_ports.specs.declared.messages.slot_header.SlotHeader.{SlotHeader}
 
--- A publisher: how many values a new loan may have at most, how many segments there are and may be, the user header that a new
--- loan has, and who uses which message.
+-- A publisher: the maximum number of values of a new loan, how many segments exist and may exist, the user header of a new
+-- loan, and who uses which message.
 pub record SenderState (T U : Type 0) : Type 0 where
   pub room : ℕ
   pub segments : ℕ
@@ -17,11 +17,11 @@ pub record SenderState (T U : Type 0) : Type 0 where
   pub user_header : U
   pub uses : Uses (Loan T U) (Message T U)
 
--- other uses
+-- The sender with these uses, and otherwise unchanged.
 abbrev pub with_uses : {T U : Type 0} → Uses (Loan T U) (Message T U) → SenderState T U → SenderState T U
 with_uses uses sender = record sender { uses = uses }
 
--- a connection whose messages go by other names
+-- The connection with each message replaced by its name.
 abbrev pub connection_by : {X Y : Type 0} → (X → Y) → Connection X → Connection Y
 connection_by name connection = record {
   stage = connection.stage;
@@ -30,7 +30,7 @@ connection_by name connection = record {
   borrowed = map name connection.borrowed;
 }
 
--- the same uses where loans and messages go by other names
+-- The uses with each loan and each message replaced by its name.
 abbrev pub uses_by : {L X M Y : Type 0} → (L → M) → (X → Y) → Uses L X → Uses M Y
 uses_by loan message uses = record {
   first = uses.first;
@@ -46,12 +46,12 @@ uses_by loan message uses = record {
   connections = map (connection_by message) uses.connections;
 }
 
--- the slots that a publisher's loans and messages stand in
+-- The uses with each loan and each message replaced by its slot.
 abbrev pub slots_of : {T U : Type 0} → SenderState T U → Uses ℕ ℕ
 slots_of sender = uses_by (λ loan. loan.slot) (λ message. message.slot) sender.uses
 
--- A loan is made in any slot of the current segment in which nothing in use stands; there is none exactly if in each of them
--- stands something in use.
+-- A loan is made in any slot of the current segment that isn't in use. It answers None, and changes nothing, exactly if each of
+-- them is in use.
 abbrev pub LoanMade : {T U : Type 0} → SenderState T U → ℕ → ℕ → Option ℕ → SenderState T U → Type 0
 LoanMade old values elements None new =
     ((slot : ℕ) → old.uses.first ≤ slot → slot < old.uses.first + old.uses.size → 0 < times slot (in_use (slots_of old))) × (new ≡ old)
@@ -59,76 +59,77 @@ LoanMade old values elements (Some slot) new =
     (old.uses.first ≤ slot) × (slot < old.uses.first + old.uses.size) × (times slot (in_use (slots_of old)) ≡ 0)
     × (new ≡ with_uses (loaned (new_loan slot values elements old.user_header) old.uses) old)
 
--- another loan where one stands in this slot
+-- The uses after the loan in this slot, if one exists, was changed.
 abbrev pub change_loan : {T U : Type 0} → ℕ → (Loan T U → Loan T U) → Uses (Loan T U) (Message T U) → Uses (Loan T U) (Message T U)
 change_loan slot change uses = record uses { loans = map (λ loan. if eqb slot loan.slot then change loan else loan) uses.loans }
 
--- one of the loans stands in this slot
+-- Whether one of the loans is in this slot.
 abbrev pub has_loan : {T U : Type 0} → ℕ → Uses (Loan T U) (Message T U) → Bool
 has_loan slot uses = list_any (λ loan. eqb slot loan.slot) uses.loans
 
--- one of the loans stands in this slot, and has this place
+-- Whether one of the loans is in this slot and has a value at this place.
 abbrev pub has_place : {T U : Type 0} → ℕ → ℕ → Uses (Loan T U) (Message T U) → Bool
 has_place slot place uses = list_any (λ loan. eqb slot loan.slot && nat_lt place (length loan.values)) uses.loans
 
--- one of the loans stands in this slot, and the value at this place of it is written
+-- Whether one of the loans is in this slot and its value at this place is written.
 abbrev pub has_value : {T U : Type 0} → ℕ → ℕ → Uses (Loan T U) (Message T U) → Bool
 has_value slot place uses = list_any (λ loan. eqb slot loan.slot && is_some (get_or loan.values place None)) uses.loans
 
--- one of the loans stands in this slot, and has so many values
+-- Whether one of the loans is in this slot and has `count` values.
 abbrev pub has_length : {T U : Type 0} → ℕ → ℕ → Uses (Loan T U) (Message T U) → Bool
 has_length slot count uses = list_any (λ loan. eqb slot loan.slot && eqb count (length loan.values)) uses.loans
 
--- a message that is this one, if it stands in the same slot
+-- A message in the same slot is this message.
 abbrev pub IsIfInSlot : {T U : Type 0} → Message T U → Message T U → Type 0
 IsIfInSlot message other = other.slot ≡ message.slot → other ≡ message
 
--- No loan stands in the slot of a message, and each message of the history and of the connections that stands there is this one.
+-- No loan is in the slot of this message, and each message in that slot, in the history or in a connection, is this message.
 pub record StandsAlone {T U : Type 0} (message : Message T U) (uses : Uses (Loan T U) (Message T U)) : Type 0 where
   pub loans : has_loan message.slot uses ≡ false
   pub history : All (IsIfInSlot message) uses.history
   pub connections : All (λ connection. All (IsIfInSlot message) connection.waiting
       × All (IsIfInSlot message) connection.borrowed) uses.connections
 
--- where in the list of loans the first that stands in this slot is; its length where none does
+-- The place of the first loan in this slot in the list of loans, or the list's length if there is none.
 abbrev pub place_in : {T U : Type 0} → ℕ → Uses (Loan T U) (Message T U) → ℕ
 place_in slot uses = position_or_len (λ loan. loan.slot == slot) uses.loans
 
--- whether a message in this slot is borrowed of a connection
+-- Whether a message in this slot is borrowed from the connection.
 abbrev pub has_borrowed : {T U : Type 0} → ℕ → Connection (Message T U) → Bool
 has_borrowed slot connection = is_some (position (λ message. message.slot == slot) connection.borrowed)
 
--- where in the list of what is borrowed of a connection the oldest message in this slot is
+-- The place of the oldest borrowed message in this slot in the connection's list, or the list's length if there is none.
 abbrev pub borrowed_place : {T U : Type 0} → ℕ → Connection (Message T U) → ℕ
 borrowed_place slot connection = position_or_len (λ message. message.slot == slot) connection.borrowed
 
--- the loan that stands in this slot, if one does
+-- The loan in this slot, if one exists.
 abbrev pub loan_at : {T U : Type 0} → ℕ → Uses (Loan T U) (Message T U) → Option (Loan T U)
 loan_at slot uses = find (λ loan. loan.slot == slot) uses.loans
 
--- whether a loan is written; no loan isn't
+-- Whether the loan exists and is completely written.
 abbrev pub is_written_loan : {T U : Type 0} → Option (Loan T U) → Bool
 is_written_loan None = false
 is_written_loan (Some loan) = is_written loan
 
--- whether the loan at this place of the list is written
+-- Whether a loan is at this place of the list and is completely written.
 abbrev pub is_written_at : {T U : Type 0} → ℕ → Uses (Loan T U) (Message T U) → Bool
 is_written_at at uses = is_written_loan (slice_get uses.loans at)
 
--- What stands in the slots: the values, which of them are written, and what is told of them; a slot that there isn't has `blank`.
+-- The contents of the slots: the values, which of them are written, and the headers. A slot that doesn't exist has the header
+-- `blank`.
 pub record Store (T U : Type 0) : Type 0 where
   pub values : PayloadsState T
   pub written : PayloadsState Bool
   pub headers : List (SlotHeader U)
   pub blank : SlotHeader U
 
--- values of which only some are written
+-- The values, each of them only if its mark says that it is written.
 abbrev pub masked : {T : Type 0} → List Bool → List T → List (Option T)
 masked [] values = []
 masked (written ∷ marks) [] = []
 masked (written ∷ marks) (value ∷ values) = (if written then Some value else None) ∷ masked marks values
 
--- the message that stands in a slot
+-- The message that the contents of this slot are.
 abbrev pub message_in : {T U : Type 0} → Store T U → ℕ → Message T U
 message_in store slot = record {
   slot = slot;
@@ -138,7 +139,7 @@ message_in store slot = record {
   values = payload_at slot store.values;
 }
 
--- the loan that stands in a slot
+-- The loan that the contents of this slot are.
 abbrev pub loan_in : {T U : Type 0} → Store T U → ℕ → Loan T U
 loan_in store slot = record {
   slot = slot;
@@ -147,7 +148,7 @@ loan_in store slot = record {
   values = masked (payload_at slot store.written) (payload_at slot store.values);
 }
 
--- a publisher whose slots have such payloads
+-- A publisher with the capacities of these payloads, the user header of `blank`, and these uses.
 abbrev pub sender_of : {T U : Type 0} → PayloadsState T → SlotHeader U → Uses (Loan T U) (Message T U) → SenderState T U
 sender_of payloads blank uses = record {
   room = payloads.room;
@@ -157,16 +158,15 @@ sender_of payloads blank uses = record {
   uses = uses;
 }
 
--- what is seen of a publisher: who uses which message, read out of the slots
+-- The publisher as seen from outside: who uses which message, as read from the slots.
 abbrev pub seen_sender : {T U : Type 0} → Store T U → Uses ℕ ℕ → SenderState T U
 seen_sender store uses = sender_of store.values store.blank (uses_by (loan_in store) (message_in store) uses)
 
--- a segment is opened for longer loans
+-- The publisher after a segment with room for so many values in each slot was opened.
 abbrev pub opened_for : {T U : Type 0} → ℕ → SenderState T U → SenderState T U
 opened_for room sender = record sender { room = room; segments = sender.segments + 1; uses = segment_opened sender.uses }
 
--- There are as many values as marks in each slot and a header for each; a slot that is lent is used for nothing else; and each slot
--- that is used is one that there is.
+-- Each slot has as many values as marks, and a header. A loaned slot isn't used for anything else. Each used slot exists.
 pub record IsSender {T U : Type 0} (store : Store T U) (uses : Uses ℕ ℕ) : Type 0 where
   pub values : length store.values.payloads ≡ uses.first + uses.size
   pub written : length store.written.payloads ≡ uses.first + uses.size

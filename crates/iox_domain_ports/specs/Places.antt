@@ -1,29 +1,29 @@
--- Values at places, and who a connection leads to.
+-- Values at places, and to whom a connection leads.
 use Rattle.std.specs.Prelude.{ℕ, ◌-◌, ◌==◌, ◌++◌, Bool, false, List, length, replicate, Option, None, Some, if◌then◌else◌}
 use Rattle.iox_domain_ports.specs.declared.reader.Reader.{Reader}
 use Rattle.iox_domain_ports.specs.declared.meeting.Meeting.{Meeting}
 use Rattle.iox_domain_ports.specs.declared.meeting.Meeting.TheVariants as meeting
 
--- at least so many places, the new ones without a value
+-- The list extended to at least `count` places; the new ones are empty.
 abbrev pub reached : {A : Type 0} → ℕ → List (Option A) → List (Option A)
 reached count places = places ++ replicate (count - length places) None
 
--- whether it leads to this subscriber
+-- Whether the connection leads to this subscriber.
 abbrev pub leads_to : ℕ → Option Reader → Bool
 leads_to subscriber None = false
 leads_to subscriber (Some reader) = reader.subscriber == subscriber
 
--- nobody reads there any longer
+-- The reader after it was detached from the connection.
 abbrev pub left : Option Reader → Option Reader
 left None = None
 left (Some reader) = Some (record reader { attached = false })
 
--- whether somebody reads there
+-- Whether a subscriber reads from the connection.
 abbrev pub is_attached : Option Reader → Bool
 is_attached None = false
 is_attached (Some reader) = reader.attached
 
--- what comes of a full mailbox: it is passed over where nobody reads
+-- What a send meets at a full mailbox: it skips the mailbox if no subscriber reads from it.
 abbrev pub unheard : Option Reader → Meeting
 unheard None = meeting.Passed
 unheard (Some reader) = if reader.attached then meeting.Full reader.subscriber else meeting.Passed

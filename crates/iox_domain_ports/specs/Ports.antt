@@ -13,35 +13,35 @@ use Rattle.iox_domain_ports.specs.Ties.{has_tie}
 use Rattle.iox_domain_ports.specs.declared.reader.Reader.{Reader}
 use Rattle.iox_domain_ports.specs.declared.publisher_port.PublisherPort.{PublisherPort}
 
--- whether a connection goes on
+-- Whether a connection in this stage is live.
 abbrev pub goes_on : Stage → Bool
 goes_on stage.Vacant = false
 goes_on stage.Live = true
 goes_on stage.Ended = false
 
--- what is seen of the connection of this index
+-- The connection at this index.
 abbrev pub connection_of : {T U : Type 0} → ℕ → PublisherPort T U → Connection (Message T U)
 connection_of index port = connection_at index port.sender.uses
 
--- whether the connection of this index goes on
+-- Whether the connection at this index is live.
 abbrev pub is_live : {T U : Type 0} → ℕ → PublisherPort T U → Bool
 is_live index port = goes_on (connection_of index port).stage
 
--- another connection stands at this index
+-- The publisher with this connection at this index.
 abbrev pub with_connection_of : {T U : Type 0} → ℕ → Connection (Message T U) → PublisherPort T U → PublisherPort T U
 with_connection_of index connection port
     = record port { sender = with_uses (with_connection index connection port.sender.uses) port.sender }
 
--- other connections, and nothing else is changed
+-- The publisher with these connections, and otherwise unchanged.
 abbrev pub with_connections : {T U : Type 0} → List (Connection (Message T U)) → PublisherPort T U → PublisherPort T U
 with_connections connections port = record port { sender = with_uses (record port.sender.uses { connections = connections }) port.sender }
 
--- the index of the first connection that leads to this subscriber
+-- The index of the first connection that leads to this subscriber.
 abbrev pub connection_to : {T U : Type 0} → ℕ → PublisherPort T U → Option ℕ
 connection_to subscriber port = position (leads_to subscriber) port.readers
 
--- A connection for so many waiting messages is made, at an index that had none, and leads to this reader; without memory nothing
--- changes.
+-- A new connection in which `limit` messages may wait is made at an index without one, and leads to this reader. If memory runs
+-- out nothing changes.
 abbrev pub Connects : {T U : Type 0} → ℕ → Reader → PublisherPort T U → Result ℕ AllocError → PublisherPort T U → Type 0
 Connects limit reader old (Err error) new = new ≡ old
 Connects limit reader old (Ok index) new =
@@ -50,44 +50,46 @@ Connects limit reader old (Ok index) new =
       readers = set (reached (length old.sender.uses.connections + 1) old.readers) index (Some reader);
     })
 
--- the connection that leads to this subscriber, and where there is none, a new one
+-- The connection that leads to this subscriber is used; if there is none, one is made.
 abbrev pub Joins : {T U : Type 0} → ℕ → ℕ → Option ℕ → PublisherPort T U → Result ℕ AllocError → PublisherPort T U → Type 0
 Joins subscriber limit (Some index) old answer new = (answer ≡ Ok index) × (new ≡ old)
 Joins subscriber limit None old answer new = Connects limit (record { subscriber = subscriber; attached = false }) old answer new
 
--- the subscriber reads from the connection of this index
+-- The publisher after the subscriber was attached to the connection at this index.
 abbrev pub attached_at : {T U : Type 0} → ℕ → ℕ → PublisherPort T U → PublisherPort T U
 attached_at subscriber index port = record port
     { readers = set port.readers index (Some (record { subscriber = subscriber; attached = true })) }
 
--- a subscriber attaches to its connection, which is made where there is none; only then memory may be wanting, and nothing changes
+-- A subscriber attaches to its connection, which is made if there is none. Only then the call can fail, and nothing changes.
 abbrev pub Attaches : {T U : Type 0} → ℕ → ℕ → PublisherPort T U → Result ℕ AllocError → PublisherPort T U → Type 0
 Attaches subscriber limit old (Err error) new = (connection_to subscriber old ≡ None) × (new ≡ old)
 Attaches {T} {U} subscriber limit old (Ok index) new =
     (joined : PublisherPort T U) × Joins subscriber limit (connection_to subscriber old) old (Ok index) joined
     × (new ≡ attached_at subscriber index joined)
 
--- nobody reads any longer from the connection of this index
+-- The publisher after the subscriber was detached from the connection at this index.
 abbrev pub unread_at : {T U : Type 0} → ℕ → PublisherPort T U → PublisherPort T U
 unread_at index port = record port { readers = set port.readers index (left (get_or port.readers index None)) }
 
--- the connection of this index ends: what waits is lost, what is borrowed stays in use
+-- The publisher after the connection at this index, if it is live, ended: what waits is lost, and what is borrowed stays in
+-- use.
 abbrev pub ended_at : {T U : Type 0} → ℕ → PublisherPort T U → PublisherPort T U
 ended_at index port =
     if is_live index port then record (with_connection_of index (ended (connection_of index port)) port)
     { readers = set port.readers index None }
     else port
 
--- The reader of the connection of this index left. The publisher ends a connection that a place is tied to, as it follows the list of
--- subscribers; another, of which it doesn't know yet, ends at once.
+-- The publisher after the subscriber of the connection at this index was closed. A connection to which a place is tied ends
+-- later, when the publisher follows the list of subscribers; another one ends at once.
 abbrev pub detached_at : {T U : Type 0} → ℕ → PublisherPort T U → PublisherPort T U
 detached_at index port = if has_tie index port.ties then unread_at index port else ended_at index port
 
--- the history comes to a connection to which nothing was delivered
+-- The publisher after the connection at this index got the newest messages of the history, if nothing waits in it.
 abbrev pub greeted_at : {T U : Type 0} → ℕ → List (Message T U) → PublisherPort T U → PublisherPort T U
 greeted_at index [] port = with_connection_of index (welcomed port.sender.uses.history (connection_of index port)) port
 greeted_at index waiting port = port
 
--- the connection of this index gets as much of the history as may wait there
+-- The publisher after its live connection at this index, if nothing waits in it, got as many of the newest messages of the
+-- history as may wait there.
 abbrev pub welcomed_at : {T U : Type 0} → ℕ → PublisherPort T U → PublisherPort T U
 welcomed_at index port = if is_live index port then greeted_at index (connection_of index port).waiting port else port

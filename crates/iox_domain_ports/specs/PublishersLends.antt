@@ -1,4 +1,4 @@
--- What the publishers end as, once a `&mut` to one of them has ended.
+-- The final state of the publishers once a `&mut` to one of them has ended.
 use Rattle.std.specs.Prelude.{ℕ, List, Option}
 use Rattle.std.specs.Borrow.{Fml, LendsIf, MutBor, RattleType}
 use Rattle.iox_domain_ports.specs.declared.publisher_port.PublisherPort.{PublisherPort}
@@ -7,6 +7,6 @@ use Rattle.iox_domain_ports.specs.Publishers.{with_port}
 use Rattle.iox_domain_ports.specs.contracts.publishers.Publishers.{the_row}
 
 module _ (T U : RattleType) where
-  -- the last publisher behind the reference stands under the number; where there was none nothing has changed
+  -- The publishers end with the last publisher behind the reference under this number; if none was lent, they are unchanged.
   abbrev pub LendsPort : MutBor (List (ℕ × PublisherPort T.Denot U.Denot)) → ℕ → Option (MutBor (PublisherPort T.Denot U.Denot)) → Fml
   LendsPort ports number answer = LendsIf (the_row T U) (port.the_row T U) ports answer (with_port number ports.now) ports.now

@@ -6,24 +6,24 @@ use Rattle.iox_domain_ports.specs.Messages.{Message}
 use Rattle.iox_domain_ports.specs.Ports.{connection_of, with_connection_of}
 use Rattle.iox_domain_ports.specs.declared.publisher_port.PublisherPort.{PublisherPort}
 
--- where in the list of what is borrowed the first message in this slot is
+-- The place of the first borrowed message in this slot.
 abbrev pub place_of : {T U : Type 0} → ℕ → Connection (Message T U) → Option ℕ
 place_of slot connection = position (λ message. message.slot == slot) connection.borrowed
 
--- the first message in this slot that is borrowed
+-- The first borrowed message in this slot.
 abbrev pub borrowed_in : {T U : Type 0} → ℕ → Connection (Message T U) → Option (Message T U)
 borrowed_in slot connection = find (λ message. message.slot == slot) connection.borrowed
 
--- the oldest message that waits at the connection of this index is borrowed
+-- The publisher after the oldest waiting message of the connection at this index was borrowed.
 abbrev pub taken_at : {T U : Type 0} → ℕ → PublisherPort T U → PublisherPort T U
 taken_at index port = with_connection_of index (taken (connection_of index port)) port
 
--- the message at a place of what is borrowed is given back, if one is
+-- The publisher after the borrowed message at this place, if one is given, was released.
 abbrev pub given_back_at : {T U : Type 0} → ℕ → Option ℕ → PublisherPort T U → PublisherPort T U
 given_back_at index None port = port
 given_back_at index (Some at) port = with_connection_of index (given_back at (connection_of index port)) port
 
--- whether a publisher left, and has neither loans nor connections, nor a send that waits
+-- Whether a publisher is over: it is closed, and has neither loans nor connections nor a send that waits.
 abbrev pub is_over : {T U : Type 0} → PublisherPort T U → Bool
 is_over port =
     not port.stands && ((length port.sender.uses.loans == 0)

@@ -1,4 +1,4 @@
--- What a publisher ends as, once a `&mut` to a value of a loan has ended.
+-- The final state of a publisher once a `&mut` to a value of a loan has ended.
 use Rattle.std.specs.Prelude.{ℕ}
 use Rattle.std.specs.Borrow.{Fml, Lends, MutBor, RattleType}
 use Rattle.iox_domain_ports.specs.Messages.{write_value, write_user_header}
@@ -6,12 +6,12 @@ use Rattle.iox_domain_ports.specs.MessagesSending.{SenderState, with_uses, chang
 use Rattle.iox_domain_ports.specs.contracts.messages.sender.Sender.{the_row}
 
 module _ (T U : RattleType) where
-  -- the last value behind the reference is written at a place of the loan in a slot
+  -- The sender ends with the last value behind the reference written at this place of the loan in this slot.
   abbrev pub LendsValue : MutBor (SenderState T.Denot U.Denot) → ℕ → ℕ → MutBor T.Denot → Fml
   LendsValue sender slot place answer
       = Lends (the_row T U) T sender answer (λ value. with_uses (change_loan slot (write_value place value) sender.now.uses) sender.now)
 
-  -- the last user header behind the reference is that of the loan in a slot
+  -- The sender ends with the last user header behind the reference in the loan in this slot.
   abbrev pub LendsUserHeader : MutBor (SenderState T.Denot U.Denot) → ℕ → MutBor U.Denot → Fml
   LendsUserHeader sender slot answer = Lends (the_row T U) U sender answer
       (λ user_header. with_uses (change_loan slot (write_user_header user_header) sender.now.uses) sender.now)

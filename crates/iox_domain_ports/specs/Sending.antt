@@ -26,50 +26,51 @@ use Rattle.iox_domain_ports.specs.declared.publisher_port.PublisherPort.{Publish
 use Rattle.iox_domain_ports.specs.declared.subscriber_entry.SubscriberEntry.{SubscriberEntry}
 use Rattle.iox_domain_ports.specs.Ports.{connection_of, is_live, with_connection_of}
 
--- whether the message that is being sent may be put there: one is, and the connection goes on
+-- Whether the message that is being sent may be put into the connection at this index: there is such a message, and the
+-- connection is live.
 abbrev pub is_ready : {T U : Type 0} → ℕ → PublisherPort T U → Bool
 is_ready index port = is_live index port && is_some port.sender.uses.sending
 
--- what comes of the message at the connection of this index
+-- What the message meets at the connection at this index.
 abbrev pub meeting_of : {T U : Type 0} → ℕ → PublisherPort T U → Meeting
 meeting_of index port =
     if is_ready index port then
     (if accepts port.sender.uses.overflows (connection_of index port) then meeting.Delivered else unheard (get_or port.readers index None))
     else meeting.Passed
 
--- what comes of it where a place is tied to this connection, or to none
+-- What the message meets at a place that is tied to this connection, or to none.
 abbrev pub meeting_by : {T U : Type 0} → Option ℕ → PublisherPort T U → Meeting
 meeting_by None port = meeting.Passed
 meeting_by (Some index) port = meeting_of index port
 
--- what comes of it at a place of the list of subscribers
+-- What the message meets at a place of the list of subscribers.
 abbrev pub meeting_at : {T U : Type 0} → ℕ → PublisherPort T U → Meeting
 meeting_at place port = if nat_lt place (length port.ties.items) then meeting_by (get_or port.ties.items place None) port else meeting.Over
 
--- a message is put into the mailbox of the connection of this index
+-- The publisher after this message, if there is one, was put into the mailbox of the connection at this index.
 abbrev pub with_message : {T U : Type 0} → ℕ → Option (Message T U) → PublisherPort T U → PublisherPort T U
 with_message index None port = port
 with_message index (Some message) port
     = with_connection_of index (offered port.sender.uses.overflows message (connection_of index port)) port
 
--- the message that is being sent is put there, if that connection goes on
+-- The publisher after the message that is being sent was put into the connection at this index, if that connection is live.
 abbrev pub put_at : {T U : Type 0} → ℕ → PublisherPort T U → PublisherPort T U
 put_at index port = if is_live index port then with_message index port.sender.uses.sending port else port
 
--- it is put where a place is tied to
+-- The publisher after the message was put into the connection of this tie, if there is one.
 abbrev pub met_by : {T U : Type 0} → Option ℕ → PublisherPort T U → PublisherPort T U
 met_by None port = port
 met_by (Some index) port = put_at index port
 
--- the message came to a place of the list of subscribers
+-- The publisher after the message was put into the connection to which this place is tied, if any.
 abbrev pub met : {T U : Type 0} → ℕ → PublisherPort T U → PublisherPort T U
 met place port = met_by (get_or port.ties.items place None) port
 
--- another progress of the send
+-- The publisher with this progress of its send.
 abbrev pub with_progress : {T U : Type 0} → ProgressState → PublisherPort T U → PublisherPort T U
 with_progress progress port = record port { progress = progress }
 
--- what a handler is told of a full mailbox
+-- What the handler is given about a full mailbox.
 abbrev pub info_of : {T U : Type 0} → ℕ → PublisherPort T U → BackpressureInfo
 info_of subscriber port = record {
   service_id = port.service;
@@ -79,20 +80,20 @@ info_of subscriber port = record {
   elapsed_time = port.progress.elapsed;
 }
 
--- whether the send goes on after a decision
+-- Whether the send continues at the next place after this decision.
 abbrev pub goes_on_by : BackpressureDecision → Bool
 goes_on_by decided.Retry = false
 goes_on_by decided.DiscardData = true
 goes_on_by decided.DiscardDataAndFail = true
 
--- the send after a decision
+-- The publisher after this decision.
 abbrev pub decided_by : {T U : Type 0} → BackpressureDecision → PublisherPort T U → PublisherPort T U
 decided_by decided.Retry port = port
 decided_by decided.DiscardData port = with_progress (passed port.progress) port
 decided_by decided.DiscardDataAndFail port = with_progress (failing port.progress) port
 
--- One place after what came of the message there: the send goes on, or waits there; at a full mailbox as one of the decisions that may
--- be made says.
+-- One step of a send, after what the message met at its place: the send continues at the next place, or stops here. At a full
+-- mailbox it does as some decision says that the handler may make.
 abbrev pub Steps : {T U : Type 0} → (BackpressureInfo → BackpressureDecision → Type 0) → Meeting → PublisherPort T U → Bool
     → PublisherPort T U → Type 0
 Steps may meeting.Over port went new = (went ≡ false) × (new ≡ port)
@@ -102,12 +103,12 @@ Steps may (meeting.Full subscriber) port went new =
     (decision : BackpressureDecision) × may (info_of subscriber port) decision × (went ≡ goes_on_by decision)
     × (new ≡ decided_by decision port)
 
--- where the send waits, it didn't arrive and stays as it is; else it goes on
+-- If the send stops at this place, it hasn't arrived, and the state stays; otherwise it continues.
 abbrev pub GoesOn : {T U : Type 0} → Bool → Bool → PublisherPort T U → PublisherPort T U → Type 0 → Type 0
 GoesOn false arrived next new further = (arrived ≡ false) × (new ≡ next)
 GoesOn true arrived next new further = further
 
--- So many places are gone over, one after the other, up to one where the send waits; the answer is whether it came to the end.
+-- The send visits `places` places one after the other, up to one where it stops; `arrived` says whether it visited all of them.
 abbrev pub Delivers : {T U : Type 0} → (BackpressureInfo → BackpressureDecision → Type 0) → ℕ → PublisherPort T U → Bool
     → PublisherPort T U → Type 0
 Delivers may zero old arrived new = (arrived ≡ true) × (new ≡ old)
@@ -116,32 +117,34 @@ Delivers {T} {U} may (suc places) old arrived new =
     × (Steps may (meeting_at old.progress.place old) (met old.progress.place old) went next)
     × (GoesOn went arrived next new (Delivers may places next arrived new))
 
--- what a send answers that came to the end, or waits
+-- What a send answers: an error if it arrived and is to fail, how many connections took the message if it arrived, and
+-- `Blocked` if it waits.
 abbrev pub sent_answer : Bool → ProgressState → Result Sent SendError
 sent_answer arrived progress =
     if arrived then (if progress.fails then Err sending.UnableToDeliver else Ok (sent.Delivered progress.delivered)) else Ok sent.Blocked
 
--- once a send came to the end its message is in use only where the history or a connection has it
+-- The publisher after the send was finished, if it arrived; its message stays in use only where the history or a connection has
+-- it.
 abbrev pub concluded : {T U : Type 0} → Bool → PublisherPort T U → PublisherPort T U
 concluded arrived port = if arrived then record port { sender = with_uses (finished port.sender.uses) port.sender } else port
 
--- A send goes over the places that are left, and answers.
+-- A send visits the remaining places, and answers.
 abbrev pub Finishes : {T U : Type 0} → (BackpressureInfo → BackpressureDecision → Type 0) → PublisherPort T U → Result Sent SendError
     → PublisherPort T U → Type 0
 Finishes {T} {U} may old answer new =
     (arrived : Bool) × (gone : PublisherPort T U) × (Delivers may (length old.ties.items - old.progress.place) old arrived gone)
     × (answer ≡ sent_answer arrived gone.progress) × (new ≡ concluded arrived gone)
 
--- the loan at this place of the list, if it may be sent: it is written, and nothing is being sent
+-- The place of the loan, if it may be sent: the loan is completely written, and nothing is being sent.
 abbrev pub ready_at : {T U : Type 0} → Option ℕ → PublisherPort T U → Option ℕ
 ready_at None port = None
 ready_at (Some at) port = if is_some port.sender.uses.sending || not (is_written_at at port.sender.uses) then None else Some at
 
--- the place in the list of loans of the one in this slot, if it may be sent
+-- The place in the list of loans of the one in this slot, if that may be sent.
 abbrev pub ready_loan : {T U : Type 0} → ℕ → PublisherPort T U → Option ℕ
 ready_loan slot port = ready_at (position (λ loan. loan.slot == slot) port.sender.uses.loans) port
 
--- the send of a loan begins: its message gets the next number of the publisher
+-- The publisher after the send of this loan, if there is one, began: its message gets the publisher's next sequence number.
 abbrev pub begun_by : {T U : Type 0} → ℕ → Option (Loan T U) → PublisherPort T U → PublisherPort T U
 begun_by at None port = port
 begun_by at (Some loan) port = record port {
@@ -150,22 +153,24 @@ begun_by at (Some loan) port = record port {
   sender = with_uses (begun at (sent_as (next_sequence port.last_sequence) loan) port.sender.uses) port.sender;
 }
 
--- the send of the loan at this place of the list begins
+-- The publisher after the send of the loan at this place of the list began.
 abbrev pub begun_at : {T U : Type 0} → ℕ → PublisherPort T U → PublisherPort T U
 begun_at at port = begun_by at (slice_get port.sender.uses.loans at) port
 
--- the loan at this place of the list is given up
+-- The publisher after the loan at this place of the list was dropped.
 abbrev pub dropped_at : {T U : Type 0} → ℕ → PublisherPort T U → PublisherPort T U
 dropped_at at port = record port { sender = with_uses (dropped at port.sender.uses) port.sender }
 
--- A send after its update: a failure gives the loan up, else the message goes to the connections.
+-- What a send does after its update: if the update failed, the loan is dropped and the failure returned; otherwise the message
+-- is sent to the connections.
 abbrev pub SendsAfter : {T U : Type 0} → (BackpressureInfo → BackpressureDecision → Type 0) → ℕ → Result (Unit {0}) ConnectionFailure
     → PublisherPort T U → Option (Result Sent SendError) → PublisherPort T U → Type 0
 SendsAfter may at (Err failure) updated answer new = (answer ≡ Some (Err (sending.ConnectionError failure))) × (new ≡ dropped_at at updated)
 SendsAfter may at (Ok done) updated answer new =
     (finished : Result Sent SendError) × (Finishes may (begun_at at updated) finished new) × (answer ≡ Some finished)
 
--- A send by a publisher that stands: one whose numbers are used up gives the loan up, and another one updates first.
+-- A send by an open publisher: if its sequence numbers are used up, the loan is dropped with `InternalError`; otherwise the
+-- publisher updates first.
 abbrev pub SendsStanding : {T U : Type 0} → Bool → (DegradationInfo → DegradationAction → Type 0)
     → (BackpressureInfo → BackpressureDecision → Type 0) → List (Option (Member SubscriberEntry)) → ℕ → ℕ
     → PublisherPort T U → Option (Result Sent SendError) → PublisherPort T U → Type 0
@@ -176,7 +181,7 @@ SendsStanding {T} {U} false may_degrade may listed changes at old answer new =
     × (Updates may_degrade listed changes old outcome updated)
     × (SendsAfter may at outcome updated answer new)
 
--- A send by a publisher that stands, and by one that left: that one gives the loan up.
+-- A send by a publisher, which is open or closed; a closed one drops the loan with `ConnectionBrokenSinceSenderNoLongerExists`.
 abbrev pub SendsIf : {T U : Type 0} → Bool → (DegradationInfo → DegradationAction → Type 0)
     → (BackpressureInfo → BackpressureDecision → Type 0) → List (Option (Member SubscriberEntry)) → ℕ → ℕ
     → PublisherPort T U → Option (Result Sent SendError) → PublisherPort T U → Type 0
@@ -185,7 +190,7 @@ SendsIf false may_degrade may listed changes at old answer new =
 SendsIf true may_degrade may listed changes at old answer new
     = SendsStanding (is_used_up old.last_sequence) may_degrade may listed changes at old answer new
 
--- A send of the loan at this place of the list; without one nothing happens.
+-- What a send of the loan at this place of the list answers and changes; without a loan nothing happens.
 abbrev pub Sends : {T U : Type 0} → (DegradationInfo → DegradationAction → Type 0) → (BackpressureInfo → BackpressureDecision → Type 0)
     → List (Option (Member SubscriberEntry)) → ℕ → Option ℕ
     → PublisherPort T U → Option (Result Sent SendError) → PublisherPort T U → Type 0

@@ -1,4 +1,4 @@
--- What the steps of a subscriber come to, in other words.
+-- Theorems about the steps of a subscriber.
 use Rattle.std.specs.Prelude.{ℕ, ◌≡◌, true, List, Option, Some, Result, Ok}
 use Rattle.iox_domain_values.specs.declared.port_error.ReceiveError.{ReceiveError}
 use Rattle.iox_domain_ports.specs.declared.publisher_port.PublisherPort.{PublisherPort}
@@ -7,7 +7,7 @@ use Rattle.iox_domain_ports.specs.Receiving.{Receives}
 use Rattle.iox_domain_ports.specs.declared.attached.Taken.{Taken}
 use Rattle.iox_domain_ports.specs.declared.subscriber_port.SubscriberPort.{SubscriberPort}
 
--- A subscriber receives a message exactly if some connection below the limit of borrows has data, and is then not refused.
+-- A subscriber receives a message exactly if some connection below the limit of borrowed messages has data.
 pub record ReceivesIfGiven (T U : Type 0) : Type 0 where
   pub some : (port new : SubscriberPort) (ports new_ports : List (ℕ
       × PublisherPort T U)) (answer : Result (Option Taken) ReceiveError) (key : ℕ)

@@ -18,18 +18,18 @@ use Rattle.iox_domain_ports.specs.declared.attached.Taken.{Taken}
 use Rattle.iox_domain_ports.specs.declared.publisher_entry.PublisherEntry.{PublisherEntry}
 use Rattle.iox_domain_ports.specs.declared.subscriber_port.SubscriberPort.{SubscriberPort}
 
--- what a handler is told of a connection that failed
+-- What the handler is given about a connection that failed.
 abbrev pub told_of : PublisherEntry → SubscriberPort → DegradationInfo
 told_of entry port = record { service_id = port.service; sender_port_id = entry.publisher; receiver_port_id = port.number }
 
--- a place that lists a publisher is followed; nothing happens yet at one that lists none
+-- A place that lists a publisher is followed; at a place that lists none nothing happens yet.
 abbrev pub FollowsOne : {T U : Type 0} → ℕ → Option (Member PublisherEntry) → SubscriberPort → List (ℕ × PublisherPort T U)
     → Result (Unit {0}) ZeroCopyCreationError → SubscriberPort → List (ℕ × PublisherPort T U) → Type 0
 FollowsOne place None port ports outcome new new_ports = (outcome ≡ Ok tt) × (new ≡ port) × (new_ports ≡ ports)
 FollowsOne place (Some member) port ports outcome new new_ports
     = FollowsListed place member.value.publisher port ports outcome new new_ports
 
--- What is found after a place: where its connection failed the handler is asked.
+-- What is found after a place: if its connection failed, the handler decides.
 abbrev pub AsksOf : (DegradationInfo → DegradationAction → Type 0) → Option (Member PublisherEntry) → SubscriberPort
     → Option ConnectionFailure → Result (Unit {0}) ZeroCopyCreationError → Option ConnectionFailure → Type 0
 AsksOf may None port found outcome after = after ≡ found
@@ -38,8 +38,8 @@ AsksOf may (Some member) port found (Err failure) after =
     (action : DegradationAction) × may (told_of member.value port) action
     × (after ≡ first_failure found (FailedToEstablishConnection failure) action)
 
--- The places from one on that list a publisher are followed, one after the other; what is found is the first failure that is to fail
--- the call.
+-- The places from `place` on that list a publisher are followed one after the other; `after` is the first failure that the
+-- handler let fail.
 abbrev pub FollowsFrom : {T U : Type 0} → (DegradationInfo → DegradationAction → Type 0) → ℕ → List (Option (Member PublisherEntry))
     → Option ConnectionFailure → SubscriberPort → List (ℕ × PublisherPort T U) → Option ConnectionFailure → SubscriberPort
     → List (ℕ × PublisherPort T U) → Type 0
@@ -50,17 +50,17 @@ FollowsFrom {T} {U} may place (listed ∷ rest) found port ports after new new_p
     × FollowsOne place listed port ports outcome next next_ports × AsksOf may listed next found outcome then_found
     × FollowsFrom may (place + 1) rest then_found next next_ports after new new_ports
 
--- whether a place lists a publisher
+-- Whether the place lists a publisher.
 abbrev pub is_listed : List (Option (Member PublisherEntry)) → ℕ → Bool
 is_listed listed place = is_some (get_or listed place None)
 
--- a place that lists none is followed
+-- The place is followed as one that lists no publisher, unless it lists one.
 abbrev pub FollowsNoneIf : {T U : Type 0} → Bool → ℕ → SubscriberPort → List (ℕ × PublisherPort T U) → SubscriberPort
     → List (ℕ × PublisherPort T U) → Type 0
 FollowsNoneIf true place port ports new new_ports = (new ≡ port) × (new_ports ≡ ports)
 FollowsNoneIf false place port ports new new_ports = FollowsNone place port ports new new_ports
 
--- So many places from one on that list none are followed, one after the other.
+-- Those of `count` places from `place` on that list no publisher are followed, one after the other.
 abbrev pub FollowsNones : {T U : Type 0} → List (Option (Member PublisherEntry)) → ℕ → ℕ → SubscriberPort → List (ℕ × PublisherPort T U)
     → SubscriberPort → List (ℕ × PublisherPort T U) → Type 0
 FollowsNones listed place zero port ports new new_ports = (new ≡ port) × (new_ports ≡ ports)
@@ -69,7 +69,7 @@ FollowsNones {T} {U} listed place (suc count) port ports new new_ports =
     × FollowsNoneIf (is_listed listed place) place port ports next next_ports
     × FollowsNones listed (place + 1) count next next_ports new new_ports
 
--- first the places that list a publisher are followed, then those that list none
+-- The places that list a publisher are followed first, and then those that list none.
 abbrev pub FollowsList : {T U : Type 0} → (DegradationInfo → DegradationAction → Type 0) → List (Option (Member PublisherEntry))
     → SubscriberPort → List (ℕ × PublisherPort T U) → Result (Unit {0}) ConnectionFailure → SubscriberPort
     → List (ℕ × PublisherPort T U) → Type 0
@@ -78,7 +78,7 @@ FollowsList {T} {U} may listed port ports answer new new_ports =
     × FollowsFrom may 0 listed None port ports found between between_ports
     × FollowsNones listed 0 (length between.places.items) between between_ports new new_ports × (answer ≡ update_answer found)
 
--- where nothing is to be followed nothing happens
+-- If nothing is to be followed nothing happens; otherwise the list is followed.
 abbrev pub UpdatesIf : {T U : Type 0} → Bool → (DegradationInfo → DegradationAction → Type 0) → List (Option (Member PublisherEntry))
     → ℕ → SubscriberPort → List (ℕ × PublisherPort T U) → Result (Unit {0}) ConnectionFailure → SubscriberPort
     → List (ℕ × PublisherPort T U) → Type 0
@@ -86,34 +86,35 @@ UpdatesIf true may listed changes port ports answer new new_ports = (answer ≡ 
 UpdatesIf false may listed changes port ports answer new new_ports
     = FollowsList may listed (record port { seen = changes; again = false }) ports answer new new_ports
 
--- An update: where the list of publishers didn't change since the last one, and nobody was refused then, nothing happens.
+-- What an update answers and changes: nothing, if the list of publishers didn't change since the last update and that refused
+-- no publisher; otherwise the list is followed.
 abbrev pub Updates : {T U : Type 0} → (DegradationInfo → DegradationAction → Type 0) → List (Option (Member PublisherEntry)) → ℕ
     → SubscriberPort → List (ℕ × PublisherPort T U) → Result (Unit {0}) ConnectionFailure → SubscriberPort
     → List (ℕ × PublisherPort T U) → Type 0
 Updates may listed changes port ports answer new new_ports
     = UpdatesIf ((port.seen == changes) && not port.again) may listed changes port ports answer new new_ports
 
--- after an update that failed nothing more happens, else it is told whether some connection has data
+-- What the call answers after its update: the failure, if the update failed; otherwise whether some connection has data.
 abbrev pub HasSamplesAfter : {T U : Type 0} → Result (Unit {0}) ConnectionFailure → SubscriberPort → List (ℕ × PublisherPort T U)
     → Result Bool ConnectionFailure → Type 0
 HasSamplesAfter (Err failure) port ports answer = answer ≡ Err failure
 HasSamplesAfter (Ok done) port ports answer = (unread : Option ℕ) × IsFirst (has_data port ports) unread × (answer ≡ Ok (is_some unread))
 
--- An update, and then whether some connection has data, an expired one too.
+-- What the call answers and changes: it updates, and then says whether some connection, also an expired one, has data.
 abbrev pub HasSamples : {T U : Type 0} → (DegradationInfo → DegradationAction → Type 0) → List (Option (Member PublisherEntry)) → ℕ
     → SubscriberPort → List (ℕ × PublisherPort T U) → Result Bool ConnectionFailure → SubscriberPort → List (ℕ × PublisherPort T U) → Type 0
 HasSamples may listed changes port ports answer new new_ports =
     (updated : Result (Unit {0}) ConnectionFailure) × Updates may listed changes port ports updated new new_ports
     × HasSamplesAfter updated new new_ports answer
 
--- after an update that failed nothing is received
+-- What a receive does after its update: if the update failed, it returns the failure and receives nothing.
 abbrev pub ReceivesAfter : {T U : Type 0} → Result (Unit {0}) ConnectionFailure → SubscriberPort → List (ℕ × PublisherPort T U)
     → Result (Option Taken) ReceiveError → SubscriberPort → List (ℕ × PublisherPort T U) → Type 0
 ReceivesAfter (Err failure) port ports answer new new_ports = (answer ≡ Err (receiving.ConnectionFailure failure)) × (new ≡ port)
     × (new_ports ≡ ports)
 ReceivesAfter (Ok done) port ports answer new new_ports = Receives port ports answer new new_ports
 
--- An update, and then a message is received.
+-- What a receive answers and changes: the subscriber updates, and then receives a message.
 abbrev pub ReceivesNext : {T U : Type 0} → (DegradationInfo → DegradationAction → Type 0) → List (Option (Member PublisherEntry)) → ℕ
     → SubscriberPort → List (ℕ × PublisherPort T U) → Result (Option Taken) ReceiveError → SubscriberPort → List (ℕ × PublisherPort T U)
     → Type 0

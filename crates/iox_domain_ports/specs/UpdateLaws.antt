@@ -1,4 +1,4 @@
--- What an update comes to, in other words than its steps.
+-- Theorems about updates.
 use Rattle.std.specs.Prelude.{ℕ, ◌≡◌, ◌≢◌, List, get_or, Option, None, Result}
 use Rattle.iox_domain_slots.specs.Container.declared.container.Member.{Member}
 use Rattle.iox_domain_values.specs.declared.connection_failure.ConnectionFailure.{ConnectionFailure}
@@ -8,12 +8,12 @@ use Rattle.iox_domain_ports.specs.PublisherUpdating.{Updates}
 use Rattle.iox_domain_ports.specs.declared.publisher_port.PublisherPort.{PublisherPort}
 use Rattle.iox_domain_ports.specs.declared.subscriber_entry.SubscriberEntry.{SubscriberEntry}
 
--- two lists tell the same of each place; a place behind the end of a list lists nobody
+-- Both lists have the same entry at each place; a place behind the end of a list is empty.
 abbrev pub TellTheSame : List (Option (Member SubscriberEntry)) → List (Option (Member SubscriberEntry)) → Type 0
 TellTheSame one other = (place : ℕ) → get_or one place None ≡ get_or other place None
 
--- An update comes to the same over lists that tell the same, wherever they end. Where the list had changed, no place is tied afterwards
--- that lists nobody, whatever the update answers.
+-- An update does the same over two lists with the same entries, wherever they end. If the list had changed, no place that lists
+-- nobody is tied afterwards, whatever the update answers.
 pub record FollowsWhoIsListed (T U : Type 0) (may : DegradationInfo → DegradationAction → Type 0) : Type 0 where
   pub same : (one other : List (Option (Member SubscriberEntry))) (changes : ℕ) (old new : PublisherPort T U)
       (answer : Result (Unit {0}) ConnectionFailure)

@@ -1,65 +1,65 @@
-//! Where a subscriber reads.
+//! The connections from which a subscriber reads.
 
-/// A connection that a subscriber reads from.
+/// A connection from which a subscriber reads.
 #[derive(Clone, Copy)]
 pub struct Attached {
-    /// The number of the publisher.
+    /// The number of the connection's publisher.
     pub publisher: u64,
-    /// The index of the connection there.
+    /// The index of the connection at that publisher.
     pub index: usize,
 }
 
-/// A message that was received.
+/// A message that a subscriber took.
 #[derive(Clone, Copy)]
 pub struct Taken {
-    /// The number of the subscriber that received it.
+    /// The number of the subscriber.
     pub subscriber: u64,
-    /// The number of its publisher.
+    /// The number of the message's publisher.
     pub publisher: u64,
-    /// The index of the connection that it came through.
+    /// The index of the connection through which the message came.
     pub index: usize,
-    /// The slot that it is in.
+    /// The slot of the message.
     pub slot: usize,
 }
 
-/// What is seen of a connection.
+/// What is counted of a connection.
 #[derive(Clone, Copy)]
 pub(crate) struct Seen {
-    /// How many messages wait there.
+    /// How many messages wait in it.
     pub waiting: usize,
-    /// How many messages are borrowed of it.
+    /// How many messages of it are borrowed.
     pub borrowed: usize,
-    /// How many messages may be borrowed of it.
+    /// The maximum number of messages borrowed from it.
     pub most: usize,
 }
 
-/// What is asked of a connection where a subscriber receives.
+/// What a receive needs to know of a connection.
 #[derive(Clone, Copy)]
 pub(crate) struct Asked {
-    /// Whether it is below the limit of borrows, and has data.
+    /// Whether the connection is below the limit of borrowed messages, and has data.
     pub gives: bool,
-    /// Whether it has data.
+    /// Whether the connection has data.
     pub data: bool,
-    /// Whether nothing waits there and nothing is borrowed of it.
+    /// Whether nothing waits in the connection and nothing of it is borrowed.
     pub idle: bool,
 }
 
-/// Which expired connections are met before one that gives.
+/// The expired connections that a receive meets before one that gives.
 #[derive(Clone, Copy)]
 pub(crate) struct Met {
-    /// How many.
+    /// How many they are.
     pub count: usize,
-    /// The place of the first of them that is idle, and as many as are met where none is.
+    /// The place of the first of them that is idle, or `count` if none is.
     pub idle: usize,
     /// The key of the first of them that has data.
     pub unread: Option<usize>,
 }
 
-/// What is found where all connections are gone over.
+/// What is found when all connections are searched.
 #[derive(Clone, Copy)]
 pub(crate) struct Found {
     /// The first key whose connection gives.
     pub giver: Option<usize>,
-    /// A key whose connection has data, where none gives.
+    /// A key whose connection has data, if none gives.
     pub unread: Option<usize>,
 }

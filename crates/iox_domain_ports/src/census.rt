@@ -1,4 +1,4 @@
-//! How much lives of each owner, counted as ports change.
+//! How much of each owner is alive, counted as ports change.
 ghost use Rattle.std.specs.Prelude.{◌≡◌, ℕ, ◌+◌, ◌==◌, ◌<◌, ◌^◌, Option, IfSome, true, false, if◌then◌else◌, []};
 ghost use Rattle.iox_domain_ports.specs.Census.{amount, no_share, count_under, tallied, Exchanges};
 
@@ -6,35 +6,36 @@ use crate::living::counted;
 use std::alloc::Global;
 use std::collections::BTreeMap;
 
-/// Who a port belongs to, and how much of it lives.
+/// The owner of a port, and how much of the port is alive.
 #[derive(Clone, Copy)]
 pub struct Share {
     /// The number of its owner.
     pub owner: u64,
-    /// How much of it lives.
+    /// How much of the port is alive.
     pub count: u64,
 }
 
-/// How much lives of each owner, of the ports of one kind: so nobody has to walk them. It takes memory for owners of which something
-/// lives.
+/// How much of each owner is alive, among the ports of one kind, so that no call has to scan these. It takes memory for owners
+/// of which something is alive.
 ///
-/// A port that is lent may be changed in any way. So the one that was lent last is counted as it was then, and noted.
+/// A port that is handed out mutably may be changed in any way. So the port handed out last is counted as it was then, and that
+/// share is noted.
 #[derive(Drop)]
 pub struct Census {
-    // What lives of each owner of which something lives.
+    // What is alive of each owner of which something is alive.
     owners: BTreeMap<u64, u64>,
-    // What lives of all.
+    // What is alive of all owners.
     total: u64,
-    // Whether the counts hold: no more once one lacked memory, or was past 2^64 - 1.
+    // Whether the counts are valid; they aren't any longer once an allocation failed, or a count passed 2^64 - 1.
     holds: bool,
-    // The number of the port that was lent last.
+    // The number of the port that was handed out last.
     lent: u64,
-    // What is counted of it.
+    // The share that is counted of that port.
     noted: Share,
 }
 
 impl Census {
-    /// Nothing lives. It takes no memory.
+    /// Nothing is alive. The call allocates nothing.
     pub fn new(alloc: Global) -> Self
         ensures owners { result.owners.entries ≡ [] }
         ensures total { result.total ≡ 0 }
@@ -49,14 +50,14 @@ impl Census {
         }
     }
 
-    /// The number of the port that was lent last.
+    /// The number of the port that was handed out last.
     pub fn lent(&self) -> u64
         ensures { result ≡ self.now.lent }
     {
         self.lent
     }
 
-    // What is counted of an owner.
+    // The count of an owner.
     fn count(&self, owner: u64) -> u64
         ensures { result ≡ count_under owner self.now.owners.entries }
     {
@@ -66,7 +67,7 @@ impl Census {
         }
     }
 
-    // Puts the count of an owner, and that of all.
+    // Sets the count of an owner, and the total.
     fn put(&mut self, owner: u64, count: u64, total: u64)
         ensures held { self.new.holds ≡ true → self.old.holds ≡ true }
         ensures counts { self.new.holds ≡ true → (number : ℕ) → count_under number self.new.owners.entries
@@ -83,7 +84,7 @@ impl Census {
         }
     }
 
-    // The counts hold no longer.
+    // Makes the counts invalid.
     fn give_up(&mut self)
         ensures holds { self.new.holds ≡ false }
         ensures lent { self.new.lent ≡ self.old.lent }
@@ -92,7 +93,7 @@ impl Census {
         self.holds = false;
     }
 
-    // A share is counted no longer.
+    // Takes a share out of the counts.
     fn take(&mut self, share: Share)
         ensures { Exchanges share no_share self.old self.new }
     {
@@ -105,7 +106,7 @@ impl Census {
         self.put(share.owner, count - share.count, total);
     }
 
-    // A share is counted, too.
+    // Adds a share to the counts.
     fn give(&mut self, share: Share)
         ensures { Exchanges no_share share self.old self.new }
     {
@@ -120,7 +121,7 @@ impl Census {
         self.put(share.owner, count, total);
     }
 
-    // One share is counted in the place of another.
+    // Counts one share in place of another.
     fn exchange(&mut self, before: Share, after: Share)
         ensures { Exchanges before after self.old self.new }
     {
@@ -131,7 +132,8 @@ impl Census {
         self.give(after);
     }
 
-    /// Another port is lent, of which `now` is counted. `before` is what lives of the one that was lent before.
+    /// Notes that the port `number`, whose share is `now`, is handed out. `before` is the current share of the port that was
+    /// handed out before.
     pub fn lend(&mut self, before: Share, number: u64, now: Share)
         ensures held { self.new.holds ≡ true → self.old.holds ≡ true }
         ensures counts { self.new.holds ≡ true → (owner : Option ℕ) → tallied owner self.new + amount owner self.old.noted
@@ -144,7 +146,7 @@ impl Census {
         self.noted = now;
     }
 
-    /// This is counted of the port that was lent last.
+    /// Counts this share for the port that was handed out last.
     pub fn note(&mut self, share: Share)
         ensures held { self.new.holds ≡ true → self.old.holds ≡ true }
         ensures counts { self.new.holds ≡ true → (owner : Option ℕ) → tallied owner self.new + amount owner self.old.noted
@@ -156,8 +158,8 @@ impl Census {
         self.noted = share;
     }
 
-    /// How much lives of an owner, or of all where none is named, where `now` lives of the port that was lent last. None where the counts
-    /// don't hold.
+    /// How much of the owner is alive, or of all owners if none is named, if the current share of the port handed out last is
+    /// `now`. None if the counts aren't valid.
     pub fn told(&self, owner: Option<u64>, now: Share) -> Option<u64>
         ensures holds { IfSome result (λ count. self.now.holds ≡ true) }
         ensures fits { IfSome result (λ count. count < 2 ^ 64) }

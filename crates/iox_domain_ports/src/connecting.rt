@@ -11,7 +11,7 @@ use crate::reading::waiting_at;
 use std::alloc::{AllocError, Global};
 
 impl<T: Copy, U: Copy> PublisherPort<T, U> {
-    /// Whether the connection of this index goes on.
+    /// Whether the connection at this index is live.
     pub fn is_live(&self, index: usize) -> bool
         ensures { result ≡ is_live index self.now }
     {
@@ -22,7 +22,7 @@ impl<T: Copy, U: Copy> PublisherPort<T, U> {
         }
     }
 
-    // Makes a connection for so many waiting messages.
+    // Makes a connection in which at most `limit` messages may wait.
     fn connect(&mut self, alloc: Global, limit: usize, reader: Reader) -> Result<usize, AllocError>
         requires { limit ≤ self.old.sender.uses.most_waiting }
         ensures { Connects limit reader self.old result self.new }
@@ -41,8 +41,8 @@ impl<T: Copy, U: Copy> PublisherPort<T, U> {
         }
     }
 
-    /// The index of the connection that leads to this subscriber; where there is none it is made, and nobody reads there yet. It
-    /// fails only where an allocation fails, and then nothing has changed.
+    /// The index of the connection that leads to this subscriber. If there is none, one is made, from which the subscriber
+    /// doesn't read yet. The call fails only if an allocation fails; then nothing has changed.
     pub fn join(
         &mut self,
         alloc: Global,
@@ -65,8 +65,8 @@ impl<T: Copy, U: Copy> PublisherPort<T, U> {
         }
     }
 
-    /// The subscriber attaches to its connection, which is made where there is none, and whose index is the answer. It fails only
-    /// where there is none and an allocation fails, and then nothing has changed.
+    /// Attaches the subscriber to its connection, which is made if there is none, and answers the connection's index. The call
+    /// fails only if there is none and an allocation fails; then nothing has changed.
     pub fn attach(
         &mut self,
         alloc: Global,
@@ -87,9 +87,9 @@ impl<T: Copy, U: Copy> PublisherPort<T, U> {
         Ok(index)
     }
 
-    /// The reader of this connection left. Where a place is tied to it nobody reads there any longer, and it ends as the list of
-    /// subscribers is followed; where none is the publisher doesn't know of it yet, and it ends now. The place where the tie is likely
-    /// is looked at first.
+    /// Detaches the subscriber, which was closed, from the connection at this index. If a place is tied to the connection, it
+    /// ends when the publisher follows the list of subscribers; otherwise it ends now, since the publisher hasn't met it in the
+    /// list yet. The tie of place `likely` is examined first.
     pub fn detach(&mut self, index: usize, likely: usize)
         ensures { self.new ≡ detached_at index self.old }
     {
@@ -100,7 +100,8 @@ impl<T: Copy, U: Copy> PublisherPort<T, U> {
         }
     }
 
-    /// Ends the connection of this index if it goes on: what waits is lost, what is borrowed stays in use until it is given back.
+    /// Ends the connection at this index, if it is live: what waits is lost, and what is borrowed stays in use until it is
+    /// released.
     pub fn end(&mut self, index: usize)
         ensures { self.new ≡ ended_at index self.old }
     {
@@ -110,7 +111,7 @@ impl<T: Copy, U: Copy> PublisherPort<T, U> {
         }
     }
 
-    // Whether nothing waits at a connection.
+    // Whether nothing waits in the connection at this index.
     fn is_empty(&self, index: usize) -> bool
         requires { is_live index self.now ≡ true }
         ensures { result ≡ (length (connection_of index self.now).waiting == 0) }
@@ -118,7 +119,8 @@ impl<T: Copy, U: Copy> PublisherPort<T, U> {
         waiting_at(self, index) == 0
     }
 
-    /// Gives the connection of this index as much of the history as may wait there, if it goes on and nothing waits there.
+    /// Gives the connection at this index the newest messages of the history, as many as may wait there, if it is live and
+    /// nothing waits in it.
     pub fn welcome(&mut self, index: usize)
         ensures { self.new ≡ welcomed_at index self.old }
     {

@@ -1,4 +1,4 @@
-//! What a subscriber looks for among its expired connections.
+//! How a subscriber searches its expired connections.
 ghost use Rattle.std.specs.Prelude.{◌≡◌};
 ghost use Rattle.iox_domain_ports.specs.Receiving.{IsMet};
 ghost use Rattle.iox_domain_ports.specs.Expired.{is_sought};
@@ -6,17 +6,17 @@ ghost use Rattle.iox_domain_ports.specs.Expired.{is_sought};
 use crate::publishers::Publishers;
 use crate::subscriber_port::SubscriberPort;
 
-/// Which expired connection is looked for.
+/// Which expired connection is sought.
 #[derive(Clone, Copy)]
 pub(crate) enum Sought {
-    /// One at which nothing waits and nothing is borrowed.
+    /// One in which nothing waits, and of which nothing is borrowed.
     Idle,
     /// One of which nothing is borrowed.
     Unborrowed,
 }
 
 impl SubscriberPort {
-    // Whether the connection of a key is one that is looked for.
+    // Whether the connection with this key is of the sought kind.
     fn is_sought<T: Copy, U: Copy>(
         &self,
         sought: Sought,
@@ -31,7 +31,7 @@ impl SubscriberPort {
         }
     }
 
-    // How many of the expired connections are met before one that is looked for; all if there is none.
+    // How many of the expired connections come before the first sought one; all of them if there is none.
     pub(crate) fn first_expired<T: Copy, U: Copy>(
         &self,
         sought: Sought,

@@ -14,7 +14,7 @@ use iox_domain_values::ZeroCopyCreationError;
 use std::alloc::Global;
 
 impl SubscriberPort {
-    // Whether nothing is borrowed of the connection of a key.
+    // Whether nothing of the connection with this key is borrowed.
     pub(crate) fn is_unborrowed<T: Copy, U: Copy>(
         &self,
         key: usize,
@@ -25,7 +25,7 @@ impl SubscriberPort {
         self.seen(key, publishers).borrowed == 0
     }
 
-    // An expired connection ends, and that of a key expires in its stead.
+    // Ends the expired connection `out`, and lets the connection with `key` expire in its place.
     fn replace<T: Copy, U: Copy>(
         &mut self,
         place: usize,
@@ -40,8 +40,8 @@ impl SubscriberPort {
         self.expired.push(key);
     }
 
-    // The connection of a key ends if nothing is borrowed of it, and else expires if an expired one without borrows makes room; answers
-    // whether its place is free then.
+    // Ends the connection with this key if nothing of it is borrowed. Otherwise the connection expires in place of an expired
+    // one of which nothing is borrowed, if there is one. Answers whether its place is free then.
     fn part_borrowed<T: Copy, U: Copy>(
         &mut self,
         key: usize,
@@ -61,7 +61,8 @@ impl SubscriberPort {
         false
     }
 
-    // The connection of a key whose publisher left expires where the list of expired ones is full; answers whether its place is free then.
+    // Ends the connection with this key, whose publisher was closed, or lets it expire, when the list of expired connections is
+    // full. Answers whether its place is free then.
     fn part_full<T: Copy, U: Copy>(&mut self, key: usize, publishers: &mut Publishers<T, U>) -> bool
         ensures { PartsFull key self.old publishers.old result self.new publishers.new }
     {
@@ -73,7 +74,7 @@ impl SubscriberPort {
         self.part_borrowed(key, publishers)
     }
 
-    // The publisher of the connection of a key left; answers whether its place is free then.
+    // Ends the connection with this key, whose publisher was closed, or lets it expire. Answers whether its place is free then.
     fn part<T: Copy, U: Copy>(&mut self, key: usize, publishers: &mut Publishers<T, U>) -> bool
         ensures { Parts key self.old publishers.old result self.new publishers.new }
     {
@@ -88,7 +89,7 @@ impl SubscriberPort {
         self.part_full(key, publishers)
     }
 
-    // Attaches to a publisher that is listed at a place.
+    // Connects to a publisher that is listed at this place.
     fn connect<T: Copy, U: Copy>(
         &mut self,
         alloc: Global,
@@ -122,7 +123,7 @@ impl SubscriberPort {
         }
     }
 
-    // Keeps a connection at a place that is reached.
+    // Stores a connection for a place that is reached.
     fn keep(&mut self, place: usize, number: u64, index: usize)
         requires { self.old.connections.free ≢ [] }
         ensures { KeepsReached place (record { publisher = number; index = index }) self.old self.new }
@@ -136,7 +137,7 @@ impl SubscriberPort {
         }
     }
 
-    // Whether the connection of a key is one to this publisher.
+    // Whether the connection with this key is one to this publisher.
     fn is_of(&self, key: usize, number: u64) -> bool
         ensures { result ≡ is_of number (attached_at key self.now) }
     {
@@ -146,7 +147,7 @@ impl SubscriberPort {
         }
     }
 
-    // Goes on at a place whose former connection parted, or didn't.
+    // Connects to the publisher at this place if the place is free; refuses the publisher otherwise.
     fn follow_freed<T: Copy, U: Copy>(
         &mut self,
         alloc: Global,
@@ -187,7 +188,7 @@ impl SubscriberPort {
         self.follow_freed(alloc, is_free, place, number, publishers)
     }
 
-    // Follows a place that lists none.
+    // Follows a place that lists no publisher.
     pub(crate) fn follow_none<T: Copy, U: Copy>(
         &mut self,
         place: usize,
@@ -204,8 +205,8 @@ impl SubscriberPort {
     }
 }
 
-/// A publisher that comes to a place where there was none is followed without memory, if there is room for the place, a key is left and
-/// it has the connection already. A law of the step at a place: the function does nothing.
+/// Following a publisher needs no memory and succeeds if its place isn't tied yet and is within the capacity, a key is free,
+/// and the publisher has the connection already. This is a theorem: the function does nothing.
 pub fn attaches_at_once<T, U>()
     ensures { AttachesAtOnce T U }
 {}

@@ -5,9 +5,9 @@ ghost use Rattle.iox_domain_ports.specs.Keys.{KeysState, with_last, IsKeyOf};
 use std::alloc::{AllocError, Global};
 use std::marker::Model;
 
-/// Keys in the order in which they came, at most so many. `new` takes all its memory.
+/// Keys in the order in which they were added, up to a maximum. `new` allocates all memory for them.
 ///
-/// A flag at each key that was reached tells whether it is among them, so nobody goes over them for that.
+/// A flag for each key that was reached says whether the key is among them, so no search is needed for that.
 #[derive(Drop)]
 pub struct Keys {
     items: Vec<usize>,
@@ -29,7 +29,8 @@ impl Model for Keys {
 }
 
 impl Keys {
-    /// No keys, and room for so many, and for the flags of all keys below `most_flags`. It fails only where an allocation fails.
+    /// No keys, with capacity for `room` keys and for the flags of all keys below `most_flags`. The call fails only if an
+    /// allocation fails.
     pub fn new(alloc: Global, room: usize, most_flags: usize) -> Result<Keys, AllocError>
         ensures { IfOk result (λ keys. keys ≡ record { items = []; room = room }) }
     {
@@ -41,7 +42,7 @@ impl Keys {
         })
     }
 
-    /// How many keys there are: never more than there is room for.
+    /// How many keys there are, at most the capacity.
     pub fn len(&self) -> usize
         ensures value { result ≡ length self.now.items }
         ensures few { length self.now.items ≤ self.now.room }
@@ -49,28 +50,29 @@ impl Keys {
         self.items.len()
     }
 
-    /// Whether there is no room for one more.
+    /// Whether there is no room for one more key.
     pub fn is_full(&self) -> bool
         ensures { result ≡ nat_le self.now.room (length self.now.items) }
     {
         self.room <= self.items.len()
     }
 
-    /// The key at a place, if there is one.
+    /// The key at this place, if there is one.
     pub fn at(&self, place: usize) -> Option<usize>
         ensures { result ≡ slice_get self.now.items place }
     {
         self.items.get(place).copied()
     }
 
-    /// Whether a flag tells that a key is among them. There is one for each key below as many as `new` was told.
+    /// Whether the key's flag says that it is among the keys. Only keys below `most_flags` of `new` have flags; for others the
+    /// answer is false.
     pub fn is_flagged(&self, key: usize) -> bool
         ensures { result ≡ true → IsKeyOf key self.now.items }
     {
         key < self.flags.len() && self.flags[key]
     }
 
-    /// Adds a key behind the others; where there is no room nothing happens.
+    /// Adds a key behind the others, if there is room; otherwise nothing happens.
     pub fn push(&mut self, key: usize)
         ensures { self.new ≡ with_last key self.old }
     {
@@ -80,7 +82,7 @@ impl Keys {
         }
     }
 
-    /// Takes the key at a place away; where there is none nothing happens.
+    /// Removes the key at this place, if there is one; otherwise nothing happens.
     pub fn remove(&mut self, place: usize)
         ensures { self.new ≡ record self.old { items = remove self.old.items place } }
     {
@@ -91,7 +93,7 @@ impl Keys {
     }
 }
 
-// Flags a key, where it is below so many.
+// Sets the flag of the key, if the key is below `most`.
 fn flag(flags: &mut Vec<bool>, key: usize, most: usize)
     ensures { (other : ℕ) → other ≢ key → get_or flags.new.items other false ≡ get_or flags.old.items other false }
 {
@@ -99,7 +101,7 @@ fn flag(flags: &mut Vec<bool>, key: usize, most: usize)
         return;
     }
     if flags.len() <= key {
-        // Its room is there.
+        // `new` allocated the memory.
         let _resized = flags.resize(key + 1, false);
     }
     if key < flags.len() {
@@ -107,7 +109,7 @@ fn flag(flags: &mut Vec<bool>, key: usize, most: usize)
     }
 }
 
-// Takes the flag of a key away.
+// Clears the flag of the key.
 fn unflag(flags: &mut Vec<bool>, key: usize)
     ensures none { get_or flags.new.items key false ≡ false }
     ensures others { (other : ℕ) → other ≢ key → get_or flags.new.items other false ≡ get_or flags.old.items other false }

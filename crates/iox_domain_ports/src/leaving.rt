@@ -1,4 +1,4 @@
-//! A publisher comes and leaves.
+//! A publisher is created and closed.
 ghost use Rattle.std.specs.Prelude.{◌≡◌, ◌<◌, ◌^◌, IfOk, true, [], length};
 ghost use Rattle.iox_domain_ports.specs.Leaving.{new_port, parted_at, departed};
 
@@ -11,9 +11,9 @@ use iox_domain_values::{AllocationStrategy, PortIdentity};
 use std::alloc::{AllocError, Global};
 
 impl<T: Copy, U: Copy> PublisherPort<T, U> {
-    /// A publisher that is connected to nobody yet, and is to be listed at its place, with room for so many places of the list of
-    /// subscribers, whose elements have so many values each. Its first message gets the number behind `last_sequence`, and none has a
-    /// number where that is None. It fails only where an allocation fails.
+    /// A publisher that is connected to nobody yet, and is to be listed at its place. It has capacity for `most_subscribers`
+    /// places of the list of subscribers, and its elements have `unit` values each. Its first message gets the sequence number
+    /// behind `last_sequence`; messages aren't numbered if that is None. The call fails only if an allocation fails.
     pub fn new(
         alloc: Global,
         identity: PortIdentity,
@@ -49,7 +49,7 @@ impl<T: Copy, U: Copy> PublisherPort<T, U> {
         })
     }
 
-    // Ends the connection of this index if it goes on and nobody reads there.
+    // Ends the connection at this index, if it is live and no subscriber reads from it.
     fn part(&mut self, index: usize)
         ensures { self.new ≡ parted_at index self.old }
     {
@@ -58,7 +58,8 @@ impl<T: Copy, U: Copy> PublisherPort<T, U> {
         }
     }
 
-    /// Leaves: the publisher sends no more. Connections where nobody reads end; the others stay until their subscribers find out.
+    /// Closes the publisher, which then sends no more. Connections from which no subscriber reads end; the others stay until
+    /// their subscribers notice.
     ///
     /// Ported from dropping an `iceoryx2::port::publisher::Publisher`.
     pub fn leave(&mut self)

@@ -1,11 +1,11 @@
-//! How long loans and segments are, counted in elements.
+//! The lengths of loans and segments, counted in elements.
 ghost use Rattle.std.specs.Prelude.{◌≡◌, ◌≤◌, nat_le, true, Some, IfSome};
 ghost use Rattle.iox_domain_ports.specs.Lengths.{span, extent, room_for, SegmentRoom};
 
 use iox_domain_values::AllocationStrategy;
 
-/// How many values so many elements have, of so many each. An element without values counts as one value, so that lengths are counted of
-/// such elements too.
+/// How many values' memory these elements take, of `unit` values each. An element without values takes as much as one value, so
+/// that lengths are counted for such elements, too.
 ///
 /// Ported from `iceoryx2::service::static_config::message_type_details::MessageTypeDetails::sample_layout`, in values.
 pub fn span(unit: usize, elements: u64) -> u128
@@ -14,14 +14,14 @@ pub fn span(unit: usize, elements: u64) -> u128
     elements as u128 * unit.max(1) as u128
 }
 
-// How many values a loan takes.
+// How many values' memory a loan takes.
 fn extent(unit: usize, values: usize, elements: u64) -> u128
     ensures { result ≡ extent unit values elements }
 {
     span(unit, elements).max(values as u128)
 }
 
-// Whether a loan of so many values and elements, each of so many values, is at most so long.
+// Whether a loan of so many values and elements fits into a slot with room for `room` values.
 pub(crate) fn fits(unit: usize, values: usize, elements: u64, room: usize) -> bool
     ensures fits { result ≡ nat_le (extent unit values elements) room }
     ensures values { result ≡ true → values ≤ room }
@@ -29,7 +29,8 @@ pub(crate) fn fits(unit: usize, values: usize, elements: u64, room: usize) -> bo
     extent(unit, values, elements) <= room as u128
 }
 
-// How long a segment is that is opened for a loan of so many values and elements, each of so many values: None if none may be.
+// For how many values the slots of a segment have room that is opened for a loan of so many values and elements; None if no
+// such segment may be opened.
 pub(crate) fn segment_room(
     allocation: AllocationStrategy,
     unit: usize,
@@ -43,7 +44,7 @@ pub(crate) fn segment_room(
     room_for(unit, values, length)
 }
 
-// How long a segment is with room for so many elements, and for these values.
+// For how many values the slots of a segment have room that is to have room for `length` elements and for these values.
 fn room_for(unit: usize, values: usize, length: usize) -> Option<usize>
     ensures room { result ≡ room_for unit values (Some length) }
     ensures fits { IfSome result (λ room. values ≤ room) }

@@ -1,34 +1,34 @@
 //! One publisher with its messages and connections, and one subscriber over the publishers of its service.
 //!
-//! - [`messages`]: its messages and loans by what they hold, over the slots that they are in.
-//! - [`places`]: values at places, as they are first needed.
+//! - [`messages`]: a publisher's messages and loans by their contents, over the slots that they are in.
+//! - [`places`]: values at places, allocated when a place is first needed.
 //! - [`ties`]: which connection each place of a list is tied to.
-//! - [`meeting`]: what comes of a message at a place, and of a send.
-//! - [`reader`]: who a connection leads to.
-//! - [`subscriber_entry`]: what the list of subscribers says of one.
+//! - [`meeting`]: what a message meets at a place, and what a send answers.
+//! - [`reader`]: to whom a connection leads.
+//! - [`subscriber_entry`]: an entry of the list of subscribers.
 //! - [`progress`]: how far a send is.
 //! - [`publisher_port`]: a publisher.
-//! - [`connecting`]: its connections are made and ended.
-//! - [`leaving`]: it comes and leaves.
-//! - [`lengths`]: how long loans and segments are, counted in elements.
-//! - [`loaning`]: it lends a slot to be written.
-//! - [`writing`]: what lies in a loan is written and read, and a loan is given up.
-//! - [`publisher_laws`]: what its steps come to, in other words.
-//! - [`publisher_updating`]: it follows the list of subscribers.
-//! - [`sending`]: it sends.
+//! - [`connecting`]: a publisher's connections are made and ended.
+//! - [`leaving`]: a publisher is created and closed.
+//! - [`lengths`]: the lengths of loans and segments, counted in elements.
+//! - [`loaning`]: a publisher loans a slot.
+//! - [`writing`]: what is in a loan is written and read, and a loan is dropped.
+//! - [`publisher_laws`]: theorems about the steps of a publisher.
+//! - [`publisher_updating`]: a publisher follows the list of subscribers.
+//! - [`sending`]: a publisher sends.
 //! - [`reading`]: what a subscriber does at one publisher.
-//! - [`publishers`]: the publishers of a service, by number.
+//! - [`publishers`]: the publishers of a service by their numbers.
 //! - [`keys`]: the keys of connections in an order.
-//! - [`attached`]: where a subscriber reads.
+//! - [`attached`]: the connections from which a subscriber reads.
 //! - [`subscriber_port`]: a subscriber.
-//! - [`receiving`]: it receives.
-//! - [`publisher_entry`]: what the list of publishers says of one.
-//! - `expired`: what it looks for among its expired connections.
-//! - [`following`]: it follows one place of that list.
-//! - [`subscriber_updating`]: it follows all of them.
-//! - [`living`]: how much lives.
-//! - [`census`]: how much lives of each owner, counted as ports change.
-//! - [`subscriber_laws`]: what its steps come to, in other words.
+//! - [`receiving`]: a subscriber receives.
+//! - [`publisher_entry`]: an entry of the list of publishers.
+//! - `expired`: how a subscriber searches its expired connections.
+//! - [`following`]: a subscriber follows one place of the list of publishers.
+//! - [`subscriber_updating`]: a subscriber follows the whole list.
+//! - [`living`]: how much is alive.
+//! - [`census`]: how much of each owner is alive, counted as ports change.
+//! - [`subscriber_laws`]: theorems about the steps of a subscriber.
 //!
 //! First calls, of a publisher and of a subscriber. `ServicePorts` of `iox_domain` makes them.
 //!

@@ -1,4 +1,4 @@
-//! A publisher lends a slot to be written.
+//! A publisher loans a slot.
 ghost use Rattle.std.specs.Prelude.{◌≡◌, ◌<◌, ◌≤◌, ℕ, length, nat_le, true, false, None, Some, Ok, Err, IsOk, OnErr};
 ghost use Rattle.iox_domain_ports.specs.Lengths.{extent};
 ghost use Rattle.iox_domain_ports.specs.LoanLaws.{IsAmple};
@@ -10,16 +10,17 @@ use iox_domain_values::{AllocationStrategy, LoanError};
 use std::alloc::Global;
 
 impl<T: Copy, U: Copy> PublisherPort<T, U> {
-    /// Lends a slot for so many values, of which none is written, and answers the slot; the header of the message says so many
-    /// elements. None, and nothing happens, while a send of this publisher waits.
+    /// Loans a slot for `values` values, of which none is written, and answers the slot; the message's header says `elements`
+    /// elements. The call answers None, and nothing happens, while a send of this publisher waits.
     ///
-    /// Refused, in this order, with `ExceedsMaxLoanSize` if the loan is longer than fits and the room stays as it was made; with
-    /// `ExceedsMaxLoans` if as many loans are out as may be; with `OutOfMemory` if each slot of the current segment is in use.
-    /// Other strategies open a new segment for a longer loan, and for nothing else; `OutOfMemory` is then that the segment would
-    /// be longer than 2^32 - 1, that there are as many segments as may be, or a failed allocation. Lengths are those of all
-    /// values of so many elements, and at least of so many values. A loan that fits takes no memory. With as many slots as the
-    /// worst case needs one is always free, and a refusal changes nothing; with fewer a new segment may stay though nothing is
-    /// lent. `blank` fills a new segment.
+    /// The call fails with the first of these errors that applies: `ExceedsMaxLoanSize` if the strategy is static and the loan
+    /// is longer than a slot; `ExceedsMaxLoans` if as many loans exist as the limit allows; `OutOfMemory` if each slot of the
+    /// current segment is in use. Other strategies open a new segment for a longer loan, and for nothing else. Then
+    /// `OutOfMemory` means that the slots of the segment would have room for more than 2^32 - 1 values, that as many segments
+    /// exist as the limit allows, or that an allocation failed. The length of a loan is that of all values of its elements, or
+    /// `values` if that is more. A loan that fits allocates nothing. With at least as many slots in a segment as the worst case
+    /// needs, a loan that fits always finds a slot, and an error changes nothing; with fewer slots a new segment may stay
+    /// although nothing is loaned. `blank` fills a new segment.
     ///
     /// Ported from `iceoryx2::port::publisher::Publisher::loan_slice_uninit`.
     pub fn loan(
@@ -42,7 +43,7 @@ impl<T: Copy, U: Copy> PublisherPort<T, U> {
         Some(self.lend(alloc, values, elements, allocation, blank))
     }
 
-    // Lends a slot, where no send waits.
+    // Loans a slot while no send waits.
     fn lend(
         &mut self,
         alloc: Global,
@@ -66,7 +67,7 @@ impl<T: Copy, U: Copy> PublisherPort<T, U> {
         self.lend_longer(alloc, values, elements, allocation, blank)
     }
 
-    // Why nothing is lent, whichever slots are in use.
+    // The error of a loan that is refused whichever slots are in use, if it is.
     fn refusal(
         &self,
         values: usize,
@@ -84,7 +85,7 @@ impl<T: Copy, U: Copy> PublisherPort<T, U> {
         None
     }
 
-    // Whether a loan is longer than loans may be, and no segment is opened for it.
+    // Whether the loan is longer than a slot, and its strategy opens no segment.
     fn is_too_long(&self, values: usize, elements: u64, allocation: AllocationStrategy) -> bool
         ensures { result ≡ is_too_long allocation values elements self.now }
     {
@@ -94,7 +95,7 @@ impl<T: Copy, U: Copy> PublisherPort<T, U> {
         }
     }
 
-    // Whether a loan fits in the slots of the current segment.
+    // Whether a loan fits into the slots of the current segment.
     fn has_room(&self, values: usize, elements: u64) -> bool
         ensures room { result ≡ nat_le (extent self.now.unit values elements) self.now.sender.room }
         ensures values { result ≡ true → values ≤ self.now.sender.room }
@@ -102,7 +103,7 @@ impl<T: Copy, U: Copy> PublisherPort<T, U> {
         fits(self.unit, values, elements, self.sender.room())
     }
 
-    // Lends a slot of the current segment.
+    // Loans a slot of the current segment.
     fn lend_here(&mut self, values: usize, elements: u64) -> Result<usize, LoanError>
         requires room { values ≤ self.old.sender.room }
         requires loans { length self.old.sender.uses.loans < self.old.sender.uses.most_loans }
@@ -115,7 +116,7 @@ impl<T: Copy, U: Copy> PublisherPort<T, U> {
         }
     }
 
-    // Lends a slot of a new segment.
+    // Loans a slot of a new segment.
     fn lend_longer(
         &mut self,
         alloc: Global,

@@ -1,24 +1,24 @@
-//! What comes of a message at a place, and of a send.
+//! What a message meets at a place, and what a send answers.
 
-/// What comes of a message at a place of the list of subscribers.
+/// What a message meets at a place of the list of subscribers.
 #[derive(Clone, Copy)]
 pub enum Meeting {
-    /// There is no such place.
+    /// There is no such place: all places are visited.
     Over,
-    /// No connection goes there, or it is full and nobody reads there.
+    /// No connection is at the place, or it is full and no subscriber reads from it.
     Passed,
-    /// The connection took it.
+    /// The connection took the message.
     Delivered,
-    /// The connection is full, and this subscriber reads there.
+    /// The connection is full, and the subscriber with this number reads from it.
     Full(u64),
 }
 
-/// What a send came to.
+/// What a send answers.
 ///
 /// Ported from what `iceoryx2::port::publisher::Publisher::send` answers, which waits itself.
 #[derive(Clone, Copy, PartialEq, Eq)]
 pub enum Sent {
-    /// So many connections took the message.
+    /// The send is finished, and so many connections took the message.
     Delivered(usize),
     /// The send waits at a full mailbox.
     Blocked,

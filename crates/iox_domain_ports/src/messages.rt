@@ -1,11 +1,11 @@
-//! One publisher: its messages and loans by what they hold, over the slots that they are in.
+//! One publisher: its messages and loans by their contents, over the slots that they are in.
 //!
 //! - [`rows`]: the values of the slots of one segment.
 //! - [`payloads`]: the values of the slots of all segments.
 //! - [`marks`]: which of them are written.
-//! - [`slot_header`]: what is told of a message beside its values.
-//! - [`sender_config`]: how a publisher is made.
-//! - [`laws`]: what the steps of a publisher come to, in other words.
+//! - [`slot_header`]: the header of a message.
+//! - [`sender_config`]: the capacities of a publisher.
+//! - [`laws`]: theorems about the steps of a publisher.
 //! - [`sender`]: all of one publisher together.
 //!
 //! First calls. `PublisherPort` makes them.

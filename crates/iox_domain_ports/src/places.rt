@@ -1,4 +1,4 @@
-//! Values at places, as they are first needed.
+//! Values at places, allocated when a place is first needed.
 ghost use Rattle.std.specs.Prelude.{◌≡◌, ◌<◌, length, take, set, get_or, None, [], OnErr, IfOk};
 ghost use Rattle.iox_domain_ports.specs.Places.{reached, leads_to, left, unheard, is_attached};
 ghost use Rattle.std.specs.List.{position};
@@ -8,7 +8,7 @@ use crate::reader::Reader;
 use std::alloc::{AllocError, Global};
 use std::marker::Model;
 
-/// A value, or none, at each of the first places. Memory is taken for places that are reached, and not before.
+/// A value, or none, at each of the first places. Memory is allocated only for places that are reached.
 #[derive(Drop)]
 pub struct Places<A: Copy> {
     items: Vec<Option<A>>,
@@ -23,7 +23,7 @@ impl<A: Copy> Model for Places<A> {
 }
 
 impl<A: Copy> Places<A> {
-    /// No place is reached.
+    /// No place is reached yet.
     pub fn new(alloc: Global) -> Self
         ensures { result ≡ [] }
     {
@@ -39,7 +39,7 @@ impl<A: Copy> Places<A> {
         self.items.len()
     }
 
-    /// The value at a place; None also where the place isn't reached.
+    /// The value at this place; None also if the place isn't reached.
     pub fn get(&self, place: usize) -> Option<A>
         ensures { result ≡ get_or self.now place None }
     {
@@ -50,8 +50,8 @@ impl<A: Copy> Places<A> {
         }
     }
 
-    /// Reaches so many places at least, the new ones without a value. It fails only where they aren't reached yet and an allocation
-    /// fails, and then nothing has changed.
+    /// Extends the places to at least `count`; the new ones are empty. The call fails only if they aren't reached yet and an
+    /// allocation fails; then nothing has changed.
     pub fn reach(&mut self, count: usize) -> Result<(), AllocError>
         ensures ok { IfOk result (λ _. self.new ≡ reached count self.old) }
         ensures short { OnErr result (length self.old < count) }
@@ -63,14 +63,14 @@ impl<A: Copy> Places<A> {
         self.items.resize(count, None)
     }
 
-    /// Goes back to so many places at most.
+    /// Cuts the places to at most `count`.
     pub fn cut(&mut self, count: usize)
         ensures { self.new ≡ take count self.old }
     {
         self.items.truncate(count);
     }
 
-    /// Puts a value at a place that is reached, or takes it away; elsewhere nothing happens.
+    /// Puts a value at a place that is reached, or empties it; at other places nothing happens.
     pub fn put(&mut self, place: usize, value: Option<A>)
         ensures { self.new ≡ set self.old place value }
     {
@@ -90,7 +90,7 @@ impl Places<Reader> {
             .position(|reader| Reader::leads_to(*reader, subscriber))
     }
 
-    /// The reader at a place left.
+    /// Detaches the reader at this place from its connection.
     pub fn detach(&mut self, place: usize)
         ensures { self.new ≡ set self.old place (left (get_or self.old place None)) }
     {
@@ -106,7 +106,7 @@ impl Places<Reader> {
         );
     }
 
-    /// Whether somebody reads at a place.
+    /// Whether a subscriber reads at this place.
     pub fn is_attached(&self, place: usize) -> bool
         ensures { result ≡ is_attached (get_or self.now place None) }
     {
@@ -116,7 +116,7 @@ impl Places<Reader> {
         }
     }
 
-    /// What comes of a full mailbox at a place: who reads there is asked about.
+    /// What a send meets at a full mailbox: it asks about the subscriber that reads there, and skips the mailbox if none does.
     pub fn asked_at(&self, place: usize) -> Meeting
         ensures { result ≡ unheard (get_or self.now place None) }
     {

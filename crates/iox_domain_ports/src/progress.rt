@@ -4,8 +4,8 @@ ghost use Rattle.iox_domain_ports.specs.Progress.{start, passed, counted, failin
 
 use std::marker::Model;
 
-/// How far a send is: the place of the list of subscribers that comes next, how often and how long it was tried, how many
-/// connections took the message so far, and whether the send is to fail.
+/// How far a send is: the next place of the list of subscribers, how often and for how long it was tried, how many connections
+/// took the message so far, and whether the send will fail.
 #[derive(Drop)]
 pub struct Progress {
     place: usize,
@@ -27,7 +27,7 @@ impl Model for Progress {
 }
 
 impl Progress {
-    /// Nothing was tried yet.
+    /// The progress of a new send.
     pub fn start() -> Progress
         ensures { result ≡ start }
     {
@@ -40,21 +40,21 @@ impl Progress {
         }
     }
 
-    /// The place that comes next.
+    /// The place that is next.
     pub fn place(&self) -> usize
         ensures { result ≡ self.now.place }
     {
         self.place
     }
 
-    /// How often the place was tried again: 0 at first.
+    /// How often the place was tried again; 0 at first.
     pub fn retries(&self) -> u64
         ensures { result ≡ self.now.retries }
     {
         self.retries
     }
 
-    /// For how many nanoseconds, as the caller told: 0 at first.
+    /// For how many nanoseconds the place is being tried, as the caller last said; 0 at first.
     pub fn elapsed(&self) -> u64
         ensures { result ≡ self.now.elapsed }
     {
@@ -68,14 +68,14 @@ impl Progress {
         self.delivered
     }
 
-    /// Whether the send fails after the last place.
+    /// Whether the send fails once all places are visited.
     pub fn fails(&self) -> bool
         ensures { result ≡ self.now.fails }
     {
         self.fails
     }
 
-    /// The place is passed over.
+    /// Skips the place.
     pub fn pass(&mut self)
         requires { self.old.place + 1 < 2 ^ 64 }
         ensures { self.new ≡ passed self.old }
@@ -85,7 +85,7 @@ impl Progress {
         self.elapsed = 0;
     }
 
-    /// The place is passed over, and the send is to fail.
+    /// Skips the place, and lets the send fail in the end.
     pub fn fail(&mut self)
         requires { self.old.place + 1 < 2 ^ 64 }
         ensures { self.new ≡ failing self.old }
@@ -96,7 +96,7 @@ impl Progress {
         self.fails = true;
     }
 
-    /// The connection of the place took the message.
+    /// Counts that the connection of the place took the message, and moves to the next place.
     pub fn count(&mut self)
         requires { self.old.place + 1 < 2 ^ 64 }
         ensures { self.new ≡ counted self.old }
@@ -107,7 +107,7 @@ impl Progress {
         self.delivered += 1;
     }
 
-    /// The place is tried once more, after so many nanoseconds. Retries are counted up to 2^64 - 1.
+    /// Notes that the place is tried once more, after `elapsed` nanoseconds. Retries are counted up to 2^64 - 1.
     pub fn try_again(&mut self, elapsed: u64)
         ensures { self.new ≡ tried_again elapsed self.old }
     {

@@ -1,8 +1,8 @@
-//! What the list of publishers says of one.
+//! An entry of the list of publishers.
 
-/// What the list of publishers says of one.
+/// An entry of the list of publishers: what a subscriber needs to know of a publisher.
 #[derive(Clone, Copy)]
 pub struct PublisherEntry {
-    /// The number of its port.
+    /// The number of the publisher.
     pub publisher: u64,
 }

@@ -15,25 +15,25 @@ pub struct PublisherPort<T, U> {
     pub service: u64,
     /// Its own number.
     pub number: u64,
-    /// Who it belongs to.
+    /// The node to which it belongs.
     pub owner: PortOwner,
     /// Its place in the list of publishers.
     pub place: usize,
-    /// How its room grows where a longer slice is asked for.
+    /// How its segments grow when a longer slice is loaned.
     pub allocation: AllocationStrategy,
-    /// How many values an element has: 1, but where the values are the bytes of a payload that only the description says.
+    /// How many values an element has: 1, except if the values are the bytes of a payload that only the description defines.
     pub unit: usize,
-    /// Whether it is on the list of publishers: it didn't leave.
+    /// Whether it is open, and so on the list of publishers.
     pub stands: bool,
-    /// How often the list of subscribers had changed when it was last followed.
+    /// The number of changes of the list of subscribers when it was last followed.
     pub seen: u64,
-    /// The last number that a send gave a message, or the one before the first; None where messages have no numbers.
+    /// The sequence number that the last send gave its message, or the one before the first; None if messages aren't numbered.
     pub last_sequence: Option<u64>,
-    /// For each place of the list of subscribers the index of the connection that messages go to.
+    /// For each place of the list of subscribers the index of the connection to which messages go.
     pub ties: Ties,
-    /// For each index of a connection who it leads to; none where it ended.
+    /// For each index of a connection to whom the connection leads; None if it ended.
     pub readers: Places<Reader>,
-    /// How far the send is that is under way, if one is.
+    /// How far the current send is, if there is one.
     pub progress: Progress,
     /// Its messages, and what its connections hold.
     pub sender: Sender<T, U>,

@@ -28,7 +28,7 @@ impl<T: Copy, U: Copy> PublisherPort<T, U> {
         }
     }
 
-    // Lets go of the connection that a place is tied to.
+    // Unties this place, and ends the connection to which it was tied.
     fn untie(&mut self, place: usize)
         ensures untied { self.new ≡ untied place self.old }
         ensures same { OnlyConnections self.old self.new }
@@ -40,7 +40,7 @@ impl<T: Copy, U: Copy> PublisherPort<T, U> {
         self.end(index);
     }
 
-    // Lets go of the connections that the places from one on are tied to.
+    // Unties the places from `first` on, and ends their connections.
     fn untie_from(&mut self, first: usize)
         ensures untied { self.new ≡ untied_from (length self.old.ties.items - first) first self.old }
         ensures same { OnlyConnections self.old self.new }
@@ -96,7 +96,7 @@ impl<T: Copy, U: Copy> PublisherPort<T, U> {
         self.tie(alloc, place, member.value)
     }
 
-    // What a handler is told of a connection that failed.
+    // What the handler is given about a connection that failed.
     fn told(&self, entry: SubscriberEntry) -> DegradationInfo
         ensures { result ≡ told_of entry self.now }
     {
@@ -107,7 +107,7 @@ impl<T: Copy, U: Copy> PublisherPort<T, U> {
         }
     }
 
-    // Asks the handler where a connection failed; answers the failure that was found so far.
+    // Asks the handler if a connection failed; answers the failure that was found so far.
     fn ask<D: Degrades>(
         &self,
         listed: &Option<Member<SubscriberEntry>>,
@@ -132,7 +132,7 @@ impl<T: Copy, U: Copy> PublisherPort<T, U> {
         )
     }
 
-    // Follows each place of the list, and lets go of what places behind its end are tied to.
+    // Follows each place of the list, and ends the connections of places behind its end.
     fn follow_all<D: Degrades>(
         &mut self,
         alloc: Global,
@@ -151,11 +151,11 @@ impl<T: Copy, U: Copy> PublisherPort<T, U> {
         answer_of(found)
     }
 
-    /// Follows the list of subscribers, if it changed since it was last followed: the connections of those that left end, and
-    /// those that came are connected, and get what they may of the history. A place behind the end of the list lists nobody.
-    /// Where a connection isn't made the handler is asked; the answer is the first failure that it degrades and fails, after all
-    /// places were tried. A connection fails only where an allocation fails, and takes none where it is there already; and at a
-    /// place behind as many subscribers as the publisher was made for.
+    /// Follows the list of subscribers, if it changed since it was last followed: connections of closed subscribers end, and
+    /// new subscribers are connected and get the newest messages of the history, as many as may wait there. A place behind the
+    /// end of the list lists nobody. If a connection fails the handler decides; after all places were tried, the call returns
+    /// the first failure for which the handler said `DegradeAndFail`. A connection fails only if it must be allocated and the
+    /// allocation fails, or if its place is beyond the number of subscribers for which the publisher was made.
     ///
     /// Ported from `iceoryx2::port::publisher::Publisher::update_connections`.
     pub fn update<D: Degrades>(
@@ -177,7 +177,7 @@ impl<T: Copy, U: Copy> PublisherPort<T, U> {
     }
 }
 
-// The failure that is answered in the end, after one more.
+// The failure that the call returns in the end, after one more connection failed.
 fn first_failure(
     found: Option<ConnectionFailure>,
     failure: ConnectionFailure,
@@ -191,7 +191,7 @@ fn first_failure(
     }
 }
 
-// What an update answers.
+// What an update answers for the failure that was found, if one was.
 fn answer_of(found: Option<ConnectionFailure>) -> Result<(), ConnectionFailure>
     ensures { result ≡ update_answer found }
 {

@@ -1,4 +1,4 @@
-//! The publishers of a service, by number.
+//! The publishers of a service by their numbers.
 ghost use Rattle.std.specs.Prelude.{◌≡◌, ◌-◌, ◌^◌, ◌<◌, length, map, min, slice_get, option_copied, is_some, true, OnOk, OnErr, [], None};
 ghost use Rattle.std.specs.Prelude.{Some};
 ghost use Rattle.std.specs.Borrow.{sem};
@@ -24,13 +24,13 @@ use std::collections::BTreeMap;
 use std::collections::btree_map::Iter;
 use std::marker::Model;
 
-/// The publishers of a service. One that left stays until it has neither loans nor connections.
+/// The publishers of a service. A closed one stays until it has neither loans nor connections nor a send that waits.
 ///
-/// Contracts see each with its number, by rising number.
+/// Contracts see each publisher with its number, by rising number.
 #[derive(Drop)]
 pub struct Publishers<T, U> {
     ports: BTreeMap<u64, PublisherPort<T, U>>,
-    // How much of each owner lives.
+    // How much of each owner is alive.
     census: Census,
 }
 
@@ -61,14 +61,14 @@ impl<T: Copy, U: Copy> Publishers<T, U> {
         }
     }
 
-    /// The publisher of a number, if there is one.
+    /// The publisher with this number, if it exists.
     pub fn get(&self, number: u64) -> Option<&PublisherPort<T, U>>
         ensures { option_copied result ≡ port_of number self.now }
     {
         self.ports.get(&number)
     }
 
-    /// The publisher of a number, if there is one, to be changed in its place.
+    /// A mutable reference to the publisher with this number, if it exists.
     pub fn get_mut(&mut self, number: u64) -> Option<&mut PublisherPort<T, U>>
         ensures* writes_back { sem 𝓛 (LendsPort T.row U.row self.entry number result) }
         ensures value { option_copied_mut result ≡ port_of number self.old }
@@ -85,8 +85,8 @@ impl<T: Copy, U: Copy> Publishers<T, U> {
         self.ports.iter()
     }
 
-    /// Adds a publisher under a number, in the place of one that had it. It fails only where an allocation fails, and then nothing has
-    /// changed.
+    /// Adds a publisher under this number, in place of one that had it. The call fails only if an allocation fails; then
+    /// nothing has changed.
     pub fn insert(&mut self, number: u64, port: PublisherPort<T, U>) -> Result<(), AllocError>
         ensures ok { OnOk result (self.new ≡ added number port self.old) }
         ensures err { OnErr result (self.new ≡ self.old) }
@@ -98,7 +98,7 @@ impl<T: Copy, U: Copy> Publishers<T, U> {
         Ok(())
     }
 
-    /// Whether the publisher of a number is on the list of publishers: it is there, and didn't leave.
+    /// Whether the publisher with this number exists and is open, and so on the list of publishers.
     pub fn stands(&self, number: u64) -> bool
         ensures { result ≡ stands_in number self.now }
     {
@@ -108,9 +108,10 @@ impl<T: Copy, U: Copy> Publishers<T, U> {
         }
     }
 
-    /// A subscriber attaches to its connection at a publisher, which is made where there is none, for as many waiting messages as it asks
-    /// for and may have; the answer is its index. None where there is no such publisher. It fails only where an allocation fails, and
-    /// then nothing has changed.
+    /// Attaches a subscriber to its connection at the publisher with this number, and answers the connection's index. The
+    /// connection is made if there is none; as many messages may wait in it as the subscriber asks for, up to the publisher's
+    /// limit. The call answers None if there is no such publisher. It fails only if an allocation fails; then nothing has
+    /// changed.
     pub fn attach(
         &mut self,
         alloc: Global,
@@ -125,8 +126,8 @@ impl<T: Copy, U: Copy> Publishers<T, U> {
         Some(port.attach(alloc, subscriber, limit.min(most)))
     }
 
-    /// The reader of a connection of a publisher, which was listed at a place, left: nobody reads there any longer, and where the
-    /// publisher doesn't know of the connection yet it ends.
+    /// Detaches the subscriber, which was listed at `place` and is closed, from a connection of the publisher with this number.
+    /// The connection ends if the publisher hasn't met it in the list yet.
     pub fn detach(&mut self, number: u64, index: usize, place: usize)
         ensures { self.new ≡ changed number (detached_at index) self.old }
     {
@@ -135,9 +136,9 @@ impl<T: Copy, U: Copy> Publishers<T, U> {
         }
     }
 
-    /// Ends a connection of a publisher that left, if it goes on: what waits is lost, what is borrowed stays in use until it is given
-    /// back. A publisher that is over then is gone. One that exists ends its connections itself, as it follows the list of subscribers:
-    /// then nothing happens.
+    /// Ends a connection of a closed publisher, if it is live: what waits is lost, and what is borrowed stays in use until it
+    /// is released. A publisher that is over then is removed. An open publisher ends its connections itself when it follows the
+    /// list of subscribers, so this call does nothing to it.
     pub fn end(&mut self, number: u64, index: usize)
         ensures { self.new ≡ settled number (changed number (ended_if_left index) self.old) }
     {
@@ -145,7 +146,7 @@ impl<T: Copy, U: Copy> Publishers<T, U> {
         self.settle(number);
     }
 
-    // Ends a connection of a publisher that left.
+    // Ends a connection of the publisher, if that is closed.
     fn end_there(&mut self, number: u64, index: usize)
         ensures { self.new ≡ changed number (ended_if_left index) self.old }
     {
@@ -154,7 +155,8 @@ impl<T: Copy, U: Copy> Publishers<T, U> {
         }
     }
 
-    /// Takes a publisher away that left and has neither loans nor connections.
+    /// Removes the publisher with this number if it is over: it is closed, and has neither loans nor connections nor a send
+    /// that waits.
     pub fn settle(&mut self, number: u64)
         ensures { self.new ≡ settled number self.old }
     {
@@ -165,8 +167,8 @@ impl<T: Copy, U: Copy> Publishers<T, U> {
         }
     }
 
-    /// How much lives of the publishers of an owner, or of all where none is named: those that exist, their loans, and the messages of
-    /// sends that wait. Past 2^64 - 1 it is that.
+    /// How much of the publishers of the owner is alive, or of all publishers if no owner is named: open publishers, their
+    /// loans, and the messages of sends that wait. At most 2^64 - 1 is answered.
     pub fn living(&self, owner: Option<u64>) -> u64
         ensures { result ≡ min (living_publishers owner self.now) (2 ^ 64 - 1) }
     {
@@ -177,7 +179,7 @@ impl<T: Copy, U: Copy> Publishers<T, U> {
         }
     }
 
-    // How much lives of an owner, or of all where none is named, counted one by one.
+    // How much of the owner is alive, or of all if no owner is named, counted one by one.
     fn count_living(&self, owner: Option<u64>) -> u64
         ensures { result ≡ min (living_publishers owner self.now) (2 ^ 64 - 1) }
     {
@@ -187,7 +189,7 @@ impl<T: Copy, U: Copy> Publishers<T, U> {
             .fold(0, add)
     }
 
-    // Whether the publisher of a number is over.
+    // Whether the publisher with this number is over.
     fn is_over(&self, number: u64) -> bool
         ensures { result ≡ is_over_in number self.now }
     {
@@ -197,7 +199,7 @@ impl<T: Copy, U: Copy> Publishers<T, U> {
         }
     }
 
-    /// Borrows the oldest message that waits at a connection of a publisher, and answers its slot.
+    /// Borrows the oldest waiting message of a connection of the publisher with this number, and answers its slot.
     pub fn take(&mut self, number: u64, index: usize) -> usize
         requires data { 0 < length (connection_in number index self.old).waiting }
         requires room { length (connection_in number index self.old).borrowed < most_borrowed_in number self.old }
@@ -211,8 +213,8 @@ impl<T: Copy, U: Copy> Publishers<T, U> {
         }
     }
 
-    /// Gives back the first message in this slot that is borrowed of a connection of a publisher, which is gone if it is over then.
-    /// Answers false where none is, and then nothing has changed.
+    /// Releases the first message in this slot that is borrowed from a connection of the publisher with this number; a publisher
+    /// that is over then is removed. The call answers false, and nothing has changed, if no such message is borrowed.
     pub fn give_back(&mut self, number: u64, index: usize, slot: usize) -> bool
         ensures answer { result ≡ is_some (place_of slot (connection_in number index self.old)) }
         ensures new { self.new ≡ released number index (place_of slot (connection_in number index self.old)) self.old }
@@ -224,7 +226,7 @@ impl<T: Copy, U: Copy> Publishers<T, U> {
         true
     }
 
-    // Gives back the first message in this slot that is borrowed of a connection of a publisher.
+    // Releases the first message in this slot that is borrowed from a connection of the publisher with this number.
     fn give_back_there(&mut self, number: u64, index: usize, slot: usize) -> bool
         ensures answer { result ≡ is_some (place_of slot (connection_in number index self.old)) }
         ensures new { self.new ≡ changed number (given_back_at index (place_of slot (connection_in number index self.old))) self.old }
@@ -236,7 +238,7 @@ impl<T: Copy, U: Copy> Publishers<T, U> {
     }
 }
 
-// What counts of a publisher.
+// The share of a publisher.
 fn share_of<T: Copy, U: Copy>(port: &PublisherPort<T, U>) -> Share
     ensures { result ≡ publisher_share port.now }
 {
@@ -246,7 +248,7 @@ fn share_of<T: Copy, U: Copy>(port: &PublisherPort<T, U>) -> Share
     }
 }
 
-// What counts of the publisher of a number; nothing where there is none.
+// The share of the publisher with this number, or `no_share` if there is none.
 fn share_in<T: Copy, U: Copy>(ports: &BTreeMap<u64, PublisherPort<T, U>>, number: u64) -> Share
     ensures { result ≡ share_at publisher_share (port_of number ports.now.entries) }
 {
@@ -256,7 +258,8 @@ fn share_in<T: Copy, U: Copy>(ports: &BTreeMap<u64, PublisherPort<T, U>>, number
     }
 }
 
-// Puts a publisher under a number; one that had it is gone. It fails only where an allocation fails, and then nothing has changed.
+// Puts a publisher under this number, in place of one that had it. The call fails only if an allocation fails; then nothing has
+// changed.
 fn put_port<T: Copy, U: Copy>(
     ports: &mut BTreeMap<u64, PublisherPort<T, U>>,
     number: u64,
@@ -272,7 +275,7 @@ fn put_port<T: Copy, U: Copy>(
     Ok(())
 }
 
-// The publisher of a number is gone.
+// Removes the publisher with this number.
 fn remove_port<T: Copy, U: Copy>(ports: &mut BTreeMap<u64, PublisherPort<T, U>>, number: u64)
     ensures removed { ports.new.entries ≡ removed number ports.old.entries }
     ensures gone { port_of number ports.new.entries ≡ None }
@@ -280,7 +283,7 @@ fn remove_port<T: Copy, U: Copy>(ports: &mut BTreeMap<u64, PublisherPort<T, U>>,
     drop(ports.remove(&number));
 }
 
-// Notes that a publisher is lent. What the one that was lent before has become is counted.
+// Notes that a publisher is handed out. The current share of the one handed out before is counted.
 fn note_lent<T: Copy, U: Copy>(
     census: &mut Census,
     ports: &BTreeMap<u64, PublisherPort<T, U>>,
@@ -299,7 +302,7 @@ fn note_lent<T: Copy, U: Copy>(
     census.lend(before, number, now);
 }
 
-// Ends a connection of a publisher, if it left.
+// Ends a connection of the publisher, if that is closed.
 fn end_if_left<T: Copy, U: Copy>(port: &mut PublisherPort<T, U>, index: usize)
     ensures { port.new ≡ ended_if_left index port.old }
 {

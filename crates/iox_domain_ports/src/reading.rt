@@ -7,7 +7,7 @@ ghost use Rattle.iox_domain_ports.specs.Reading.{borrowed_in, is_over, place_of,
 
 use crate::PublisherPort;
 
-/// How many messages wait at the connection of this index; none where there is none.
+/// How many messages wait in the connection at this index; 0 if there is none.
 pub fn waiting_at<T: Copy, U: Copy>(port: &PublisherPort<T, U>, index: usize) -> usize
     ensures { result ≡ length (connection_of index port.now).waiting }
 {
@@ -17,7 +17,7 @@ pub fn waiting_at<T: Copy, U: Copy>(port: &PublisherPort<T, U>, index: usize) ->
     }
 }
 
-/// How many messages are borrowed of the connection of this index; none where there is none.
+/// How many messages are borrowed from the connection at this index; 0 if there is none.
 pub fn borrowed_at<T: Copy, U: Copy>(port: &PublisherPort<T, U>, index: usize) -> usize
     ensures { result ≡ length (connection_of index port.now).borrowed }
 {
@@ -27,7 +27,7 @@ pub fn borrowed_at<T: Copy, U: Copy>(port: &PublisherPort<T, U>, index: usize) -
     }
 }
 
-/// How many messages may wait at the connection of this index; none where there is none.
+/// The maximum number of messages that wait in the connection at this index; 0 if there is none.
 pub fn limit_at<T: Copy, U: Copy>(port: &PublisherPort<T, U>, index: usize) -> usize
     ensures { result ≡ (connection_of index port.now).limit }
 {
@@ -37,7 +37,7 @@ pub fn limit_at<T: Copy, U: Copy>(port: &PublisherPort<T, U>, index: usize) -> u
     }
 }
 
-/// Borrows the oldest message that waits at the connection of this index, and answers its slot.
+/// Borrows the oldest waiting message of the connection at this index, and answers its slot.
 pub fn take_at<T: Copy, U: Copy>(port: &mut PublisherPort<T, U>, index: usize) -> usize
     requires data { 0 < length (connection_of index port.old).waiting }
     requires room { length (connection_of index port.old).borrowed < port.old.sender.uses.most_borrowed }
@@ -49,7 +49,7 @@ pub fn take_at<T: Copy, U: Copy>(port: &mut PublisherPort<T, U>, index: usize) -
     port.sender.take(index)
 }
 
-// A connection at which a message waits is there.
+// A connection in which a message waits exists.
 fn is_there_with_data<T: Copy, U: Copy>(port: &PublisherPort<T, U>, index: usize)
     requires { 0 < length (connection_of index port.now).waiting }
     ensures { is_there (connection_of index port.now) ≡ true }
@@ -60,7 +60,8 @@ fn is_there_with_data<T: Copy, U: Copy>(port: &PublisherPort<T, U>, index: usize
     }
 }
 
-/// Gives back the first message in this slot that is borrowed of the connection of this index; answers false where none is.
+/// Releases the first message in this slot that is borrowed from the connection at this index; answers false, and changes
+/// nothing, if there is none.
 pub fn give_back_at<T: Copy, U: Copy>(
     port: &mut PublisherPort<T, U>,
     index: usize,
@@ -76,7 +77,7 @@ pub fn give_back_at<T: Copy, U: Copy>(
     true
 }
 
-// Whether a message in this slot is borrowed of the connection of this index.
+// Whether a message in this slot is borrowed from the connection at this index.
 fn has_at<T: Copy, U: Copy>(port: &PublisherPort<T, U>, index: usize, slot: usize) -> bool
     ensures answer { result ≡ is_some (place_of slot (connection_of index port.now)) }
     ensures inside { result ≡ true → slot < port.now.sender.uses.first + port.now.sender.uses.size }
@@ -87,7 +88,7 @@ fn has_at<T: Copy, U: Copy>(port: &PublisherPort<T, U>, index: usize, slot: usiz
     }
 }
 
-/// The values of the first message in this slot that is borrowed of the connection of this index; None where none is.
+/// The values of the first message in this slot that is borrowed from the connection at this index; None if there is none.
 pub fn payload_at<T: Copy, U: Copy>(
     port: &PublisherPort<T, U>,
     index: usize,
@@ -101,7 +102,7 @@ pub fn payload_at<T: Copy, U: Copy>(
     Some(port.sender.payload(slot))
 }
 
-/// The user header of the first message in this slot that is borrowed of the connection of this index; None where none is.
+/// The user header of the first message in this slot that is borrowed from the connection at this index; None if there is none.
 pub fn user_header_at<T: Copy, U: Copy>(
     port: &PublisherPort<T, U>,
     index: usize,
@@ -115,7 +116,8 @@ pub fn user_header_at<T: Copy, U: Copy>(
     Some(port.sender.user_header(slot))
 }
 
-/// How many elements the first message in this slot has that is borrowed of the connection of this index; None where none is.
+/// How many elements the first message in this slot has that is borrowed from the connection at this index; None if there is
+/// none.
 pub fn elements_at<T: Copy, U: Copy>(
     port: &PublisherPort<T, U>,
     index: usize,
@@ -129,8 +131,8 @@ pub fn elements_at<T: Copy, U: Copy>(
     Some(port.sender.elements(slot))
 }
 
-/// The number of the first message in this slot that is borrowed of the connection of this index, which is None where messages have no
-/// numbers; None where none is borrowed.
+/// The sequence number of the first message in this slot that is borrowed from the connection at this index, which is
+/// `Some(None)` if messages aren't numbered; None if no message in this slot is borrowed.
 pub fn sequence_at<T: Copy, U: Copy>(
     port: &PublisherPort<T, U>,
     index: usize,
@@ -144,7 +146,7 @@ pub fn sequence_at<T: Copy, U: Copy>(
     Some(port.sender.sequence(slot))
 }
 
-/// Whether the publisher left, and has neither loans nor connections, nor a send that waits.
+/// Whether the publisher is over: it is closed, and has neither loans nor connections nor a send that waits.
 pub fn is_over<T: Copy, U: Copy>(port: &PublisherPort<T, U>) -> bool
     ensures { result ≡ is_over port.now }
 {
@@ -154,7 +156,7 @@ pub fn is_over<T: Copy, U: Copy>(port: &PublisherPort<T, U>) -> bool
         && !has_connections(port)
 }
 
-// Whether the publisher has a connection: one that goes on, or ended and holds something.
+// Whether the publisher has a connection: a live one, or one that ended and still holds something.
 fn has_connections<T: Copy, U: Copy>(port: &PublisherPort<T, U>) -> bool
     ensures { result ≡ list_any is_there port.now.sender.uses.connections }
 {
@@ -166,7 +168,7 @@ fn has_connections<T: Copy, U: Copy>(port: &PublisherPort<T, U>) -> bool
     false
 }
 
-// Whether there is a connection of this index.
+// Whether a connection exists at this index.
 fn is_there_at<T: Copy, U: Copy>(port: &PublisherPort<T, U>, index: usize) -> bool
     ensures { result ≡ is_there (connection_of index port.now) }
 {

@@ -16,14 +16,14 @@ use iox_container::SlotMapKey;
 use iox_domain_values::ReceiveError;
 
 impl SubscriberPort {
-    /// The connection of a key, if it holds one.
+    /// The connection with this key, if the subscriber has one.
     pub fn attached(&self, key: usize) -> Option<Attached>
         ensures { result ≡ attached_at key self.now }
     {
         self.connections.get(SlotMapKey::new(key)).copied()
     }
 
-    // What is seen of the connection of a key: its publisher is looked up once.
+    // What is counted of the connection with this key; its publisher is looked up once.
     pub(crate) fn seen<T: Copy, U: Copy>(&self, key: usize, publishers: &Publishers<T, U>) -> Seen
         ensures { result ≡ seen_of (attached_at key self.now) publishers.now }
     {
@@ -33,14 +33,14 @@ impl SubscriberPort {
         }
     }
 
-    // Whether a message waits at the connection of a key.
+    // Whether a message waits in the connection with this key.
     fn has_data<T: Copy, U: Copy>(&self, key: usize, publishers: &Publishers<T, U>) -> bool
         ensures { result ≡ has_data self.now publishers.now key }
     {
         0 < self.seen(key, publishers).waiting
     }
 
-    // Whether nothing waits and nothing is borrowed at the connection of a key.
+    // Whether nothing waits in the connection with this key, and nothing of it is borrowed.
     pub(crate) fn is_idle<T: Copy, U: Copy>(
         &self,
         key: usize,
@@ -52,7 +52,7 @@ impl SubscriberPort {
         seen.waiting == 0 && seen.borrowed == 0
     }
 
-    // Ends the connection of a key.
+    // Ends the connection with this key.
     pub(crate) fn end_key<T: Copy, U: Copy>(
         &mut self,
         key: usize,
@@ -68,7 +68,7 @@ impl SubscriberPort {
         publishers.end(attached.publisher, attached.index);
     }
 
-    // What is asked of the connection of a key: its publisher is looked up once.
+    // What a receive needs to know of the connection with this key; its publisher is looked up once.
     fn asked<T: Copy, U: Copy>(&self, key: usize, publishers: &Publishers<T, U>) -> Asked
         ensures gives { result.gives ≡ gives self.now publishers.now key }
         ensures data { result.data ≡ has_data self.now publishers.now key }
@@ -82,8 +82,8 @@ impl SubscriberPort {
         }
     }
 
-    // The first key whose connection gives, and where there is none, one whose connection has data. All expired ones were met, so they
-    // aren't asked again.
+    // The first key whose connection gives, or if none does, a key whose connection has data. All expired connections were
+    // examined before, so they aren't examined again.
     fn look_through<T: Copy, U: Copy>(&self, met: Met, publishers: &Publishers<T, U>) -> Found
         requires met { IsMet (gives self.now publishers.now) self.now.expired.items met.count }
         requires all { slice_get self.now.expired.items met.count ≡ None }
@@ -125,7 +125,7 @@ impl SubscriberPort {
         None
     }
 
-    // Borrows the oldest message that waits at the connection of a key.
+    // Borrows the oldest waiting message of the connection with this key.
     fn take<T: Copy, U: Copy>(&self, key: usize, publishers: &mut Publishers<T, U>) -> Option<Taken>
         requires { gives self.now publishers.old key ≡ true }
         ensures there { is_there (connection_by (attached_at key self.now) publishers.old) ≡ true }
@@ -141,7 +141,7 @@ impl SubscriberPort {
         })
     }
 
-    // Ends the expired connection at a place of the list if it is idle; answers whether it did.
+    // Ends the expired connection at this place of the list if it is idle; answers whether it did.
     fn drop_if_idle<T: Copy, U: Copy>(
         &mut self,
         place: usize,
@@ -162,7 +162,7 @@ impl SubscriberPort {
         true
     }
 
-    // Ends the expired connection of a key, at a place of the list.
+    // Ends the expired connection with this key, which is at this place of the list.
     pub(crate) fn drop_expired<T: Copy, U: Copy>(
         &mut self,
         place: usize,
@@ -176,7 +176,7 @@ impl SubscriberPort {
         self.expired.remove(place);
     }
 
-    // Ends those of the expired connections from one place up to another that are idle.
+    // Ends the idle ones of the expired connections from place `first` up to place `count`.
     fn sweep<T: Copy, U: Copy>(
         &mut self,
         first: usize,
@@ -192,7 +192,7 @@ impl SubscriberPort {
         }
     }
 
-    // Ends the expired connection at a place of the list if it is idle; answers the place of the next one.
+    // Ends the expired connection at this place of the list if it is idle; answers the place of the next one.
     fn sweep_at<T: Copy, U: Copy>(
         &mut self,
         place: usize,
@@ -209,7 +209,7 @@ impl SubscriberPort {
         }
     }
 
-    // Which expired connections are met before one that gives: each is asked once.
+    // Which expired connections come before one that gives; each is examined once.
     fn meet<T: Copy, U: Copy>(&self, publishers: &Publishers<T, U>) -> Met
         ensures met { IsMet (gives self.now publishers.now) self.now.expired.items result.count }
         ensures idle { result.idle ≤ result.count }
@@ -240,7 +240,7 @@ impl SubscriberPort {
         }
     }
 
-    // Whose connection gives, where so many expired ones are met before one does, and if none gives, a key that has data.
+    // Which connection gives, after these expired ones were met, and if none does, a key whose connection has data.
     fn look<T: Copy, U: Copy>(&self, met: Met, publishers: &Publishers<T, U>) -> Found
         requires met { IsMet (gives self.now publishers.now) self.now.expired.items met.count }
         requires unread { IsOneAmong (has_data self.now publishers.now) self.now.expired.items met.count met.unread }
@@ -257,7 +257,7 @@ impl SubscriberPort {
         }
     }
 
-    // Borrows the message that a giver gives.
+    // Borrows the message that the giver gives.
     fn take_of<T: Copy, U: Copy>(
         &self,
         giver: Option<usize>,
@@ -274,8 +274,8 @@ impl SubscriberPort {
         }
     }
 
-    // Borrows the message that a giver gives, if there is one. Of the expired connections that were met those end that are idle: they are
-    // gone over from the first on that is.
+    // Borrows the message that the giver gives, if there is a giver. The idle ones of the expired connections that were met
+    // end; they are visited from the first idle one on.
     fn serve<T: Copy, U: Copy>(
         &mut self,
         met: Met,
@@ -294,7 +294,7 @@ impl SubscriberPort {
         taken
     }
 
-    // Receives where something may change: a message comes, or expired connections that are idle end.
+    // Receives if something may change: a message is taken, or idle expired connections end.
     fn receive_from<T: Copy, U: Copy>(
         &mut self,
         met: Met,
@@ -314,8 +314,8 @@ impl SubscriberPort {
         }
     }
 
-    // Receives from the connections that there are. Each was asked once, but for the expired ones from the first on that is idle, and
-    // where then nothing comes.
+    // Receives from the existing connections. Each is examined once, except expired ones from the first idle one on, and except
+    // if no message is taken then.
     pub(crate) fn receive_now<T: Copy, U: Copy>(
         &mut self,
         publishers: &mut Publishers<T, U>,
@@ -330,7 +330,8 @@ impl SubscriberPort {
         nothing_taken(found.unread)
     }
 
-    // Nobody reads at the connection of a key any longer; where its publisher left, or doesn't know of it yet, it ends.
+    // Detaches the subscriber from the connection with this key, which ends if its publisher is closed or hasn't met it in the
+    // list yet.
     fn leave_key<T: Copy, U: Copy>(&self, key: usize, publishers: &mut Publishers<T, U>)
         ensures { publishers.new ≡ left_at (attached_at key self.now) publishers.old }
     {
@@ -344,8 +345,8 @@ impl SubscriberPort {
         }
     }
 
-    /// The subscriber leaves: nobody reads at its connections any longer, and those whose publisher left end. What it holds stays in
-    /// use.
+    /// Closes the subscriber: it is detached from its connections, and those of closed publishers end. Samples that it holds
+    /// stay in use.
     ///
     /// Ported from the drop of `iceoryx2::port::subscriber::Subscriber`.
     pub fn leave<T: Copy, U: Copy>(&mut self, publishers: &mut Publishers<T, U>)
@@ -356,7 +357,7 @@ impl SubscriberPort {
         self.stands = false;
     }
 
-    // Nobody reads at the connections any longer.
+    // Detaches the subscriber from all its connections.
     fn leave_all<T: Copy, U: Copy>(&self, publishers: &mut Publishers<T, U>)
         ensures { publishers.new ≡ left_all self.now.connections.values publishers.old }
     {
@@ -366,7 +367,7 @@ impl SubscriberPort {
     }
 }
 
-// What is seen of a connection.
+// What is counted of this connection.
 fn seen_at<T: Copy, U: Copy>(attached: Attached, publishers: &Publishers<T, U>) -> Seen
     ensures { result ≡ seen_of (Some attached) publishers.now }
 {
@@ -380,7 +381,7 @@ fn seen_at<T: Copy, U: Copy>(attached: Attached, publishers: &Publishers<T, U>) 
     }
 }
 
-// What is seen where there is no connection.
+// What is counted if there is no connection.
 fn nothing_seen() -> Seen
     ensures { result ≡ record { waiting = 0; borrowed = 0; most = 0 } }
 {
@@ -391,7 +392,7 @@ fn nothing_seen() -> Seen
     }
 }
 
-// What is answered where no message came, and this is a key whose connection has data.
+// What is answered if no message was taken, and `unread` is a key whose connection has data.
 fn nothing_taken(unread: Option<usize>) -> Result<Option<Taken>, ReceiveError>
     ensures { result ≡ nothing_taken unread }
 {
@@ -401,7 +402,7 @@ fn nothing_taken(unread: Option<usize>) -> Result<Option<Taken>, ReceiveError>
     }
 }
 
-// The first key that passes a test, after one more key was asked.
+// The first key that passed the test, after one more was tested.
 fn first_of(found: Option<usize>, key: usize, passes: bool) -> Option<usize>
     ensures { result ≡ first_of found key passes }
 {

@@ -23,7 +23,7 @@ use crate::subscriber_entry::SubscriberEntry;
 use iox_domain_values::{BackpressureDecision, BackpressureInfo, Decides, Degrades, SendError};
 use std::alloc::Global;
 
-// The number behind the last one; None where messages have no numbers.
+// The sequence number behind the last one; None if messages aren't numbered.
 fn next_sequence(last: Option<u64>) -> Option<u64>
     requires { is_used_up last ≡ false }
     ensures { result ≡ next_sequence last }
@@ -34,7 +34,7 @@ fn next_sequence(last: Option<u64>) -> Option<u64>
     }
 }
 
-// Whether no number is left behind the last one, which is 2^64 - 1.
+// Whether no sequence number is left behind the last one, because it is 2^64 - 1.
 fn is_used_up(last: Option<u64>) -> bool
     ensures { result ≡ is_used_up last }
 {
@@ -42,7 +42,7 @@ fn is_used_up(last: Option<u64>) -> bool
 }
 
 impl<T: Copy, U: Copy> PublisherPort<T, U> {
-    // Puts the message that is being sent into the mailbox that the next place is tied to.
+    // Puts the message that is being sent into the mailbox to which the next place is tied.
     fn meet(&mut self) -> Meeting
         ensures meeting { result ≡ meeting_at self.old.progress.place self.old }
         ensures after { self.new ≡ met self.old.progress.place self.old }
@@ -74,7 +74,7 @@ impl<T: Copy, U: Copy> PublisherPort<T, U> {
         self.readers.asked_at(index)
     }
 
-    // What a handler is told of a full mailbox.
+    // What the handler is given about a full mailbox.
     fn info(&self, subscriber: u64) -> BackpressureInfo
         ensures { result ≡ info_of subscriber self.now }
     {
@@ -87,7 +87,7 @@ impl<T: Copy, U: Copy> PublisherPort<T, U> {
         }
     }
 
-    // Goes on behind a full mailbox, or waits there; answers whether it went on.
+    // Continues behind a full mailbox, or stays there; answers whether it continued.
     fn decide(&mut self, decision: BackpressureDecision) -> bool
         requires { self.old.progress.place + 1 < 2 ^ 64 }
         ensures went { result ≡ goes_on_by decision }
@@ -106,7 +106,7 @@ impl<T: Copy, U: Copy> PublisherPort<T, U> {
         }
     }
 
-    // Goes on to the next place; answers false where the send waits at a full mailbox, and where there is no place left.
+    // Does one place and continues at the next; answers false if the send waits at a full mailbox, and if no place is left.
     fn step<B: Decides>(&mut self, handlers: &B) -> bool
         ensures { Steps (B.decides handlers.now) (meeting_at self.old.progress.place self.old) (met self.old.progress.place self.old)
             result self.new }
@@ -129,7 +129,7 @@ impl<T: Copy, U: Copy> PublisherPort<T, U> {
         }
     }
 
-    // Goes over the places that are left, up to one where the send waits; answers whether it came to the end.
+    // Visits the remaining places, up to one where the send waits; answers whether it visited all of them.
     fn go_on<B: Decides>(&mut self, handlers: &B) -> bool
         ensures { Delivers (B.decides handlers.now) (length self.old.ties.items - self.old.progress.place) self.old result self.new }
     {
@@ -141,8 +141,8 @@ impl<T: Copy, U: Copy> PublisherPort<T, U> {
         true
     }
 
-    // What a send answers that came to the end, or waits. The message is in use only where the history or a connection has it, once the
-    // send came to the end.
+    // Answers for a send that has arrived, or waits. Once the send has arrived, its message stays in use only where the history
+    // or a connection has it.
     fn conclude(&mut self, arrived: bool) -> Result<Sent, SendError>
         ensures answer { result ≡ sent_answer arrived self.old.progress }
         ensures after { self.new ≡ concluded arrived self.old }
@@ -157,7 +157,7 @@ impl<T: Copy, U: Copy> PublisherPort<T, U> {
         Ok(Sent::Delivered(self.progress.delivered()))
     }
 
-    // Goes on with the send that is under way.
+    // Continues the send that is under way.
     fn deliver<B: Decides>(&mut self, handlers: &B) -> Result<Sent, SendError>
         ensures sends { Finishes (B.decides handlers.now) self.old result self.new }
         ensures all { self.old.sender.uses.overflows ≡ true → is_some self.old.sender.uses.sending ≡ true → self.old.progress ≡ start
@@ -167,9 +167,10 @@ impl<T: Copy, U: Copy> PublisherPort<T, U> {
         self.conclude(arrived)
     }
 
-    /// Tries the place again at which the send waits, after so many nanoseconds, and goes on. Answers as `send` does.
+    /// Tries the place at which the send waits once more, and continues; answers as `send` does. `elapsed` is the number of
+    /// nanoseconds since this mailbox was first found full, as the caller measured it.
     ///
-    /// This port's own: `iceoryx2::port::publisher::Publisher::send` waits itself.
+    /// Not in `iceoryx2`: `iceoryx2::port::publisher::Publisher::send` waits itself.
     pub fn retry<B: Decides>(&mut self, elapsed: u64, handlers: &B) -> Result<Sent, SendError>
         ensures { Finishes (B.decides handlers.now) (with_progress (tried_again elapsed self.old.progress) self.old) result self.new }
     {
@@ -177,14 +178,14 @@ impl<T: Copy, U: Copy> PublisherPort<T, U> {
         self.deliver(handlers)
     }
 
-    // The place at which the send waits is tried once more.
+    // Counts one more try at the place at which the send waits.
     fn try_again(&mut self, elapsed: u64)
         ensures { self.new ≡ with_progress (tried_again elapsed self.old.progress) self.old }
     {
         self.progress.try_again(elapsed);
     }
 
-    /// Ends the send that waits, and answers how many connections took the message.
+    /// Gives up the send that waits, and answers how many connections took the message.
     pub fn give_up(&mut self) -> usize
         ensures answer { result ≡ self.old.progress.delivered }
         ensures after { self.new ≡ concluded true self.old }
@@ -193,7 +194,7 @@ impl<T: Copy, U: Copy> PublisherPort<T, U> {
         self.progress.delivered()
     }
 
-    // Whether the loan in this slot may be sent: it is written, and nothing is being sent.
+    // Whether the loan in this slot may be sent: it is completely written, and nothing is being sent.
     fn is_ready(&self, slot: usize) -> bool
         ensures ready { ready_loan slot self.now ≡ (if result then Some (place_in slot self.now.sender.uses) else None) }
         ensures loan { result ≡ true → has_loan slot self.now.sender.uses ≡ true }
@@ -203,7 +204,7 @@ impl<T: Copy, U: Copy> PublisherPort<T, U> {
         !self.sender.is_sending() && self.sender.is_written(slot)
     }
 
-    // Begins the send of the written loan in this slot: its message gets the next number.
+    // Begins the send of the written loan in this slot: its message gets the next sequence number.
     fn begin(&mut self, slot: usize)
         requires left { is_used_up self.old.last_sequence ≡ false }
         requires alone { self.old.sender.uses.sending ≡ None }
@@ -218,7 +219,7 @@ impl<T: Copy, U: Copy> PublisherPort<T, U> {
         self.progress = Progress::start();
     }
 
-    // Gives up the loan in this slot.
+    // Drops the loan in this slot.
     fn drop_loan(&mut self, slot: usize)
         requires { has_loan slot self.old.sender.uses ≡ true }
         ensures { self.new ≡ dropped_at (place_in slot self.old.sender.uses) self.old }
@@ -226,15 +227,17 @@ impl<T: Copy, U: Copy> PublisherPort<T, U> {
         self.sender.drop_loan(slot);
     }
 
-    /// Sends the written loan in this slot: it is a loan no longer, and the newest of the history; each connection that goes on takes
-    /// it, in the order of the list of subscribers, which is followed first. Its message has the next number, where messages have
-    /// numbers. With safe overflow a full mailbox lets its oldest go; without it the handlers decide, and the send may wait. None, and
-    /// nothing happens, where no written loan is there or another send waits.
+    /// Follows the list of subscribers, and then sends the written loan in this slot to each live connection, in the order of
+    /// the list. The message is no loan any longer, and the newest of the history. It has the next sequence number if messages
+    /// are numbered. With safe overflow a full mailbox drops its oldest message. Without it the send skips a full mailbox from
+    /// which no subscriber reads; at another one the handlers decide, and the send may wait. The call answers None, and nothing
+    /// happens, if no written loan is in the slot or another send waits.
     ///
-    /// Refused with `ConnectionBrokenSinceSenderNoLongerExists` if the publisher left, with `InternalError` if its last number is
-    /// 2^64 - 1, and with `ConnectionError` where the list isn't followed, which never is where an allocation fails where all that it
-    /// needs is there; then the loan is given up, and nothing is sent. `UnableToDeliver` where a handler said so; what was delivered
-    /// stays, and so does the number.
+    /// The call fails with `ConnectionBrokenSinceSenderNoLongerExists` if the publisher is closed, with `InternalError` if its
+    /// last sequence number is 2^64 - 1, and with `ConnectionError` if following the list fails; then the loan is dropped, and
+    /// nothing is sent. Following never fails if all connections exist already and their places are within the capacity
+    /// (`HasRoom`). The call fails with `UnableToDeliver` if a handler decided so; what was delivered stays delivered, and the
+    /// sequence number is used.
     ///
     /// Ported from `iceoryx2::port::publisher::Publisher::send`.
     pub fn send<B: Decides + Degrades>(

@@ -1,10 +1,10 @@
-//! What the list of subscribers says of one.
+//! An entry of the list of subscribers.
 
-/// What the list of subscribers says of one.
+/// An entry of the list of subscribers: what a publisher needs to know of a subscriber.
 #[derive(Clone, Copy)]
 pub struct SubscriberEntry {
-    /// The number of its port.
+    /// The number of the subscriber.
     pub subscriber: u64,
-    /// How many messages may wait for it.
+    /// The maximum number of messages that wait for it in a connection.
     pub buffer_size: usize,
 }

@@ -18,31 +18,33 @@ pub struct SubscriberPort {
     pub service: u64,
     /// Its own number.
     pub number: u64,
-    /// Who it belongs to.
+    /// The node to which it belongs.
     pub owner: PortOwner,
     /// Its place in the list of subscribers.
     pub place: usize,
-    /// Whether it is on the list of subscribers: it didn't leave.
+    /// Whether it is open, and so on the list of subscribers.
     pub stands: bool,
-    /// How many messages may wait for it at a connection.
+    /// The maximum number of messages that wait for it in a connection.
     pub buffer_size: usize,
     /// How many of the samples that it received aren't released yet.
     pub held: usize,
-    /// How often the list of publishers had changed when it was last followed.
+    /// The number of changes of the list of publishers when it was last followed.
     pub seen: u64,
-    /// Whether a connection failed for want of room among the expired ones: the list is then followed again.
+    /// Whether the list must be followed again, since a connection failed because no expired connection could make room for the
+    /// former one.
     pub again: bool,
     /// For each place of the list of publishers the key of its connection.
     pub places: Ties,
-    /// Its connections, the expired ones too.
+    /// Its connections, including the expired ones.
     pub connections: SlotMap<Attached>,
-    /// The keys of the connections whose publisher left, in the order in which they expired.
+    /// The keys of the connections whose publishers were closed, in the order in which they expired.
     pub expired: Keys,
 }
 
 impl SubscriberPort {
-    /// A subscriber that is to be listed at its place, without connections and samples: at most so many go on, and so many more
-    /// may expire. The list of publishers is followed at its first update. It fails only where an allocation fails.
+    /// A subscriber that is to be listed at its place, without connections and samples. It has capacity for `most_connections`
+    /// connections of open publishers and `most_expired` expired ones. It follows the list of publishers at its first update.
+    /// The call fails only if an allocation fails.
     pub fn new(
         alloc: Global,
         identity: PortIdentity,

@@ -35,7 +35,7 @@ impl SubscriberPort {
         }
     }
 
-    // What a handler is told of a connection that failed.
+    // What the handler is given about a connection that failed.
     fn told(&self, entry: PublisherEntry) -> DegradationInfo
         ensures { result ≡ told_of entry self.now }
     {
@@ -46,7 +46,7 @@ impl SubscriberPort {
         }
     }
 
-    // Asks the handler where a connection failed; answers the failure that was found so far.
+    // Asks the handler if a connection failed; answers the failure that was found so far.
     fn ask<D: Degrades>(
         &self,
         listed: &Option<Member<PublisherEntry>>,
@@ -90,7 +90,7 @@ impl SubscriberPort {
         found
     }
 
-    // Follows a place if it lists none.
+    // Follows a place if it lists no publisher.
     fn follow_if_none<T: Copy, U: Copy>(
         &mut self,
         place: usize,
@@ -104,7 +104,7 @@ impl SubscriberPort {
         }
     }
 
-    // Follows each place that lists none.
+    // Follows each place that lists no publisher.
     fn follow_nones<T: Copy, U: Copy>(
         &mut self,
         listed: &[Option<Member<PublisherEntry>>],
@@ -134,11 +134,12 @@ impl SubscriberPort {
         answer_of(found)
     }
 
-    /// Follows the list of publishers, if it changed since it was last followed, or a connection failed then for want of room among the
-    /// expired ones. The subscriber attaches to those that came. A connection whose publisher left ends if it has neither data nor
-    /// borrows, and else expires. Where a connection isn't made the handler is asked; the answer is the first failure that it degrades
-    /// and fails, after all places were tried. A connection fails where an allocation fails, or where the former one at its place
-    /// can't expire.
+    /// Follows the list of publishers, if it changed since it was last followed, or a connection failed then because no expired
+    /// connection could make room. The subscriber attaches to new publishers. A connection whose publisher was closed ends if
+    /// it has neither waiting nor borrowed messages, and otherwise expires. If a connection fails the handler decides; after
+    /// all places were tried, the call returns the first failure for which the handler said `DegradeAndFail`. A connection
+    /// fails if an allocation fails, if its place is beyond the capacity, if no key is free, or if the former connection at its
+    /// place can't expire.
     ///
     /// Ported from `iceoryx2::port::subscriber::Subscriber::update_connections`.
     pub fn update<T: Copy, U: Copy, D: Degrades>(
@@ -160,7 +161,7 @@ impl SubscriberPort {
         self.follow_list(alloc, listed, handler, publishers)
     }
 
-    /// Updates, and answers whether some connection has data, an expired one too. It fails where the update does.
+    /// Updates, and answers whether some connection, also an expired one, has data. The call fails if the update does.
     ///
     /// Ported from `iceoryx2::port::subscriber::Subscriber::has_samples`.
     pub fn has_samples<T: Copy, U: Copy, D: Degrades>(
@@ -192,10 +193,11 @@ impl SubscriberPort {
         }
     }
 
-    /// Updates, and borrows the message that comes next: the oldest of the first expired connection that is below the limit of borrows
-    /// and has data, else of the first connection by rising key. None where no connection has data. It fails where the update does, and
-    /// where each connection that has data is at the limit of borrows. Of the expired connections those end that were met before the
-    /// one that gave, or all if none gave, and have neither data nor borrows.
+    /// Updates, and borrows the next message: the oldest of the first expired connection that is below the limit of borrowed
+    /// messages and has data, or otherwise of the first such connection by rising key. The call answers None if no connection
+    /// has data. It fails if the update does, and with `ExceedsMaxBorrows` if each connection that has data is at the limit of
+    /// borrowed messages. The expired connections that were examined before the one that gave, or all of them if none gave, end
+    /// if they are idle.
     ///
     /// Ported from `iceoryx2::port::subscriber::Subscriber::receive`.
     pub fn receive<T: Copy, U: Copy, D: Degrades>(
@@ -213,7 +215,7 @@ impl SubscriberPort {
         self.receive_after(updated, publishers)
     }
 
-    // Receives after an update.
+    // Receives after the update.
     fn receive_after<T: Copy, U: Copy>(
         &mut self,
         updated: Result<(), ConnectionFailure>,
@@ -228,7 +230,7 @@ impl SubscriberPort {
     }
 }
 
-// Whether a place lists a publisher.
+// Whether the place lists a publisher.
 fn is_listed(listed: &[Option<Member<PublisherEntry>>], place: usize) -> bool
     ensures { result ≡ is_listed listed.now place }
 {
@@ -239,7 +241,7 @@ fn is_listed(listed: &[Option<Member<PublisherEntry>>], place: usize) -> bool
     }
 }
 
-// The failure that is answered in the end, after one more.
+// The failure that the call returns in the end, after one more connection failed.
 fn first_failure(
     found: Option<ConnectionFailure>,
     failure: ConnectionFailure,
@@ -253,7 +255,7 @@ fn first_failure(
     }
 }
 
-// What an update answers.
+// What an update answers for the failure that was found, if one was.
 fn answer_of(found: Option<ConnectionFailure>) -> Result<(), ConnectionFailure>
     ensures { result ≡ update_answer found }
 {

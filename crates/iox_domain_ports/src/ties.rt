@@ -6,8 +6,8 @@ ghost use Rattle.iox_domain_ports.specs.Ties.{no_ties, ties_reached, tie_put, ti
 use std::alloc::{AllocError, Global};
 use std::marker::Model;
 
-/// For each place of a list of ports the number of a connection, or none. The room for all places of the list is taken when the ties
-/// are made, and touched as places are first reached: so a place never needs an allocation later.
+/// For each place of a list of ports the number of a connection, or none. Memory for all places of the list is allocated when
+/// the ties are made, and first touched when a place is reached; so a place needs no allocation later.
 #[derive(Drop)]
 pub struct Ties {
     items: Vec<Option<usize>>,
@@ -26,7 +26,7 @@ impl Model for Ties {
 }
 
 impl Ties {
-    /// Room for so many places, of which none is reached. It fails only where an allocation fails.
+    /// No ties yet, with capacity for `room` places. The call fails only if an allocation fails.
     pub fn new(alloc: Global, room: usize) -> Result<Ties, AllocError>
         ensures { IfOk result (λ ties. ties ≡ no_ties room) }
     {
@@ -43,7 +43,7 @@ impl Ties {
         self.items.len()
     }
 
-    /// What a place is tied to; None also where the place isn't reached.
+    /// What this place is tied to; None also if the place isn't reached.
     pub fn get(&self, place: usize) -> Option<usize>
         ensures { result ≡ get_or self.now.items place None }
     {
@@ -54,15 +54,15 @@ impl Ties {
         }
     }
 
-    /// Whether a place is tied to this number. The place where it is likely is looked at first.
+    /// Whether some place is tied to this number. The place `likely` is examined first.
     pub fn has(&self, index: usize, likely: usize) -> bool
         ensures { result ≡ has_tie index self.now }
     {
         self.get(likely) == Some(index) || self.items.iter().any(|tie| is_tie(index, *tie))
     }
 
-    /// Reaches so many places at least, the new ones without a tie; answers whether there is room for them. Where there isn't nothing
-    /// happens.
+    /// Extends the ties to at least `count` places, the new ones untied; answers whether that is within the capacity. If it
+    /// isn't, nothing happens.
     pub fn reach(&mut self, count: usize) -> bool
         ensures answer { result ≡ nat_le count self.old.room }
         ensures reached { OnTrue result (self.new ≡ ties_reached count self.old) }
@@ -72,20 +72,20 @@ impl Ties {
             return false;
         }
         if self.items.len() < count {
-            // Its room is there.
+            // `new` allocated the memory.
             let _resized = self.items.resize(count, None);
         }
         true
     }
 
-    /// Goes back to so many places at most.
+    /// Cuts the ties to at most `count` places.
     pub fn cut(&mut self, count: usize)
         ensures { self.new ≡ ties_cut count self.old }
     {
         self.items.truncate(count);
     }
 
-    /// Ties a place that is reached, or unties it; elsewhere nothing happens.
+    /// Ties a place that is reached, or unties it; at other places nothing happens.
     pub fn put(&mut self, place: usize, tie: Option<usize>)
         ensures { self.new ≡ tie_put place tie self.old }
     {
@@ -95,7 +95,7 @@ impl Ties {
     }
 }
 
-// Whether it is this number.
+// Whether the tie is to this number.
 fn is_tie(index: usize, tie: Option<usize>) -> bool
     ensures { result ≡ is_tie index tie }
 {

@@ -1,4 +1,5 @@
-//! What lies in a loan is written and read, and a loan is given up. A loan goes by its slot; where there is none nothing happens.
+//! What is in a loan is written and read, and a loan is dropped. A loan is identified by its slot; if the slot has no loan,
+//! nothing happens.
 ghost use Rattle.std.specs.Prelude.{◌≡◌, length, is_some, option_copied, option_map};
 ghost use Rattle.std.specs.Borrow.{sem};
 ghost use Rattle.std.specs.Option.{option_copied_mut};
@@ -11,7 +12,7 @@ use crate::publisher_port::PublisherPort;
 impl<T: Copy, U: Copy> PublisherPort<T, U> {
     ghost use Rattle.iox_domain_ports.specs.WritingLends.{LendsValue, LendsUserHeader};
 
-    /// Writes a value at a place of the loan in this slot; answers whether a loan is there that has this place.
+    /// Writes a value at this place of the loan in this slot; answers whether there is such a loan and it has this place.
     ///
     /// Ported from writing through `iceoryx2::sample_mut_uninit::SampleMutUninit::payload_mut`.
     pub fn write(&mut self, slot: usize, place: usize, value: T) -> bool
@@ -25,7 +26,7 @@ impl<T: Copy, U: Copy> PublisherPort<T, U> {
         true
     }
 
-    /// Writes all values of the loan in this slot at once; answers whether a loan of as many is there.
+    /// Writes all values of the loan in this slot at once; answers whether there is a loan of that many values.
     ///
     /// Ported from `iceoryx2::sample_mut_uninit::SampleMutUninit::write_from_slice`, which panics at another length.
     pub fn write_from_slice(&mut self, slot: usize, values: &[T]) -> bool
@@ -40,7 +41,7 @@ impl<T: Copy, U: Copy> PublisherPort<T, U> {
         true
     }
 
-    /// Writes the one value of the loan in this slot; answers whether a loan of one value is there.
+    /// Writes the one value of the loan in this slot; answers whether there is a loan of one value.
     ///
     /// Ported from `iceoryx2::sample_mut_uninit::SampleMutUninit::write_payload`.
     pub fn write_payload(&mut self, slot: usize, value: T) -> bool
@@ -54,7 +55,7 @@ impl<T: Copy, U: Copy> PublisherPort<T, U> {
         true
     }
 
-    /// Writes the user header of the loan in this slot; answers whether one is there.
+    /// Writes the user header of the loan in this slot; answers whether there is such a loan.
     ///
     /// Ported from writing through `iceoryx2::sample_mut_uninit::SampleMutUninit::user_header_mut`.
     pub fn write_user_header(&mut self, slot: usize, user_header: U) -> bool
@@ -68,7 +69,8 @@ impl<T: Copy, U: Copy> PublisherPort<T, U> {
         true
     }
 
-    /// The value at a place of the loan in this slot, if a loan is there that has this place, and it is written.
+    /// The value at this place of the loan in this slot; None if there is no such loan, or if it doesn't have this place, or if
+    /// the value there isn't written.
     pub fn value(&self, slot: usize, place: usize) -> Option<&T>
         ensures { option_copied result ≡ value_at place (loan_of slot self.now) }
     {
@@ -78,7 +80,8 @@ impl<T: Copy, U: Copy> PublisherPort<T, U> {
         self.sender.value(slot, place)
     }
 
-    /// The value at a place of the loan in this slot, to be changed there, if a loan is there that has this place, and it is written.
+    /// A mutable reference to the value at this place of the loan in this slot; None if there is no such loan, or if it doesn't
+    /// have this place, or if the value there isn't written.
     ///
     /// Ported from changing it through `iceoryx2::sample_mut::SampleMut::payload_mut`.
     pub fn value_mut(&mut self, slot: usize, place: usize) -> Option<&mut T>
@@ -92,7 +95,7 @@ impl<T: Copy, U: Copy> PublisherPort<T, U> {
         }
     }
 
-    /// The values of the loan in this slot, if a loan is there of which each value is written.
+    /// The values of the loan in this slot; None if there is no such loan, or if one of its values isn't written.
     ///
     /// Ported from `iceoryx2::sample_mut::SampleMut::payload`.
     pub fn values(&self, slot: usize) -> Option<&[T]>
@@ -104,7 +107,7 @@ impl<T: Copy, U: Copy> PublisherPort<T, U> {
         Some(self.sender.loan_values(slot))
     }
 
-    /// How many elements the loan in this slot has, if one is there.
+    /// How many elements the loan in this slot has; None if there is no such loan.
     pub fn elements(&self, slot: usize) -> Option<u64>
         ensures { result ≡ option_map (λ loan. loan.elements) (loan_of slot self.now) }
     {
@@ -114,7 +117,7 @@ impl<T: Copy, U: Copy> PublisherPort<T, U> {
         Some(self.sender.loan_elements(slot))
     }
 
-    /// The user header of the loan in this slot, if one is there.
+    /// The user header of the loan in this slot; None if there is no such loan.
     ///
     /// Ported from `iceoryx2::sample_mut_uninit::SampleMutUninit::user_header`.
     pub fn user_header(&self, slot: usize) -> Option<&U>
@@ -126,7 +129,7 @@ impl<T: Copy, U: Copy> PublisherPort<T, U> {
         Some(self.sender.loan_user_header(slot))
     }
 
-    /// The user header of the loan in this slot, to be changed there, if one is there.
+    /// A mutable reference to the user header of the loan in this slot; None if there is no such loan.
     ///
     /// Ported from `iceoryx2::sample_mut_uninit::SampleMutUninit::user_header_mut`.
     pub fn user_header_mut(&mut self, slot: usize) -> Option<&mut U>
@@ -140,7 +143,7 @@ impl<T: Copy, U: Copy> PublisherPort<T, U> {
         }
     }
 
-    /// Gives up the loan in this slot; answers whether one stood there.
+    /// Drops the loan in this slot; answers whether there was one.
     ///
     /// Ported from dropping an `iceoryx2::sample_mut::SampleMut`.
     pub fn drop_loan_in(&mut self, slot: usize) -> bool

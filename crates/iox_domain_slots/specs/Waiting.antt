@@ -1,12 +1,12 @@
--- What waits at a connection: a list of at most `capacity` messages, oldest first.
+-- What waits in a connection: a list of at most `capacity` messages, the oldest first.
 use Rattle.std.specs.Prelude.{ℕ, List, ◌∷◌, [], ◌++◌, length, drop, if◌then◌else◌, nat_lt}
 
--- a put goes behind the rest; a full list stays as it is
+-- The list after `value` was put behind the others; a full list is unchanged.
 abbrev pub put : {T : Type 0} → ℕ → List T → T → List T
 put capacity waiting value =
     if nat_lt (length waiting) capacity then waiting ++ value ∷ [] else waiting
 
--- an overflowing put goes behind the rest; the oldest leaves if the list is then too long
+-- The list after `value` was put behind the others; a full list drops its oldest element for it.
 abbrev pub put_over : {T : Type 0} → ℕ → List T → T → List T
 put_over capacity waiting value =
     if nat_lt (length waiting) capacity then waiting ++ value ∷ [] else drop 1 (waiting ++ value ∷ [])

@@ -1,4 +1,4 @@
-//! The slots that are borrowed of a connection.
+//! The slots that a subscriber has borrowed from a connection.
 ghost use Rattle.std.specs.Prelude.{◌≡◌, ℕ, ◌+◌, ◌^◌, ◌<◌, ◌≤◌, ◌++◌, ◌∷◌, [], length, get_or, remove, vec_capacity};
 ghost use Rattle.std.specs.Prelude.{IfOk, IfSome, IfNone, true, false};
 ghost use Rattle.iox_container.specs.Unique.{is_among};
@@ -9,19 +9,20 @@ use crate::loans::Loans;
 use std::alloc::{AllocError, Global};
 use std::marker::Model;
 
-/// The borrowed slots in their order, the oldest first. Each is found and taken out at once, in any order.
+/// The borrowed slots in their order, the oldest first. Each slot is found and removed without a walk over the others, in any
+/// order.
 ///
-/// Each lies in a cell, at the one that its number names or a few steps behind it. The taken cells are linked in their order, as loans are.
-/// Cells are made once they are reached, in memory that was taken at the start.
+/// Each slot lies in a cell: the one that its number names, or one a few steps behind it. The taken cells are linked in their
+/// order, as loans are. Cells are made when they are first reached, in memory that was allocated at the start.
 #[derive(Drop)]
 pub(crate) struct Borrowed {
     order: Loans,
-    // What lies in the cells that were made.
+    // The slots in the cells that were made.
     slots: Vec<u64>,
     cells: usize,
-    // No slot lies further than this behind the cell that its number names.
+    // No slot lies more than this number of steps behind the cell that its number names.
     reach: usize,
-    // Whether a slot may be there twice.
+    // Whether a slot may be borrowed twice.
     twice: bool,
 }
 
@@ -40,7 +41,7 @@ impl Model for Borrowed {
 }
 
 impl Borrowed {
-    /// No slot is borrowed, and there can be so many cells. It fails only where an allocation fails.
+    /// No slot is borrowed, and there can be `cells` cells. The call fails only if an allocation fails.
     pub(crate) fn new(alloc: Global, cells: usize) -> Result<Borrowed, AllocError>
         requires { 0 < cells }
         ensures { IfOk result (λ borrowed. borrowed ≡ record { items = []; cells = cells }) }
@@ -79,7 +80,7 @@ impl Borrowed {
         .is_some()
     }
 
-    /// A slot is borrowed, as the newest. There is a cell for it.
+    /// Adds a borrowed slot, as the newest. There must be a cell for it.
     pub(crate) fn push(&mut self, slot: u64)
         requires { length self.old.items < self.old.cells }
         ensures { self.new ≡ record self.old { items = self.old.items ++ slot ∷ [] } }
@@ -102,7 +103,7 @@ impl Borrowed {
         self.twice = twice;
     }
 
-    /// The oldest borrowed slot of this number isn't borrowed any longer.
+    /// Removes the oldest borrowed slot with this number.
     pub(crate) fn remove(&mut self, slot: u64)
         requires { is_among slot self.old.items ≡ true }
         ensures { self.new ≡ record self.old { items = remove self.old.items (place_in slot self.old.items) } }
@@ -125,7 +126,7 @@ impl Borrowed {
     }
 }
 
-// The cells up to this one are made, if they weren't.
+// Makes all cells up to this one that weren't made yet.
 fn make_up_to(order: &mut Loans, slots: &mut Vec<u64>, cells: usize, cell: usize)
     requires within { cell < cells }
     requires room { order.old.room ≡ cells }
@@ -145,7 +146,7 @@ fn make_up_to(order: &mut Loans, slots: &mut Vec<u64>, cells: usize, cell: usize
     }
 }
 
-// The cell so many steps behind the one that a slot's number names; the first follows the last.
+// The cell `step` places behind the one that a slot's number names; the first follows the last.
 fn cell_of(cells: usize, slot: u64, step: usize) -> usize
     requires { step < cells }
     ensures value { result ≡ cell_of cells slot step }
@@ -159,7 +160,7 @@ fn cell_of(cells: usize, slot: u64, step: usize) -> usize
     }
 }
 
-// The first cell within reach in which a slot of this number lies.
+// The first cell within reach that contains a slot with this number.
 fn near(order: &Loans, slots: &[u64], cells: usize, slot: u64, reach: usize) -> Option<usize>
     requires made { order.now.made ≡ length slots.now }
     requires reach { reach < cells }
@@ -177,7 +178,7 @@ fn near(order: &Loans, slots: &[u64], cells: usize, slot: u64, reach: usize) -> 
     None
 }
 
-// The cell in which the oldest slot of this number lies, if one is borrowed.
+// The cell that contains the oldest borrowed slot with this number, if there is one.
 fn oldest(
     order: &Loans,
     slots: &[u64],
@@ -200,7 +201,7 @@ fn oldest(
     }
 }
 
-// Whether a slot may be there twice once this one comes.
+// Whether a slot may be borrowed twice once this one is added.
 fn will_be_twice(
     order: &Loans,
     slots: &[u64],
@@ -229,7 +230,7 @@ fn further(cells: usize, reach: usize, step: usize) -> usize
     if reach < step { step } else { reach }
 }
 
-// How many steps behind the cell that a slot's number names the first free one is.
+// How many steps the first free cell lies behind the one that a slot's number names.
 fn free_step(order: &Loans, cells: usize, slot: u64) -> usize
     requires { length order.now.items < cells }
     ensures within { result < cells }

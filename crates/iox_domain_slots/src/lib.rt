@@ -1,13 +1,13 @@
 //! Who uses the slots of one publisher: its loans, its history, the message that it sends, and what its connections hold.
 //!
-//! No payload is kept here: a message goes by the number of its slot.
+//! No payload is kept here: a message is identified by the number of its slot.
 //!
 //! - [`slots`]: which slots are free, and how many uses the others have.
-//! - `places`: which of them are held.
-//! - `loans`: which slots are lent, in their order.
-//! - `borrowed`: which slots are borrowed of a connection, in their order.
+//! - `places`: which slots of the current segment are held.
+//! - `loans`: which slots are loaned, in their order.
+//! - `borrowed`: which slots are borrowed from a connection, in their order.
 //! - [`mailbox`]: what waits between a publisher and a subscriber.
-//! - [`link`]: a connection: its mailbox, what is borrowed of it, what came back.
+//! - [`link`]: a connection: its mailbox, the slots borrowed from it, and those returned to it.
 //! - [`links`]: the connections of a publisher.
 //! - [`uses`]: all of one publisher together.
 //!

@@ -14,14 +14,14 @@ use iox_container::queue::Queue;
 use std::alloc::{AllocError, Global};
 use std::marker::Model;
 
-/// A connection: its mailbox, the slots that its subscriber borrows, and those that came back and aren't taken back yet.
+/// A connection: its mailbox, the slots that its subscriber has borrowed, and those that were returned and not yet taken back.
 ///
-/// All its memory is taken when it is made.
+/// All its memory is allocated when the connection is made.
 #[derive(Drop)]
 pub struct Link {
     // The slots of the messages that wait, the oldest first.
     waiting: Queue<u64>,
-    // Whether a full mailbox lets its oldest go; else it refuses.
+    // Whether a full mailbox drops its oldest slot; otherwise it refuses the new one.
     overflows: bool,
     borrowed: Borrowed,
     returned: Queue<u64>,
@@ -48,7 +48,7 @@ impl Model for Link {
       delivered = l.delivered;
     } };
 
-    // A put since the last taking back may make one slot more of the connection than wait and are borrowed at most.
+    // A put since the returned slots were last taken back may give the connection one slot more than may wait and be borrowed.
     ghost invariant = { λ l. (length l.waiting.items ≤ l.waiting.capacity)
         × (length l.borrowed.items ≤ l.most_borrowed) × (l.most_borrowed < l.borrowed.cells)
         × (l.waiting.capacity + l.most_borrowed < l.returned.capacity)
@@ -57,7 +57,7 @@ impl Model for Link {
 }
 
 impl Link {
-    /// Takes the oldest of those that came back, and takes its use off.
+    /// Takes back the oldest returned slot: it loses the connection's use.
     fn take_one_back(&mut self, slots: &mut Slots)
         requires some { 0 < length self.old.returned }
         requires covered { Covers slots.old (all_of self.old) }
@@ -70,7 +70,7 @@ impl Link {
         slots.let_go(slot as usize);
     }
 
-    /// Takes back all that came back.
+    /// Takes back all returned slots.
     pub fn take_back(&mut self, slots: &mut Slots)
         requires { Covers slots.old (all_of self.old) }
         ensures after { self.new ≡ record self.old { returned = []; delivered = false } }
@@ -83,7 +83,7 @@ impl Link {
         self.delivered = false;
     }
 
-    // Makes room for a put.
+    // Makes room for a put: takes the returned slots back if a message was put since that was last done.
     fn make_room(&mut self, slots: &mut Slots)
         requires { Covers slots.old (all_of self.old) }
         ensures room { self.new.delivered ≡ false }
@@ -109,7 +109,8 @@ impl Link {
         answer
     }
 
-    /// Puts a slot that is used elsewhere, too, behind those that wait; answers whether it found room.
+    /// Puts a slot that is also used elsewhere into the mailbox, and answers whether the mailbox accepted it. A full mailbox
+    /// drops its oldest slot if it overflows; otherwise it refuses the new one.
     pub fn offer(&mut self, slot: usize, slots: &mut Slots) -> bool
         requires covered { Covers slots.old (all_of self.old) }
         requires besides { times slot (all_of self.old) < uses_of slot slots.old }
@@ -135,7 +136,7 @@ impl Link {
         }
     }
 
-    /// Borrows the oldest slot that waits.
+    /// Borrows the oldest waiting slot, and answers it.
     pub fn take(&mut self) -> usize
         requires data { 0 < length self.old.waiting }
         requires room { length self.old.borrowed < self.old.most_borrowed }
@@ -152,7 +153,7 @@ impl Link {
         slot as usize
     }
 
-    /// Gives a borrowed slot back, to be taken back by the publisher.
+    /// Returns a borrowed slot; the publisher takes it back later.
     pub fn give_back(&mut self, slot: usize)
         requires { is_among slot self.old.borrowed ≡ true }
         ensures after { self.new ≡ record self.old {
@@ -166,7 +167,7 @@ impl Link {
         let _has_room = self.returned.push(slot as u64);
     }
 
-    /// Takes the use of a borrowed slot off.
+    /// Takes a borrowed slot back at once: it loses the connection's use.
     pub fn let_go(&mut self, slot: usize, slots: &mut Slots)
         requires there { is_among slot self.old.borrowed ≡ true }
         requires covered { Covers slots.old (all_of self.old) }
@@ -178,7 +179,7 @@ impl Link {
         slots.let_go(slot);
     }
 
-    // Loses the oldest slot that waits.
+    // Drops the oldest waiting slot.
     fn lose_one(&mut self, slots: &mut Slots)
         requires some { 0 < length self.old.waiting }
         requires covered { Covers slots.old (all_of self.old) }
@@ -191,7 +192,7 @@ impl Link {
         slots.let_go(slot as usize);
     }
 
-    /// Loses all that waits.
+    /// Drops all waiting slots.
     pub fn lose_waiting(&mut self, slots: &mut Slots)
         requires { Covers slots.old (all_of self.old) }
         ensures after { self.new ≡ record self.old { waiting = [] } }
@@ -203,7 +204,7 @@ impl Link {
         }
     }
 
-    /// Ends the connection: what waits is lost, what came back is taken back, what is borrowed stays.
+    /// Ends the connection: waiting slots are dropped, returned slots are taken back, and borrowed slots stay.
     pub fn end(&mut self, slots: &mut Slots)
         requires { Covers slots.old (all_of self.old) }
         ensures after { self.new ≡ record self.old { ended = true; waiting = []; returned = []; delivered = false } }
@@ -215,8 +216,8 @@ impl Link {
         self.ended = true;
     }
 
-    /// A connection that holds nothing, with room for what waits, is borrowed and came back. `ring` is how many may have come
-    /// back at once.
+    /// A connection that holds nothing, with capacity for all that may wait, be borrowed or be returned. `ring` is how many
+    /// slots may have been returned at once. The call fails only if an allocation fails.
     pub fn new(
         alloc: Global,
         overflows: bool,
@@ -247,21 +248,21 @@ impl Link {
         })
     }
 
-    /// Whether its subscriber left.
+    /// Whether its subscriber was closed.
     pub fn is_ended(&self) -> bool
         ensures { result ≡ self.now.ended }
     {
         self.ended
     }
 
-    /// How many wait.
+    /// How many slots wait.
     pub fn waiting(&self) -> usize
         ensures { result ≡ length self.now.waiting }
     {
         self.waiting.len()
     }
 
-    /// The slot of the message that waits at this place, the oldest at 0.
+    /// The slot of the message that waits at place `at` of the mailbox; the oldest is at 0.
     pub fn waiting_slot(&self, at: usize) -> usize
         requires { at < length self.now.waiting }
         ensures { slice_get self.now.waiting at ≡ Some result }
@@ -269,14 +270,14 @@ impl Link {
         self.waiting.get(at) as usize
     }
 
-    /// How many are borrowed.
+    /// How many slots are borrowed.
     pub fn borrowed(&self) -> usize
         ensures { result ≡ length self.now.borrowed }
     {
         self.borrowed.len()
     }
 
-    /// How many may wait.
+    /// The maximum number of waiting slots.
     pub fn limit(&self) -> usize
         ensures { result ≡ self.now.limit }
     {

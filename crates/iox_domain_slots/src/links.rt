@@ -14,10 +14,10 @@ use crate::slots::Slots;
 use std::alloc::{AllocError, Global};
 use std::marker::Model;
 
-// More connections than there is memory for; so no count of uses can overflow.
+// There can't be memory for more connections, so no count of uses overflows.
 const MOST_LINKS: usize = 1 << 29;
 
-/// The connections of one publisher, each at an index that it keeps while it is there.
+/// The connections of one publisher. Each keeps its index as long as it exists.
 #[derive(Drop)]
 pub struct Links {
     items: Vec<Option<Link>>,
@@ -45,7 +45,8 @@ impl Model for Links {
 }
 
 impl Links {
-    /// Puts a slot that is used elsewhere, too, into the mailbox of the connection; answers whether it found room.
+    /// Puts a slot that is also used elsewhere into the mailbox of the connection, and answers whether the mailbox accepted it.
+    /// A full mailbox drops its oldest slot if the publisher's mailboxes overflow; otherwise it refuses the new one.
     pub fn offer(&mut self, index: usize, slot: usize, slots: &mut Slots) -> bool
         requires there { is_some (get_or self.old.links index None) ≡ true }
         requires live { (seen (get_or self.old.links index None)).stage ≡ stage.Live }
@@ -64,7 +65,7 @@ impl Links {
         link.offer(slot, slots)
     }
 
-    /// Borrows the oldest slot that waits at the connection.
+    /// Borrows the oldest waiting slot of the connection, and answers it.
     pub fn take(&mut self, index: usize) -> usize
         requires there { is_some (get_or self.old.links index None) ≡ true }
         requires data { 0 < length (seen (get_or self.old.links index None)).waiting }
@@ -80,7 +81,7 @@ impl Links {
         link.take()
     }
 
-    // Gives a borrowed slot of a connection that goes on back, to be taken back.
+    // Returns a borrowed slot of a live connection; the publisher takes it back later.
     fn put_back(&mut self, index: usize, slot: usize)
         requires there { is_some (get_or self.old.links index None) ≡ true }
         requires live { (seen (get_or self.old.links index None)).stage ≡ stage.Live }
@@ -97,7 +98,7 @@ impl Links {
         link.give_back(slot);
     }
 
-    // Takes the use of a borrowed slot of a connection that ended off.
+    // Takes back a borrowed slot of a connection that ended: it loses the connection's use.
     fn let_go(&mut self, index: usize, slot: usize, slots: &mut Slots)
         requires there { is_some (get_or self.old.links index None) ≡ true }
         requires borrowed { is_among slot (seen (get_or self.old.links index None)).borrowed ≡ true }
@@ -129,7 +130,7 @@ impl Links {
         link.is_ended()
     }
 
-    // Takes a connection that ended away if nothing is borrowed of it.
+    // Removes a connection that ended, if nothing is borrowed from it.
     fn settle(&mut self, index: usize)
         requires there { is_some (get_or self.old.links index None) ≡ true }
         ensures after { map seen self.new.links
@@ -144,7 +145,7 @@ impl Links {
         }
     }
 
-    // Takes the connection of an index away.
+    // Removes the connection of an index.
     fn clear(&mut self, index: usize)
         requires { index < length self.old.links }
         ensures { self.new ≡ record self.old { links = set self.old.links index None } }
@@ -152,7 +153,7 @@ impl Links {
         self.items[index] = None;
     }
 
-    // Whether the connection ended and nothing is borrowed of it.
+    // Whether the connection ended and nothing is borrowed from it.
     fn is_over(&self, index: usize) -> bool
         requires there { is_some (get_or self.now.links index None) ≡ true }
         ensures yes { result ≡ true → IsGone (get_or self.now.links index None) }
@@ -167,7 +168,8 @@ impl Links {
         link.is_ended() && link.borrowed() == 0
     }
 
-    /// Gives back a slot that is borrowed of the connection.
+    /// Returns a slot that is borrowed from the connection. If the connection ended, the slot is taken back at once, and the
+    /// connection is removed with its last borrowed slot.
     pub fn give_back(&mut self, index: usize, slot: usize, slots: &mut Slots)
         requires there { is_some (get_or self.old.links index None) ≡ true }
         requires borrowed { is_among slot (seen (get_or self.old.links index None)).borrowed ≡ true }
@@ -202,7 +204,8 @@ impl Links {
         link.end(slots);
     }
 
-    /// Ends the connection: what waits is lost, what is borrowed stays until it is given back.
+    /// Ends the connection: waiting slots are dropped, and borrowed slots stay until they are released. A connection from which
+    /// nothing is borrowed is removed.
     pub fn end(&mut self, index: usize, slots: &mut Slots)
         requires there { is_some (get_or self.old.links index None) ≡ true }
         requires covered { Covers slots.old (all_slots self.old.links) }
@@ -214,7 +217,7 @@ impl Links {
         self.settle(index);
     }
 
-    /// Loses all that waits at the connection, which goes on.
+    /// Drops all waiting slots of the connection, which stays as it is otherwise.
     pub fn lose_waiting(&mut self, index: usize, slots: &mut Slots)
         requires there { is_some (get_or self.old.links index None) ≡ true }
         requires covered { Covers slots.old (all_slots self.old.links) }
@@ -228,7 +231,7 @@ impl Links {
         link.lose_waiting(slots);
     }
 
-    // Takes back what came back at an index.
+    // Takes back the returned slots of the connection at an index, if one exists.
     fn take_back_one(&mut self, index: usize, slots: &mut Slots)
         requires within { index < length self.old.links }
         requires covered { Covers slots.old (all_slots self.old.links) }
@@ -241,7 +244,7 @@ impl Links {
         link.take_back(slots);
     }
 
-    /// Takes back all that came back.
+    /// Takes back all returned slots of every connection.
     pub fn take_back(&mut self, slots: &mut Slots)
         requires { Covers slots.old (all_slots self.old.links) }
         ensures seen { map seen self.new.links ≡ map seen self.old.links }
@@ -254,7 +257,7 @@ impl Links {
         }
     }
 
-    /// How many indices there are, with a connection or without; so few that all uses of a slot can be counted.
+    /// How many indices there are, with a connection or without: at most 2^29, so all uses of a slot can be counted.
     pub fn len(&self) -> usize
         ensures value { result ≡ length self.now.links }
         ensures most { result ≤ 2 ^ 29 }
@@ -298,8 +301,8 @@ impl Links {
         Ok(())
     }
 
-    /// Makes a connection where at most `limit` may wait, and answers its index. It fails where an allocation fails, and then
-    /// nothing has changed.
+    /// Makes a connection in which at most `limit` messages may wait, and answers its index. The call fails only if an
+    /// allocation fails or if there are 2^29 connections; then nothing has changed.
     pub fn connect(&mut self, alloc: Global, limit: usize) -> Result<usize, AllocError>
         requires { limit ≤ self.old.most_waiting }
         ensures vacant { IfOk result (λ index. seen (get_or self.old.links index None) ≡ nobody) }
@@ -320,7 +323,8 @@ impl Links {
         Ok(index)
     }
 
-    /// No connections, of which there will be as many as are made.
+    /// No connections yet; there can be as many as are made. In each at most `most_waiting` messages may wait, and at most
+    /// `most_borrowed` may be borrowed.
     pub fn new(alloc: Global, overflows: bool, most_waiting: usize, most_borrowed: usize) -> Links
         requires waiting { most_waiting < 2 ^ 32 }
         requires borrowed { most_borrowed < 2 ^ 32 }
@@ -334,7 +338,7 @@ impl Links {
         }
     }
 
-    /// The connection of an index, if there is one.
+    /// The connection at an index, if one exists.
     pub fn get(&self, index: usize) -> Option<&Link>
         ensures { option_copied result ≡ get_or self.now.links index None }
     {
@@ -345,14 +349,14 @@ impl Links {
         }
     }
 
-    /// How many may be borrowed of a connection.
+    /// The maximum number of slots borrowed from one connection.
     pub fn most_borrowed(&self) -> usize
         ensures { result ≡ self.now.most_borrowed }
     {
         self.most_borrowed
     }
 
-    /// How many may wait at a connection at most.
+    /// The maximum number of waiting messages that a connection may have as its limit.
     pub fn most_waiting(&self) -> usize
         ensures { result ≡ self.now.most_waiting }
     {

@@ -8,9 +8,10 @@ ghost use Rattle.iox_domain_slots.specs.Borrowed.{slots_in, IsOldest};
 use std::alloc::{AllocError, Global};
 use std::marker::Model;
 
-/// The slots of the loans in their order, the oldest first. Each is found and taken out at once.
+/// The slots of the loans in their order, the oldest first. Each slot is found and removed without a walk over the others.
 ///
-/// They are linked from the newest to the oldest, which leads to the next slot that can be made. What is newer than the newest isn't kept.
+/// The loans are linked from the newest to the oldest; the oldest is linked to the next slot that can be made. The link from
+/// the newest to a newer one has no meaning.
 #[derive(Drop)]
 pub(crate) struct Loans {
     older: Vec<usize>,
@@ -19,7 +20,7 @@ pub(crate) struct Loans {
     len: usize,
     // Whether a loan is in the slot.
     lent: Vec<bool>,
-    // For so many slots the memory was taken at the start.
+    // For how many slots memory was allocated at the start.
     room: usize,
 }
 
@@ -40,7 +41,7 @@ impl Model for Loans {
 }
 
 impl Loans {
-    /// No loans, and so many slots. It fails only where an allocation fails.
+    /// No loans, and `slots` slots. The call fails only if an allocation fails.
     pub(crate) fn new(alloc: Global, slots: usize) -> Result<Loans, AllocError>
         ensures loans { IfOk result (λ loans. loans.items ≡ []) }
         ensures made { IfOk result (λ loans. loans.made ≡ slots) }
@@ -59,7 +60,7 @@ impl Loans {
         })
     }
 
-    /// No loans and no slots yet, and the memory for so many. It fails only where an allocation fails.
+    /// No loans and no slots yet, and memory for `room` slots. The call fails only if an allocation fails.
     pub(crate) fn with_room(alloc: Global, room: usize) -> Result<Loans, AllocError>
         requires { room + 1 < 2 ^ 64 }
         ensures { IfOk result (λ loans. loans ≡ record { items = []; made = 0; room = room }) }
@@ -78,7 +79,7 @@ impl Loans {
         })
     }
 
-    /// How many loans are out.
+    /// How many loans exist.
     pub(crate) fn len(&self) -> usize
         ensures { result ≡ length self.now.items }
     {
@@ -93,7 +94,7 @@ impl Loans {
         slot < self.lent.len() && self.lent[slot]
     }
 
-    /// The oldest loan of those in whose places of a list this number stands.
+    /// The oldest of those loans at whose places the list `numbers` has this number.
     pub(crate) fn oldest_of(&self, numbers: &[u64], number: u64) -> Option<usize>
         requires { self.now.made ≡ length numbers.now }
         ensures some { IfSome result (λ slot. IsOldest numbers.now self.now.items number slot) }
@@ -108,7 +109,7 @@ impl Loans {
         found
     }
 
-    /// A loan is out in this slot, in which there was none.
+    /// Adds a loan in this slot, which had none.
     pub(crate) fn push(&mut self, slot: usize)
         requires made { slot < self.old.made }
         requires free { is_among slot self.old.items ≡ false }
@@ -124,7 +125,7 @@ impl Loans {
         self.len += 1;
     }
 
-    /// The loan in this slot ends.
+    /// Ends the loan in this slot.
     pub(crate) fn remove(&mut self, slot: usize)
         requires { is_among slot self.old.items ≡ true }
         ensures after { self.new ≡ record self.old { items = remove self.old.items (place_in slot self.old.items) } }
@@ -143,7 +144,7 @@ impl Loans {
         self.newer[older] = newer;
     }
 
-    // The next slot is made, and stands as the oldest loan.
+    // Makes the next slot, which then is the oldest loan.
     fn append(&mut self) -> Result<usize, AllocError>
         requires { length self.old.items + 2 < 2 ^ 64 }
         ensures slot { IfOk result (λ slot. slot ≡ self.old.made) }
@@ -162,7 +163,8 @@ impl Loans {
         Ok(slot)
     }
 
-    /// The next slot is made, with no loan. It can't fail where memory was taken for it at the start.
+    /// Makes the next slot, without a loan. The call can't fail while fewer slots exist than memory was allocated for at the
+    /// start.
     pub(crate) fn make_slot(&mut self) -> Result<(), AllocError>
         requires { length self.old.items + 2 < 2 ^ 64 }
         ensures made { IfOk result (λ _. self.new ≡ record self.old { made = self.old.made + 1 }) }
@@ -174,7 +176,7 @@ impl Loans {
         Ok(())
     }
 
-    // Takes the memory of so many slots more, so that it is taken once.
+    // Allocates memory for `slots` more slots at once.
     fn reserve(&mut self, slots: usize) -> Result<(), AllocError>
         ensures { self.new ≡ self.old }
     {
@@ -184,7 +186,7 @@ impl Loans {
         Ok(())
     }
 
-    /// So many slots more are made. It fails only where an allocation fails; then fewer were made.
+    /// Makes `slots` more slots. The call fails only if an allocation fails; then fewer slots were made.
     pub(crate) fn grow(&mut self, slots: usize) -> Result<(), AllocError>
         requires { length self.old.items + 2 < 2 ^ 64 }
         ensures loans { self.new.items ≡ self.old.items }
@@ -199,7 +201,7 @@ impl Loans {
     }
 }
 
-// What was found so far, after the place of a list in which a number is looked for.
+// The last place found so far, after `place` of the list was compared with the number.
 fn found_at(numbers: &[u64], number: u64, place: usize, found: Option<usize>) -> Option<usize>
     requires { place < length numbers.now }
     ensures here { get_or numbers.now place 0 ≡ number → result ≡ Some place }

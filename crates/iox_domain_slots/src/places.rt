@@ -4,7 +4,7 @@ ghost use Rattle.iox_container.specs.Unique.{is_held};
 
 use iox_container::{ReleaseMode, UniqueIndexSet};
 
-// Holds each place that is free.
+// Takes every free place, so that all places are held.
 pub(crate) fn hold_all(places: &mut UniqueIndexSet)
     requires { places.old.locked ≡ false }
     ensures { places.new ≡ record places.old { free = [] } }
@@ -12,7 +12,7 @@ pub(crate) fn hold_all(places: &mut UniqueIndexSet)
     while places.acquire_raw_index().is_ok() {}
 }
 
-// Frees the places whose slots have no use, if all are held.
+// Frees the places whose slots have no use, if all places are held.
 pub(crate) fn settle(places: &mut UniqueIndexSet, all_held: bool, references: &[u64], first: usize)
     requires unlocked { places.old.locked ≡ false }
     requires marks { (index : ℕ) → index < places.old.capacity
@@ -28,7 +28,7 @@ pub(crate) fn settle(places: &mut UniqueIndexSet, all_held: bool, references: &[
     }
 }
 
-// Frees the places whose slots have no use, where each is held. The lowest is handed out next.
+// Frees the places whose slots have no use; all places must be held. The lowest of them is handed out next.
 fn free_unused(places: &mut UniqueIndexSet, references: &[u64], first: usize)
     requires unlocked { places.old.locked ≡ false }
     requires all { (index : ℕ) → index < places.old.capacity → is_held index places.old ≡ true }

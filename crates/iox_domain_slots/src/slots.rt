@@ -20,7 +20,7 @@ use std::marker::Model;
 pub struct Slots {
     // Of the current segment, the places whose slots have a use are held.
     places: UniqueIndexSet,
-    // Whether all others are held too: from the first claim to the next loan, so that no claim looks for its place among the free ones.
+    // Whether all other places are held, too: from the first claim until the next loan, so that no claim searches the free ones.
     all_held: bool,
     references: Vec<u64>,
     loans: Loans,
@@ -56,7 +56,7 @@ impl Model for Slots {
 }
 
 impl Slots {
-    /// Gives the slot one use more.
+    /// Counts one more use of a slot that has one.
     pub fn refer(&mut self, slot: usize)
         requires used { 0 < uses_of slot self.old }
         requires room { uses_of slot self.old + 1 < 2 ^ 64 }
@@ -65,7 +65,7 @@ impl Slots {
         self.references[slot] += 1;
     }
 
-    /// Gives a slot of the current segment one use more; it may have none yet.
+    /// Counts one more use of a slot of the current segment, which may have none yet.
     pub fn claim(&mut self, slot: usize)
         requires current { IsCurrent slot self.old }
         requires room { uses_of slot self.old + 1 < 2 ^ 64 }
@@ -81,7 +81,8 @@ impl Slots {
         self.references[slot] = 1;
     }
 
-    /// Takes one use off that is neither a loan nor of the history. A slot of the current segment without a use is free.
+    /// Counts one use less of the slot, by something other than a loan or the history. A slot of the current segment without a
+    /// use is free.
     pub fn let_go(&mut self, slot: usize)
         requires used { times slot self.old.loans + times slot self.old.history < uses_of slot self.old }
         ensures { self.new ≡ let_go slot self.old }
@@ -94,7 +95,7 @@ impl Slots {
         }
     }
 
-    /// Lends a free slot of the current segment; None if each of them has a use.
+    /// Loans a free slot of the current segment; None if each of them has a use.
     pub fn loan(&mut self) -> Option<usize>
         requires { length self.old.loans < self.old.most_loans }
         ensures { LoanSlot self.old result self.new }
@@ -115,7 +116,7 @@ impl Slots {
         Some(slot)
     }
 
-    /// Gives up the loan in this slot.
+    /// Drops the loan in this slot.
     pub fn drop_loan(&mut self, slot: usize)
         requires { is_among slot self.old.loans ≡ true }
         ensures after { self.new ≡ record (let_go slot self.old) { loans = remove self.old.loans (place_in slot self.old.loans) } }
@@ -126,7 +127,7 @@ impl Slots {
         self.let_go(slot);
     }
 
-    /// Ends the loan in this slot. The use stays: it is now the send's.
+    /// Ends the loan in this slot. Its use stays counted, and is now the send's.
     pub fn begin(&mut self, slot: usize)
         requires { is_among slot self.old.loans ≡ true }
         ensures after { self.new ≡ record self.old { loans = remove self.old.loans (place_in slot self.old.loans) } }
@@ -136,7 +137,7 @@ impl Slots {
         self.loans.remove(slot);
     }
 
-    /// Makes a slot that has a further use the newest of the history; of more than `kept` the oldest leaves.
+    /// Makes a slot that has a further use the newest of the history. A history of `kept` messages drops its oldest.
     pub fn remember(&mut self, slot: usize)
         requires used { times slot self.old.loans + times slot self.old.history < uses_of slot self.old }
         requires room { uses_of slot self.old + 1 < 2 ^ 64 }
@@ -151,7 +152,7 @@ impl Slots {
         self.add_newest(slot);
     }
 
-    // Makes room for one more in the history.
+    // Makes room for one more message in the history.
     fn make_room(&mut self)
         requires { 0 < self.old.kept }
         ensures room { length self.new.history < self.new.kept }
@@ -163,7 +164,7 @@ impl Slots {
         }
     }
 
-    /// Takes the oldest out of the history.
+    /// Removes the oldest message of the history.
     pub fn forget_oldest(&mut self)
         requires { 0 < length self.old.history }
         ensures { self.new ≡ record (let_go (get_or self.old.history 0 0) self.old) { history = drop 1 self.old.history } }
@@ -173,7 +174,7 @@ impl Slots {
         }
     }
 
-    // Gives a use that a slot has to the history.
+    // Makes a slot the newest of the history, to which one of its uses belongs from now on.
     fn add_newest(&mut self, slot: usize)
         requires used { times slot self.old.loans + times slot self.old.history < uses_of slot self.old }
         requires room { length self.old.history < self.old.kept }
@@ -182,7 +183,8 @@ impl Slots {
         let _has_room = self.history.push(slot);
     }
 
-    /// Slots without a use, and room for so many loans and so long a history.
+    /// Slots without a use in one segment of `size` slots, and capacity for `most_loans` loans and a history of `kept`
+    /// messages. The call fails only if an allocation fails.
     pub fn new(
         alloc: Global,
         size: usize,
@@ -206,8 +208,8 @@ impl Slots {
         })
     }
 
-    /// Opens a segment of as many slots as the current one has, which is the current one from now on: the free slots of the
-    /// former ones are lent no more. It fails only where an allocation fails, and then nothing has changed.
+    /// Opens a new segment of as many slots as the current one has. It is the current one from now on, so slots of the former
+    /// segments are loaned no more. The call fails only if an allocation fails; then nothing has changed.
     pub fn open_segment(&mut self, alloc: Global) -> Result<(), AllocError>
         ensures opened { IfOk result (λ _. self.new ≡ record self.old {
           first = self.old.first + self.old.size;
@@ -227,7 +229,7 @@ impl Slots {
         Ok(())
     }
 
-    /// How many loans are out.
+    /// How many loans exist.
     pub fn loans(&self) -> usize
         ensures { result ≡ length self.now.loans }
     {
@@ -241,14 +243,14 @@ impl Slots {
         self.loans.has(slot)
     }
 
-    /// How long the history is.
+    /// How many messages the history has.
     pub fn history(&self) -> usize
         ensures { result ≡ length self.now.history }
     {
         self.history.len()
     }
 
-    /// The slot at this place of the history, the oldest first.
+    /// The slot at this place of the history; the oldest is at 0.
     pub fn remembered(&self, place: usize) -> usize
         requires { place < length self.now.history }
         ensures { result ≡ get_or self.now.history place 0 }
@@ -270,21 +272,21 @@ impl Slots {
         self.places.capacity()
     }
 
-    /// How many loans may be out.
+    /// The maximum number of loans at once.
     pub fn most_loans(&self) -> usize
         ensures { result ≡ self.now.most_loans }
     {
         self.most_loans
     }
 
-    /// How long the history may be.
+    /// The maximum number of messages in the history.
     pub fn kept(&self) -> usize
         ensures { result ≡ self.now.kept }
     {
         self.history.capacity()
     }
 
-    /// Whether one more loan may be out: the condition of `loan`.
+    /// Whether one more loan is allowed, which `loan` requires.
     pub fn may_loan(&self) -> bool
         ensures { result ≡ nat_lt (length self.now.loans) self.now.most_loans }
     {

@@ -1,14 +1,14 @@
-//! How far a connection is.
+//! The stage of a connection.
 
-/// Whether there is a connection, and whether its subscriber is still there.
+/// Whether a connection exists, and whether its subscriber is still open.
 #[derive(Clone, Copy)]
 pub enum Stage {
-    /// There is no connection at this place.
+    /// There is no connection at this index.
     Vacant,
 
-    /// Messages are delivered to it.
+    /// The connection is open: messages are delivered to it.
     Live,
 
-    /// Its subscriber left; samples of it are still held.
+    /// The connection ended, since its subscriber was closed; samples of it are still held.
     Ended,
 }

@@ -1,4 +1,4 @@
-//! All that one publisher's slots are used for.
+//! Everything that the slots of one publisher are used for.
 ghost use Rattle.std.specs.Prelude.{◌≡◌, ℕ, ◌+◌, ◌^◌, ◌<◌, ◌≤◌, ◌++◌, ◌∷◌, [], length, map, set, drop, take, remove};
 ghost use Rattle.std.specs.Prelude.{is_some, option_copied, option_to_list, slice_get, IfOk, IsOk, IsSome, OnErr, Some, None, true};
 ghost use Rattle.std.specs.Prelude.{false};
@@ -19,7 +19,7 @@ use std::marker::Model;
 
 /// Who uses the slots of one publisher: the message that it sends, its loans, its history, and what its connections hold.
 ///
-/// Contracts see who uses which slot; how often each slot is used is counted behind them.
+/// Contracts see who uses which slot; how often each slot is used is counted internally.
 #[derive(Drop)]
 pub struct SlotUses {
     slots: Slots,
@@ -40,20 +40,20 @@ impl Model for SlotUses {
 }
 
 impl SlotUses {
-    /// Lends a slot of the current segment that nothing uses; None if each of them is in use. What came back is taken back first.
-    /// With as many slots as the worst case needs, one is always free.
+    /// Loans a slot of the current segment that isn't in use; None if each of them is in use. Returned slots are taken back
+    /// first. With at least as many slots in a segment as the worst case needs, and no send going on, a slot is always found.
     pub fn loan(&mut self) -> Option<usize>
         requires { length self.old.loans < self.old.most_loans }
         ensures step { LoanUse self.old result self.new }
         ensures enough { self.old.sending ≡ None → worst_case self.old ≤ self.old.size → IsSome result }
     {
-        // So few that the worst case suffices.
+        // By the contract of `len` the connections use no more slots than the worst case says.
         let _indices = self.links.len();
         self.links.take_back(&mut self.slots);
         self.slots.loan()
     }
 
-    /// Takes back what came back. Nobody sees that: what came back isn't in use.
+    /// Takes back all returned slots. Callers see no change: a returned slot isn't in use.
     pub fn take_back(&mut self)
         ensures { self.new ≡ self.old }
     {
@@ -61,7 +61,7 @@ impl SlotUses {
         self.links.take_back(slots);
     }
 
-    /// Gives up the loan in this slot.
+    /// Drops the loan in this slot.
     pub fn drop_loan(&mut self, slot: usize)
         requires { is_among slot self.old.loans ≡ true }
         ensures { self.new ≡ dropped (place_in slot self.old.loans) self.old }
@@ -69,8 +69,8 @@ impl SlotUses {
         self.slots.drop_loan(slot);
     }
 
-    /// Begins the send of the loan in this slot: it is no loan any longer, but in use until the send is finished, and the newest of
-    /// the history.
+    /// Begins the send of the loan in this slot. It is no loan any longer, stays in use until the send is finished, and is the
+    /// newest of the history.
     pub fn begin_send(&mut self, slot: usize)
         requires loan { is_among slot self.old.loans ≡ true }
         requires alone { self.old.sending ≡ None }
@@ -78,12 +78,12 @@ impl SlotUses {
     {
         self.slots.begin(slot);
         self.sending = Some(slot);
-        // So few that all uses can be counted.
+        // By the contract of `len` there are so few connections that all uses of a slot can be counted.
         let _indices = self.links.len();
         self.slots.remember(slot);
     }
 
-    /// Finishes the send: its message is in use only where the history or a connection has it.
+    /// Finishes the send: its slot stays in use only where the history or a connection has it.
     pub fn finish_send(&mut self)
         ensures { self.new ≡ finished self.old }
     {
@@ -94,20 +94,22 @@ impl SlotUses {
         self.sending = None;
     }
 
-    /// Sends what is in a slot of the current segment again, whether the slot is in use or not: it is in use until the send is finished.
+    /// Begins to send a slot of the current segment again, whether the slot is in use or not. The slot is in use until the send
+    /// is finished.
     pub fn begin_again(&mut self, slot: usize)
         requires alone { self.old.sending ≡ None }
         requires first { self.old.first ≤ slot }
         requires within { slot < self.old.first + self.old.size }
         ensures { self.new ≡ record self.old { sending = Some slot } }
     {
-        // So few that all uses can be counted.
+        // By the contract of `len` there are so few connections that all uses of a slot can be counted.
         let _indices = self.links.len();
         self.slots.claim(slot);
         self.sending = Some(slot);
     }
 
-    /// Makes the message that is being sent the newest of the history; of more than may be kept the oldest leaves.
+    /// Makes the message that is being sent, if one is, the newest of the history. A history of `kept` messages drops its
+    /// oldest.
     pub fn remember(&mut self)
         ensures sent { (slot : ℕ) → self.old.sending ≡ Some slot
             → self.new ≡ record self.old { history = newest self.old.kept (self.old.history ++ slot ∷ []) } }
@@ -116,12 +118,13 @@ impl SlotUses {
         let Some(slot) = self.sending else {
             return;
         };
-        // So few that all uses can be counted.
+        // By the contract of `len` there are so few connections that all uses of a slot can be counted.
         let _indices = self.links.len();
         self.slots.remember(slot);
     }
 
-    /// Puts the message that is being sent into the mailbox of a connection; answers whether it found room.
+    /// Puts the message that is being sent into the mailbox of a connection, and answers whether the mailbox accepted it. A
+    /// full mailbox drops its oldest message if the publisher's mailboxes overflow; otherwise it refuses the new one.
     pub fn offer(&mut self, index: usize) -> bool
         requires sending { is_some self.old.sending ≡ true }
         requires live { (connection_at index self.old).stage ≡ stage.Live }
@@ -135,7 +138,7 @@ impl SlotUses {
         self.links.offer(index, slot, &mut self.slots)
     }
 
-    /// Borrows the oldest message that waits at the connection, and answers its slot.
+    /// Borrows the oldest waiting message of the connection, and answers its slot.
     pub fn take(&mut self, index: usize) -> usize
         requires data { 0 < length (connection_at index self.old).waiting }
         requires room { length (connection_at index self.old).borrowed < self.old.most_borrowed }
@@ -145,8 +148,8 @@ impl SlotUses {
         self.links.take(index)
     }
 
-    /// Gives back the oldest message of this slot that is borrowed of the connection. It is out of use there; its slot is taken back by
-    /// the next loan, or at once if the connection ended.
+    /// Releases the oldest message with this slot that is borrowed from the connection, which no longer uses it. The publisher
+    /// takes the slot back at its next loan, or at once if the connection ended.
     pub fn give_back(&mut self, index: usize, slot: usize)
         requires { is_among slot (connection_at index self.old).borrowed ≡ true }
         ensures { self.new ≡ with_connection index
@@ -155,7 +158,7 @@ impl SlotUses {
         self.links.give_back(index, slot, &mut self.slots);
     }
 
-    /// Ends the connection: what waits is lost, what is borrowed stays in use until it is given back.
+    /// Ends the connection: waiting messages are lost, and borrowed ones stay in use until they are released.
     pub fn end(&mut self, index: usize)
         requires { (connection_at index self.old).stage ≡ stage.Live }
         ensures { self.new ≡ with_connection index (ended (connection_at index self.old)) self.old }
@@ -163,7 +166,7 @@ impl SlotUses {
         self.links.end(index, &mut self.slots);
     }
 
-    /// Loses all that waits at the connection, which goes on.
+    /// Drops all waiting messages of the connection, which stays as it is otherwise.
     pub fn lose_waiting(&mut self, index: usize)
         requires { is_there (connection_at index self.old) ≡ true }
         ensures { self.new ≡ with_connection index (emptied (connection_at index self.old)) self.old }
@@ -171,8 +174,8 @@ impl SlotUses {
         self.links.lose_waiting(index, &mut self.slots);
     }
 
-    /// Makes a connection where at most `limit` may wait, and answers its index, at which there was none. It fails where an allocation
-    /// fails, and then nothing has changed.
+    /// Makes a connection in which at most `limit` messages may wait, and answers its index, at which none existed. The call
+    /// fails only if an allocation fails or if there are 2^29 connections; then nothing has changed.
     pub fn connect(&mut self, alloc: Global, limit: usize) -> Result<usize, AllocError>
         requires { limit ≤ self.old.most_waiting }
         ensures vacant { IfOk result (λ index. connection_at index self.old ≡ nobody) }
@@ -184,8 +187,9 @@ impl SlotUses {
         self.links.connect(alloc, limit)
     }
 
-    /// Slots of which none is in use, in one segment, and room for so many loans, so long a history, and connections of which at
-    /// most so many messages wait and so many are borrowed. It fails only where an allocation fails.
+    /// Slots without a use in one segment of `size` slots, and capacity for `most_loans` loans and a history of `kept`
+    /// messages. In each connection at most `most_waiting` messages wait and at most `most_borrowed` are borrowed. The call
+    /// fails only if an allocation fails.
     pub fn new(
         alloc: Global,
         overflows: bool,
@@ -220,8 +224,9 @@ impl SlotUses {
         })
     }
 
-    /// Opens a segment of as many slots as the current one has, which is the current one from now on: slots of the former ones
-    /// are lent no more, and stay in use as they were. It fails only where an allocation fails, and then nothing has changed.
+    /// Opens a new segment of as many slots as the current one has. It is the current one from now on: slots of the former
+    /// segments are loaned no more, and stay in use as they were. The call fails only if an allocation fails; then nothing has
+    /// changed.
     pub fn open_segment(&mut self, alloc: Global) -> Result<(), AllocError>
         ensures opened { IfOk result (λ _. self.new ≡ segment_opened self.old) }
         ensures refused { OnErr result (self.new ≡ self.old) }
@@ -239,7 +244,7 @@ impl SlotUses {
         self.links.offer(index, slot, &mut self.slots)
     }
 
-    /// Gives a new connection as much of the history as may wait there, the oldest first.
+    /// Gives a new connection the newest messages of the history, as many as may wait there, the oldest first.
     pub fn welcome(&mut self, index: usize)
         requires live { (connection_at index self.old).stage ≡ stage.Live }
         requires empty { (connection_at index self.old).waiting ≡ [] }
@@ -252,7 +257,7 @@ impl SlotUses {
         }
     }
 
-    /// Forgets the history: its messages are in use only where something else has them.
+    /// Clears the history: its messages stay in use only where something else has them.
     pub fn forget_history(&mut self)
         ensures { self.new ≡ record self.old { history = [] } }
     {
@@ -261,7 +266,7 @@ impl SlotUses {
         }
     }
 
-    // Forgets the oldest of the history.
+    // Removes the oldest message of the history.
     fn forget_oldest(&mut self)
         requires { 0 < length self.old.history }
         ensures { self.new ≡ record self.old { history = drop 1 self.old.history } }
@@ -269,7 +274,7 @@ impl SlotUses {
         self.slots.forget_oldest();
     }
 
-    /// Its slots: how many there are, which of them are lent, and the history.
+    /// Its slots: how many there are, which of them are loaned, and the history.
     pub fn slots(&self) -> &Slots
         ensures first { result.now.first ≡ self.now.first }
         ensures size { result.now.size ≡ self.now.size }
@@ -281,7 +286,7 @@ impl SlotUses {
         &self.slots
     }
 
-    /// Its connections: how many indices they have, and how many messages may wait and be borrowed there.
+    /// Its connections: how many indices they have, and how many messages may wait in each and be borrowed from it.
     pub fn links(&self) -> &Links
         ensures most_waiting { result.now.most_waiting ≡ self.now.most_waiting }
         ensures most_borrowed { result.now.most_borrowed ≡ self.now.most_borrowed }
@@ -290,7 +295,7 @@ impl SlotUses {
         &self.links
     }
 
-    /// The connection of an index, if there is one.
+    /// The connection at an index, if one exists.
     pub fn link(&self, index: usize) -> Option<&Link>
         ensures { seen (option_copied result) ≡ connection_at index self.now }
     {
@@ -308,7 +313,7 @@ impl SlotUses {
         }
     }
 
-    /// The slot of the message that waits at this place of the connection, the oldest at 0.
+    /// The slot of the message that waits at place `at` of the connection; the oldest is at 0.
     pub fn waiting_slot(&self, index: usize, at: usize) -> usize
         requires there { is_there (connection_at index self.now) ≡ true }
         requires waits { at < length (connection_at index self.now).waiting }
@@ -320,7 +325,7 @@ impl SlotUses {
         }
     }
 
-    /// Whether a message of this slot is borrowed of the connection.
+    /// Whether a message with this slot is borrowed from the connection.
     pub fn has_borrowed(&self, index: usize, slot: usize) -> bool
         requires { is_there (connection_at index self.now) ≡ true }
         ensures { result ≡ is_among slot (connection_at index self.now).borrowed }

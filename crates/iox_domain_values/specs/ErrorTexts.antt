@@ -1,4 +1,5 @@
--- What errors display as: the type's name, `::` and the variant, an inner variant in parentheses, at any depth.
+-- What errors display as: the type's name, `::` and the variant's name; the name of an inner variant follows in parentheses, at
+-- any depth.
 use Rattle.std.specs.Prelude.{ℕ, List, ◌++◌, codes}
 use Rattle.iox_domain_values.specs.declared.connection_failure.ZeroCopyCreationError.{ZeroCopyCreationError}
 use Rattle.iox_domain_values.specs.declared.connection_failure.ZeroCopyCreationError.TheVariants as zero_copy
@@ -17,26 +18,26 @@ use Rattle.iox_domain_values.specs.declared.create_error.SubscriberCreateError.T
 use Rattle.iox_domain_values.specs.declared.create_error.DomainError.{DomainError}
 use Rattle.iox_domain_values.specs.declared.create_error.DomainError.TheVariants as domain
 
--- the name of the variant
+-- The name of the variant.
 abbrev pub zero_copy_creation_name : ZeroCopyCreationError → List ℕ
 zero_copy_creation_name zero_copy.OutOfMemory = codes "OutOfMemory"
 zero_copy_creation_name zero_copy.ExpiredConnectionBufferFull = codes "ExpiredConnectionBufferFull"
 zero_copy_creation_name zero_copy.IncompatibleBufferSize = codes "IncompatibleBufferSize"
 
--- the name of the variant, an inner variant in parentheses
+-- The name of the variant, with that of an inner variant in parentheses.
 abbrev pub connection_name : ConnectionFailure → List ℕ
 connection_name (connection.FailedToEstablishConnection inner) = codes "FailedToEstablishConnection(" ++ zero_copy_creation_name inner
     ++ codes ")"
 connection_name connection.UnableToMapSendersDataSegment = codes "UnableToMapSendersDataSegment"
 
--- the name of the variant
+-- The name of the variant.
 abbrev pub loan_name : LoanError → List ℕ
 loan_name loan.OutOfMemory = codes "OutOfMemory"
 loan_name loan.ExceedsMaxLoans = codes "ExceedsMaxLoans"
 loan_name loan.ExceedsMaxLoanSize = codes "ExceedsMaxLoanSize"
 loan_name loan.InternalFailure = codes "InternalFailure"
 
--- the name of the variant, an inner variant in parentheses
+-- The name of the variant, with that of an inner variant in parentheses.
 abbrev pub send_name : SendError → List ℕ
 send_name sending.ConnectionBrokenSinceSenderNoLongerExists = codes "ConnectionBrokenSinceSenderNoLongerExists"
 send_name sending.ConnectionCorrupted = codes "ConnectionCorrupted"
@@ -45,19 +46,19 @@ send_name (sending.ConnectionError inner) = codes "ConnectionError(" ++ connecti
 send_name sending.UnableToDeliver = codes "UnableToDeliver"
 send_name sending.InternalError = codes "InternalError"
 
--- the name of the variant, an inner variant in parentheses
+-- The name of the variant, with that of an inner variant in parentheses.
 abbrev pub receive_name : ReceiveError → List ℕ
 receive_name receiving.ExceedsMaxBorrows = codes "ExceedsMaxBorrows"
 receive_name (receiving.ConnectionFailure inner) = codes "ConnectionFailure(" ++ connection_name inner ++ codes ")"
 
--- the name of the variant
+-- The name of the variant.
 abbrev pub publisher_create_name : PublisherCreateError → List ℕ
 publisher_create_name publisher.ExceedsMaxSupportedPublishers = codes "ExceedsMaxSupportedPublishers"
 publisher_create_name publisher.UnableToCreateDataSegment = codes "UnableToCreateDataSegment"
 publisher_create_name publisher.FailedToDeployThreadsafetyPolicy = codes "FailedToDeployThreadsafetyPolicy"
 publisher_create_name publisher.UnableToCreatePortTag = codes "UnableToCreatePortTag"
 
--- the name of the variant
+-- The name of the variant.
 abbrev pub subscriber_create_name : SubscriberCreateError → List ℕ
 subscriber_create_name subscriber.ExceedsMaxSupportedSubscribers = codes "ExceedsMaxSupportedSubscribers"
 subscriber_create_name subscriber.BufferSizeExceedsMaxSupportedBufferSizeOfService
@@ -66,38 +67,38 @@ subscriber_create_name subscriber.FailedToDeployThreadsafetyPolicy = codes "Fail
 subscriber_create_name subscriber.UnableToCreatePortTag = codes "UnableToCreatePortTag"
 subscriber_create_name subscriber.OutOfMemory = codes "OutOfMemory"
 
--- the name of the variant
+-- The name of the variant.
 abbrev pub domain_name : DomainError → List ℕ
 domain_name domain.OutOfMemory = codes "OutOfMemory"
 
--- the type's name, `::` and that of the variant
+-- The type's name, `::` and the name of the variant.
 abbrev pub zero_copy_creation_text : ZeroCopyCreationError → List ℕ
 zero_copy_creation_text error = codes "ZeroCopyCreationError::" ++ zero_copy_creation_name error
 
--- the type's name, `::` and that of the variant
+-- The type's name, `::` and the name of the variant.
 abbrev pub connection_text : ConnectionFailure → List ℕ
 connection_text error = codes "ConnectionFailure::" ++ connection_name error
 
--- the type's name, `::` and that of the variant
+-- The type's name, `::` and the name of the variant.
 abbrev pub loan_text : LoanError → List ℕ
 loan_text error = codes "LoanError::" ++ loan_name error
 
--- the type's name, `::` and that of the variant
+-- The type's name, `::` and the name of the variant.
 abbrev pub send_text : SendError → List ℕ
 send_text error = codes "SendError::" ++ send_name error
 
--- the type's name, `::` and that of the variant
+-- The type's name, `::` and the name of the variant.
 abbrev pub receive_text : ReceiveError → List ℕ
 receive_text error = codes "ReceiveError::" ++ receive_name error
 
--- the type's name, `::` and that of the variant
+-- The type's name, `::` and the name of the variant.
 abbrev pub publisher_create_text : PublisherCreateError → List ℕ
 publisher_create_text error = codes "PublisherCreateError::" ++ publisher_create_name error
 
--- the type's name, `::` and that of the variant
+-- The type's name, `::` and the name of the variant.
 abbrev pub subscriber_create_text : SubscriberCreateError → List ℕ
 subscriber_create_text error = codes "SubscriberCreateError::" ++ subscriber_create_name error
 
--- the type's name, `::` and that of the variant
+-- The type's name, `::` and the name of the variant.
 abbrev pub domain_text : DomainError → List ℕ
 domain_text error = codes "DomainError::" ++ domain_name error

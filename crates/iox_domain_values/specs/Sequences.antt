@@ -1,15 +1,16 @@
--- The numbers that a publisher's sends give its messages.
+-- The sequence numbers that a publisher's sends give its messages.
 use Rattle.std.specs.Prelude.{ℕ, ◌+◌, ◌-◌, ◌^◌, ◌==◌, max, Bool, false, option_map, Option, None, Some, if◌then◌else◌}
 
--- the number behind one; none where messages have no numbers
+-- The sequence number behind the last one; None if messages aren't numbered.
 abbrev pub next_sequence : Option ℕ → Option ℕ
 next_sequence last = option_map (λ number. number + 1) last
 
--- whether no number is left behind the last one, which is 2^64 - 1
+-- Whether no sequence number is left behind the last one, because it is 2^64 - 1.
 abbrev pub is_used_up : Option ℕ → Bool
 is_used_up None = false
 is_used_up (Some number) = number == 2 ^ 64 - 1
 
--- the number before the first message of a publisher, where messages have numbers: the first is as named, but 0 counts as 1
+-- The number before the first message of a publisher, or None if messages aren't numbered. The first message gets the number
+-- `first`, but 0 counts as 1.
 abbrev pub before_first : Bool → ℕ → Option ℕ
 before_first numbered first = if numbered then Some (max first 1 - 1) else None

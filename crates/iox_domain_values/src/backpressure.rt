@@ -1,4 +1,4 @@
-//! What a handler is told of a full mailbox, what it may answer, and what strategy and answer come to.
+//! What a handler is given about a full mailbox, what it may answer, and what strategy and answer decide.
 ghost use Rattle.std.specs.Prelude.{◌≡◌, ◌↔◌, ◌⊎◌, Option, Some, None};
 ghost use Rattle.iox_domain_values.specs.Actions.{receiver_action, decision_of};
 ghost use Rattle.iox_domain_values.specs.declared.backpressure.BackpressureAction.TheVariants as action;
@@ -7,33 +7,33 @@ ghost use Rattle.iox_domain_values.specs.declared.backpressure_strategy.Backpres
 
 use crate::backpressure_strategy::BackpressureStrategy;
 
-/// What a handler answers where a mailbox is full.
+/// What a handler answers at a full mailbox.
 ///
 /// Ported from `iceoryx2::port::BackpressureAction`.
 #[derive(Clone, Copy, Debug, PartialEq, Eq)]
 pub enum BackpressureAction {
-    /// What the strategy says.
+    /// The strategy decides.
     FollowBackpressureyStrategy,
-    /// The send waits, and the handler is asked again where there is still no room.
+    /// The send waits, and the handler is asked again if the mailbox is still full then.
     Retry,
-    /// This mailbox is passed over.
+    /// The send skips this mailbox.
     DiscardData,
-    /// This mailbox is passed over, and after the other ones the send fails.
+    /// The send skips this mailbox, and fails after the other ones.
     DiscardDataAndFail,
 }
 
-/// The same, as it is told to a connection.
+/// The same action, as it is given to a connection.
 ///
 /// Ported from `iceoryx2::port::BackpressureToReceiverAction`.
 #[derive(Clone, Copy, Debug, PartialEq, Eq)]
 pub enum BackpressureToReceiverAction {
-    /// What the strategy says.
+    /// The strategy decides.
     FollowBackpressureyStrategy,
-    /// The send waits, and the handler is asked again where there is still no room.
+    /// The send waits, and the handler is asked again if the mailbox is still full then.
     Retry,
-    /// This mailbox is passed over.
+    /// The send skips this mailbox.
     DiscardPointerOffset,
-    /// This mailbox is passed over, and after the other ones the send fails.
+    /// The send skips this mailbox, and fails after the other ones.
     DiscardPointerOffsetAndFail,
 }
 
@@ -52,37 +52,36 @@ impl From<BackpressureAction> for BackpressureToReceiverAction {
     }
 }
 
-/// What a handler is told of a full mailbox.
+/// What a handler is given about a full mailbox.
 ///
 /// Ported from `iceoryx2::port::BackpressureInfo`, with numbers of 64 bits.
 #[derive(Clone, Copy, Debug, PartialEq, Eq)]
 pub struct BackpressureInfo {
     /// The number of the service.
     pub service_id: u64,
-    /// The publisher that sends.
+    /// The number of the publisher that sends.
     pub sender_port_id: u64,
-    /// The subscriber whose mailbox is full.
+    /// The number of the subscriber whose mailbox is full.
     pub receiver_port_id: u64,
-    /// How often this mailbox was tried again in this send: 0 at first.
+    /// How often this mailbox was tried again in this send; 0 at first.
     pub retries: u64,
-    /// Nanoseconds since this mailbox was first found full in this send, as the caller hands them in: 0 at first.
+    /// The number of nanoseconds since this mailbox was first found full in this send, as the caller passes it; 0 at first.
     pub elapsed_time: u64,
 }
 
-/// What becomes of a send at a full mailbox.
+/// What a send does at a full mailbox.
 #[derive(Clone, Copy, Debug, PartialEq, Eq)]
 pub enum BackpressureDecision {
     /// The send waits here.
     Retry,
-    /// This mailbox is passed over.
+    /// The send skips this mailbox.
     DiscardData,
-    /// This mailbox is passed over, and after the other ones the send fails.
+    /// The send skips this mailbox, and fails after the other ones.
     DiscardDataAndFail,
 }
 
-/// What becomes of a send at a full mailbox, by the publisher's strategy and what its handler answered; `None` where it has
-/// no handler. Without a handler, and where the handler follows the strategy, the strategy decides. No strategy makes a
-/// send fail.
+/// What a send does at a full mailbox, by the publisher's strategy and what its handler answered (`None` if it has no handler).
+/// The strategy decides if there is no handler, or if the handler follows the strategy. No strategy makes a send fail.
 pub fn decision(
     strategy: BackpressureStrategy,
     answer: Option<BackpressureAction>,

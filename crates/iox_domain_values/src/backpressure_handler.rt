@@ -1,4 +1,4 @@
-//! Who decides at a full mailbox.
+//! Handlers for a full mailbox.
 ghost use Rattle.std.specs.Prelude.{◌≡◌};
 ghost use Rattle.iox_domain_values.specs.BackpressureAnswers.{Allowed, fixed_action_of};
 ghost use Rattle.iox_domain_values.specs.declared.backpressure.BackpressureInfo.{BackpressureInfo};
@@ -9,17 +9,17 @@ use crate::backpressure::{BackpressureAction, BackpressureInfo};
 
 /// An object that decides at a full mailbox.
 ///
-/// Ported from `iceoryx2::port::BackpressureFn`, which is a closure there. An object names, for each info, the actions that
-/// it may answer, and a call keeps to them. What it remembers from call to call it keeps in cells.
+/// Ported from `iceoryx2::port::BackpressureFn`, which is a closure there. For each info the object states which actions it may
+/// answer (`allows`), and a call answers one of these. State that it keeps from call to call must be in cells.
 pub trait BackpressureFn: Drop {
     ghost allows: { Self → BackpressureInfo → BackpressureAction → Type 0 };
 
-    /// What is to be done about this full mailbox.
+    /// What the send does at this full mailbox.
     fn call(&self, info: &BackpressureInfo) -> BackpressureAction
         ensures { allows self.now info.now result };
 }
 
-/// Who decides at a full mailbox: the same action each time, or an object that the caller made.
+/// A handler for full mailboxes: the same action each time, or an object that the caller made.
 ///
 /// Ported from `iceoryx2::port::BackpressureHandler`.
 #[derive(Drop)]
@@ -31,21 +31,21 @@ pub enum BackpressureHandler {
 }
 
 impl BackpressureHandler {
-    /// This action, each time.
+    /// A handler that answers this action each time.
     pub fn new_with(action: BackpressureAction) -> Self
         ensures { result ≡ handler.Fixed action }
     {
         BackpressureHandler::Fixed(action)
     }
 
-    /// The action that the object answers.
+    /// A handler that answers what the object answers.
     pub fn boxed(object: Box<dyn BackpressureFn>) -> Self
         ensures { result ≡ handler.Boxed object }
     {
         BackpressureHandler::Boxed(object)
     }
 
-    /// The action, where it is the same each time.
+    /// The action of a fixed handler; None for a boxed one.
     pub fn fixed_action(&self) -> Option<BackpressureAction>
         ensures { result ≡ fixed_action_of self.now }
     {
@@ -55,7 +55,7 @@ impl BackpressureHandler {
         }
     }
 
-    /// What is to be done about this full mailbox: an action that the handler may answer.
+    /// What the send does at this full mailbox: an action that the handler may answer.
     pub fn call(&self, info: &BackpressureInfo) -> BackpressureAction
         ensures { Allowed (λ object. allows object) self.now info.now result }
     {

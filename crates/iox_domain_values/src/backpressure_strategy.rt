@@ -1,4 +1,4 @@
-//! What a publisher does where a mailbox is full and nobody is asked.
+//! What a publisher does at a full mailbox if no handler decides.
 ghost use Rattle.std.specs.Prelude.{◌≡◌, IfOk, IfSome, IfNone};
 ghost use Rattle.serde.specs.Event.{Logs, text};
 ghost use Rattle.serde.specs.Steps.{Gives};
@@ -11,14 +11,14 @@ use serde::{
 };
 use std::alloc::Global;
 
-/// What a publisher does where a mailbox is full, the service doesn't overflow, and no handler decides.
+/// What a publisher does at a full mailbox if the service doesn't overflow and no handler decides.
 ///
 /// Ported from `iceoryx2::port::backpressure_strategy::BackpressureStrategy`.
 #[derive(Clone, Copy, Debug, PartialEq, Eq)]
 pub enum BackpressureStrategy {
-    /// The send waits for room.
+    /// The send waits until the mailbox has room.
     RetryUntilDelivered,
-    /// This mailbox is passed over.
+    /// The send skips this mailbox.
     DiscardData,
 }
 
@@ -33,7 +33,7 @@ impl BackpressureStrategy {
         }
     }
 
-    /// The variant of this name, if there is one.
+    /// The variant with this name, if there is one.
     pub fn from_name(name: &str) -> Option<Self>
         ensures named { IfSome result (λ strategy. strategy_name strategy ≡ name.now) }
         ensures unnamed { IfNone result ((strategy : BackpressureStrategy) → strategy_name strategy ≡ name.now → ⊥) }
@@ -46,7 +46,7 @@ impl BackpressureStrategy {
     }
 }
 
-/// A publisher's strategy where none is named.
+/// The strategy of a publisher for which none is set.
 impl Default for BackpressureStrategy {
     ghost is_default = { λ made. made ≡ strategy.RetryUntilDelivered };
 
@@ -55,7 +55,7 @@ impl Default for BackpressureStrategy {
     }
 }
 
-/// The variant's name is sent, and nothing else.
+/// The variant's name is written, and nothing else.
 impl Described for BackpressureStrategy {
     ghost writes = { λ strategy old new. Logs old new (text (strategy_name strategy)) };
 }
@@ -66,7 +66,7 @@ impl Serialize for BackpressureStrategy {
     }
 }
 
-/// Refused are a value that is no text, and any text that is no variant's name.
+/// A value that isn't a text is refused, and so is a text that isn't a variant's name.
 impl DeserializeOwned for BackpressureStrategy {
     fn deserialize_owned<F: Format>(
         alloc: Global,

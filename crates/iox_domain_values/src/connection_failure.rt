@@ -5,22 +5,22 @@ ghost use Rattle.iox_domain_values.specs.declared.connection_failure.ConnectionF
 
 use thiserror::Error;
 
-/// Why a connection isn't made.
+/// Why a connection couldn't be made.
 ///
-/// Ported from `iceoryx2_cal::zero_copy_connection::ZeroCopyCreationError`; the first two variants are this port's own.
+/// Ported from `iceoryx2_cal::zero_copy_connection::ZeroCopyCreationError`; the first two variants aren't in `iceoryx2`.
 #[derive(Clone, Copy, Debug, PartialEq, Eq, Hash, Error)]
 #[error("{}", self.text())]
 pub enum ZeroCopyCreationError {
-    /// No memory was found.
+    /// An allocation failed, or a capacity is used up.
     OutOfMemory,
-    /// The subscriber keeps as many connections of publishers that left as it may, and none of them can end.
+    /// The subscriber keeps as many connections of closed publishers as its limit allows, and none of them can end.
     ExpiredConnectionBufferFull,
-    /// The two ends want different sizes.
+    /// The two ends need different sizes. Never returned.
     IncompatibleBufferSize,
 }
 
 impl ZeroCopyCreationError {
-    /// What it displays as.
+    /// The text that the error displays as.
     pub fn text(&self) -> &'static str
         ensures { result.now ≡ zero_copy_creation_text self.now }
     {
@@ -34,21 +34,21 @@ impl ZeroCopyCreationError {
     }
 }
 
-/// Why a port isn't connected to another.
+/// Why a port couldn't be connected to another.
 ///
 /// Ported from `iceoryx2::port::update_connections::ConnectionFailure`, whose second variant holds an error of shared
 /// memory there.
 #[derive(Clone, Copy, Debug, PartialEq, Eq, Hash, Error)]
 #[error("{}", self.text())]
 pub enum ConnectionFailure {
-    /// The connection isn't made.
+    /// The connection couldn't be made.
     FailedToEstablishConnection(ZeroCopyCreationError),
-    /// The publisher's messages can't be reached. Never given.
+    /// The publisher's messages can't be reached. Never returned.
     UnableToMapSendersDataSegment,
 }
 
 impl ConnectionFailure {
-    /// What it displays as.
+    /// The text that the error displays as.
     pub fn text(&self) -> &'static str
         ensures { result.now ≡ connection_text self.now }
     {

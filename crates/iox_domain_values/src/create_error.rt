@@ -1,10 +1,10 @@
-//! Why a port or a domain isn't made.
+//! Why a port or a domain couldn't be created.
 ghost use Rattle.std.specs.Prelude.{◌≡◌};
 ghost use Rattle.iox_domain_values.specs.ErrorTexts.{publisher_create_text, subscriber_create_text, domain_text};
 
 use thiserror::Error;
 
-/// Why a publisher isn't made.
+/// Why a publisher couldn't be created.
 ///
 /// Ported from `iceoryx2::port::publisher::PublisherCreateError`.
 #[derive(Clone, Copy, Debug, PartialEq, Eq, Hash, Error)]
@@ -12,16 +12,16 @@ use thiserror::Error;
 pub enum PublisherCreateError {
     /// The service has as many publishers as it allows.
     ExceedsMaxSupportedPublishers,
-    /// The number of places or the length of a slice is past its limit, or no memory was found.
+    /// The number of slots or the length of a slice exceeds its limit, or an allocation failed.
     UnableToCreateDataSegment,
-    /// Never given.
+    /// Never returned.
     FailedToDeployThreadsafetyPolicy,
-    /// Never given.
+    /// Never returned.
     UnableToCreatePortTag,
 }
 
 impl PublisherCreateError {
-    /// What it displays as.
+    /// The text that the error displays as.
     pub fn text(&self) -> &'static str
         ensures { result.now ≡ publisher_create_text self.now }
     {
@@ -38,9 +38,9 @@ impl PublisherCreateError {
     }
 }
 
-/// Why a subscriber isn't made.
+/// Why a subscriber couldn't be created.
 ///
-/// Ported from `iceoryx2::port::subscriber::SubscriberCreateError`; the last variant is this port's own.
+/// Ported from `iceoryx2::port::subscriber::SubscriberCreateError`; the last variant isn't in `iceoryx2`.
 #[derive(Clone, Copy, Debug, PartialEq, Eq, Hash, Error)]
 #[error("{}", self.text())]
 pub enum SubscriberCreateError {
@@ -48,16 +48,16 @@ pub enum SubscriberCreateError {
     ExceedsMaxSupportedSubscribers,
     /// A larger buffer is asked for than the service allows.
     BufferSizeExceedsMaxSupportedBufferSizeOfService,
-    /// Never given.
+    /// Never returned.
     FailedToDeployThreadsafetyPolicy,
-    /// Never given.
+    /// Never returned.
     UnableToCreatePortTag,
-    /// No memory was found.
+    /// An allocation failed.
     OutOfMemory,
 }
 
 impl SubscriberCreateError {
-    /// What it displays as.
+    /// The text that the error displays as.
     pub fn text(&self) -> &'static str
         ensures { result.now ≡ subscriber_create_text self.now }
     {
@@ -75,16 +75,16 @@ impl SubscriberCreateError {
     }
 }
 
-/// Why a domain isn't made. This port's own.
+/// Why a domain couldn't be created. Not in `iceoryx2`.
 #[derive(Clone, Copy, Debug, PartialEq, Eq, Hash, Error)]
 #[error("{}", self.text())]
 pub enum DomainError {
-    /// No memory was found.
+    /// An allocation failed.
     OutOfMemory,
 }
 
 impl DomainError {
-    /// What it displays as.
+    /// The text that the error displays as.
     pub fn text(&self) -> &'static str
         ensures { result.now ≡ domain_text self.now }
     {

@@ -1,33 +1,33 @@
-//! How the room of a publisher grows.
+//! How the slots of a publisher grow.
 ghost use Rattle.std.specs.Prelude.{◌≡◌};
 ghost use Rattle.iox_domain_values.specs.Segments.{SegmentLength};
 ghost use Rattle.iox_domain_values.specs.declared.data_segment.AllocationStrategy.TheVariants as strategy;
 
-/// Whether a publisher's room may grow.
+/// Whether the slots of a publisher may grow.
 ///
 /// Ported from `iceoryx2::port::DataSegmentType`.
 #[derive(Clone, Copy, Debug, PartialEq, Eq)]
 pub enum DataSegmentType {
-    /// A longer slice may open a new segment.
+    /// A slice that is too long for the slots may open a new segment.
     Dynamic,
-    /// The room stays as it was made.
+    /// The slots stay as long as they were made.
     Static,
 }
 
-/// What a loan of a longer slice than fits does.
+/// What the loan of a slice does that is too long for the slots.
 ///
 /// Ported from `iceoryx2_cal::shm_allocator::AllocationStrategy`.
 #[derive(Clone, Copy, Debug, PartialEq, Eq)]
 pub enum AllocationStrategy {
-    /// It opens a segment of just that length.
+    /// The loan opens a segment with slots of just that length.
     BestFit,
-    /// It opens a segment of the next power of two.
+    /// The loan opens a segment with slots of the next power of two.
     PowerOfTwo,
-    /// It is refused.
+    /// The loan is refused.
     Static,
 }
 
-/// A publisher's strategy where none is named.
+/// The strategy of a publisher for which none is set.
 impl Default for AllocationStrategy {
     ghost is_default = { λ made. made ≡ strategy.Static };
 
@@ -37,10 +37,10 @@ impl Default for AllocationStrategy {
 }
 
 impl AllocationStrategy {
-    /// How many values fit in a slot of the segment that a slice of so many opens, where it is longer than fits so far. None where
-    /// no segment is opened: with `Static`, and for a length above 2^32 - 1.
+    /// How many values fit into a slot of the segment that a slice of `values` values opens, if it is too long for the slots so
+    /// far. None if no segment is opened: with `Static`, and for a length above 2^32 - 1.
     ///
-    /// Ported from `iceoryx2_cal::shm_allocator::ShmAllocator::resize_hint`, of which the lengths are this port's own.
+    /// Ported from `iceoryx2_cal::shm_allocator::ShmAllocator::resize_hint`; the lengths are chosen differently here.
     pub fn segment_length(&self, values: usize) -> Option<usize>
         ensures { SegmentLength self.now values result }
     {

@@ -1,15 +1,15 @@
-//! What a handler is told of a failed connection, and what it may answer.
+//! What a handler is given about a failed connection, and what it may answer.
 
-/// What a handler answers where a connection failed.
+/// What a handler answers if a connection failed.
 ///
 /// Ported from `iceoryx2::port::DegradationAction`.
 #[derive(Clone, Copy, Debug, PartialEq, Eq)]
 pub enum DegradationAction {
-    /// The call goes on.
+    /// The call continues.
     Ignore,
-    /// The call goes on. Nothing is printed here.
+    /// The call continues. No warning is printed here.
     Warn,
-    /// The call answers the first failure, after all places were tried.
+    /// The call returns the first such failure, after all places were tried.
     DegradeAndFail,
 }
 
@@ -24,15 +24,15 @@ pub enum DegradationCause {
     ConnectionCorrupted,
 }
 
-/// What a handler is told of a failed connection.
+/// What a handler is given about a failed connection.
 ///
 /// Ported from `iceoryx2::port::DegradationInfo`, with numbers of 64 bits.
 #[derive(Clone, Copy, Debug, PartialEq, Eq)]
 pub struct DegradationInfo {
     /// The number of the service.
     pub service_id: u64,
-    /// The publisher of the connection.
+    /// The number of the connection's publisher.
     pub sender_port_id: u64,
-    /// The subscriber of the connection.
+    /// The number of the connection's subscriber.
     pub receiver_port_id: u64,
 }

@@ -1,4 +1,4 @@
-//! Who decides where a connection failed.
+//! Handlers for failed connections.
 ghost use Rattle.std.specs.Prelude.{◌≡◌};
 ghost use Rattle.iox_domain_values.specs.DegradationAnswers.{Allowed, fixed_action_of};
 ghost use Rattle.iox_domain_values.specs.declared.degradation.DegradationAction.TheVariants as action;
@@ -9,30 +9,30 @@ ghost use Rattle.iox_domain_values.specs.declared.degradation_handler.Degradatio
 
 use crate::degradation::{DegradationAction, DegradationCause, DegradationInfo};
 
-/// An object that decides where a connection failed.
+/// An object that decides what a call does if a connection failed.
 ///
-/// Ported from `iceoryx2::port::DegradationFn`, which is a closure there. An object names, for each cause and info, the
-/// actions that it may answer, and a call keeps to them. What it remembers from call to call it keeps in cells.
+/// Ported from `iceoryx2::port::DegradationFn`, which is a closure there. For each cause and info the object states which
+/// actions it may answer (`allows`), and a call answers one of these. State that it keeps from call to call must be in cells.
 pub trait DegradationFn: Drop {
     ghost allows: { Self → DegradationCause → DegradationInfo → DegradationAction → Type 0 };
 
-    /// What is to be done about this connection.
+    /// What the call does about this connection.
     fn call(&self, cause: DegradationCause, info: &DegradationInfo) -> DegradationAction
         ensures { allows self.now cause info.now result };
 }
 
-/// What decides where a connection failed. It names, for each cause and info, the actions that it may answer.
+/// What decides if a connection failed. For each cause and info it states which actions it may answer.
 ///
-/// Ports take whatever decides, and not a box: so neither they nor what holds them have a `dyn` in them.
+/// Ports are generic over this trait and take no box, so neither they nor what contains them have a `dyn` in them.
 pub trait Degrades: Drop {
     ghost degrades: { Self → DegradationCause → DegradationInfo → DegradationAction → Type 0 };
 
-    /// What is to be done about this connection: an action that may be answered.
+    /// What the call does about this connection: an action that may be answered.
     fn degrade(&self, cause: DegradationCause, info: &DegradationInfo) -> DegradationAction
         ensures { degrades self.now cause info.now result };
 }
 
-/// Who decides where a connection failed: the same action each time, or an object that the caller made.
+/// A handler for failed connections: the same action each time, or an object that the caller made.
 ///
 /// Ported from `iceoryx2::port::DegradationHandler`.
 #[derive(Drop)]
@@ -44,21 +44,21 @@ pub enum DegradationHandler {
 }
 
 impl DegradationHandler {
-    /// This action, each time.
+    /// A handler that answers this action each time.
     pub fn new_with(action: DegradationAction) -> Self
         ensures { result ≡ handler.Fixed action }
     {
         DegradationHandler::Fixed(action)
     }
 
-    /// The action that the object answers.
+    /// A handler that answers what the object answers.
     pub fn boxed(object: Box<dyn DegradationFn>) -> Self
         ensures { result ≡ handler.Boxed object }
     {
         DegradationHandler::Boxed(object)
     }
 
-    /// The action, where it is the same each time.
+    /// The action of a fixed handler; None for a boxed one.
     pub fn fixed_action(&self) -> Option<DegradationAction>
         ensures { result ≡ fixed_action_of self.now }
     {
@@ -80,7 +80,7 @@ impl Degrades for DegradationHandler {
     }
 }
 
-/// What a port has where none is named: `Warn`, each time.
+/// The handler of a port for which none is set: `Warn`, each time.
 impl Default for DegradationHandler {
     ghost is_default = { λ made. made ≡ handler.Fixed action.Warn };
 

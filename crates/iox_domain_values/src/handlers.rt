@@ -1,4 +1,4 @@
-//! Who decides for a publisher.
+//! The strategy and the handlers of a publisher.
 ghost use Rattle.iox_domain_values.specs.HandlersAnswers.{MayAnswer, MayDecide, may_degrade};
 ghost use Rattle.iox_domain_values.specs.declared.backpressure.BackpressureDecision.{BackpressureDecision};
 ghost use Rattle.iox_domain_values.specs.declared.backpressure.BackpressureInfo.{BackpressureInfo};
@@ -9,23 +9,23 @@ use crate::backpressure_strategy::BackpressureStrategy;
 use crate::degradation::{DegradationAction, DegradationCause, DegradationInfo};
 use crate::degradation_handler::{DegradationFn, DegradationHandler, Degrades};
 
-/// What decides at a full mailbox. It names, for each info, what it may decide.
+/// What decides at a full mailbox. For each info it states which decisions it may make.
 pub trait Decides: Drop {
     ghost decides: { Self → BackpressureInfo → BackpressureDecision → Type 0 };
 
-    /// What becomes of a send at a full mailbox: a decision that may come.
+    /// What the send does at this full mailbox: one of the decisions that may be made.
     fn decide(&self, info: &BackpressureInfo) -> BackpressureDecision
         ensures { decides self.now info.now result };
 }
 
-/// Who decides for a publisher: its strategy, and its handlers.
+/// The strategy and the handlers of a publisher.
 #[derive(Drop)]
 pub struct Handlers {
-    /// What is done at a full mailbox where no handler says otherwise.
+    /// What a send does at a full mailbox if no handler says otherwise.
     pub strategy: BackpressureStrategy,
-    /// Who is asked at a full mailbox, if anybody is.
+    /// The handler for full mailboxes, if there is one.
     pub backpressure: Option<BackpressureHandler>,
-    /// Who is asked where a connection failed.
+    /// The handler for failed connections.
     pub degradation: DegradationHandler,
 }
 

@@ -1,24 +1,25 @@
-//! What the ports of a service take and answer: plain values, errors, and the objects that a caller hands in. None of it
-//! holds a port or a message.
+//! What the ports of a service take and answer: plain values, errors, and the objects that a caller passes. No item here
+//! contains a port or a message.
 //!
 //! | Module | What it has |
 //! |---|---|
-//! | `backpressure_strategy` | what a publisher does where a mailbox is full and nobody is asked, with its text form |
-//! | `backpressure` | what a handler is told of a full mailbox, what it may answer, and what strategy and answer come to |
-//! | `degradation` | what a handler is told of a failed connection, and what it may answer |
-//! | `data_segment` | how the room of a publisher grows |
-//! | `port_owner` | whose port it is, and which one |
-//! | `sequences` | the number before the first, where a service numbers its messages |
-//! | `service_sizes` | how much a service allows to its ports, and how many slots a publisher needs there |
+//! | `backpressure_strategy` | what a publisher does at a full mailbox if no handler decides, with its text form |
+//! | `backpressure` | what a handler is given about a full mailbox, what it may answer, and what strategy and answer decide |
+//! | `degradation` | what a handler is given about a failed connection, and what it may answer |
+//! | `data_segment` | how the slots of a publisher grow |
+//! | `port_owner` | the owner and the identity of a port |
+//! | `sequences` | the sequence number before the first, if a service numbers its messages |
+//! | `service_sizes` | the limits that a service sets for its ports, and how many slots a publisher needs there |
 //! | `connection_failure` | why a connection fails |
-//! | `port_error`, `create_error` | why a call of a port is refused; why a port or a domain isn't made |
-//! | `laws` | what the definitions come to, in other words |
-//! | `backpressure_handler`, `degradation_handler`, `samples_override` | objects that are handed in, or one fixed answer |
-//! | `handlers` | who decides for a publisher: its strategy and its handlers |
+//! | `port_error`, `create_error` | why a call of a port fails; why a port or a domain couldn't be created |
+//! | `laws` | theorems about the definitions |
+//! | `backpressure_handler`, `degradation_handler`, `samples_override` | handlers: an object that the caller passes, or one fixed answer |
+//! | `handlers` | the strategy and the handlers of a publisher |
 //!
-//! Each error displays as its type's name, `::` and the variant, an inner variant in parentheses, at any depth.
+//! Each error displays as its type's name, `::` and the variant's name; the name of an inner variant follows in parentheses, at
+//! any depth.
 //!
-//! First calls. `Handlers` asks a handler so, and decides.
+//! First calls. `Handlers` asks a handler in this way, and decides.
 //!
 //! ```
 //! let handler = BackpressureHandler::new_with(BackpressureAction::DiscardData);

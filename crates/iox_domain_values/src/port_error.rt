@@ -1,4 +1,4 @@
-//! Why a loan, a send or a receive is refused.
+//! Why a loan, a send or a receive fails.
 ghost use Rattle.std.specs.Prelude.{◌≡◌};
 ghost use Rattle.iox_domain_values.specs.ErrorTexts.{loan_text, send_text, receive_text};
 ghost use Rattle.iox_domain_values.specs.declared.port_error.SendError.TheVariants as sending;
@@ -7,24 +7,24 @@ ghost use Rattle.iox_domain_values.specs.declared.port_error.ReceiveError.TheVar
 use crate::connection_failure::{ConnectionFailure, ZeroCopyCreationError};
 use thiserror::Error;
 
-/// Why nothing is lent to be written.
+/// Why a loan couldn't be made.
 ///
 /// Ported from `iceoryx2::port::LoanError`.
 #[derive(Clone, Copy, Debug, PartialEq, Eq, Hash, Error)]
 #[error("{}", self.text())]
 pub enum LoanError {
-    /// No place is free, or a new segment isn't made.
+    /// No slot is free, or a new segment couldn't be opened.
     OutOfMemory,
-    /// As many loans are out as the publisher may have.
+    /// The publisher has as many loans as its limit allows.
     ExceedsMaxLoans,
-    /// The slice is longer than the publisher's room allows.
+    /// The slice is longer than the publisher's slots.
     ExceedsMaxLoanSize,
-    /// Something else failed. Never given.
+    /// Something else failed. Never returned.
     InternalFailure,
 }
 
 impl LoanError {
-    /// What it displays as.
+    /// The text that the error displays as.
     pub fn text(&self) -> &'static str
         ensures { result.now ≡ loan_text self.now }
     {
@@ -37,28 +37,28 @@ impl LoanError {
     }
 }
 
-/// Why a message isn't sent, or not to all.
+/// Why a message couldn't be sent, or not to all subscribers.
 ///
 /// Ported from `iceoryx2::port::SendError`.
 #[derive(Clone, Copy, Debug, PartialEq, Eq, Hash, Error)]
 #[error("{}", self.text())]
 pub enum SendError {
-    /// The publisher left.
+    /// The publisher is closed.
     ConnectionBrokenSinceSenderNoLongerExists,
-    /// A connection is corrupted. Never given.
+    /// A connection is corrupted. Never returned.
     ConnectionCorrupted,
-    /// Nothing was lent to send.
+    /// No slot could be loaned for the message.
     LoanError(LoanError),
-    /// A subscriber isn't connected. Nothing is sent.
+    /// A subscriber couldn't be connected. Nothing is sent.
     ConnectionError(ConnectionFailure),
-    /// A full mailbox was passed over whose handler wants the send to fail. The deliveries made stay.
+    /// The send skipped a full mailbox whose handler lets it fail. Mailboxes that took the message keep it.
     UnableToDeliver,
-    /// The publisher's numbers are used up: its last message has the number 2^64 - 1. The loan ends.
+    /// The publisher's sequence numbers are used up: its last message has the number 2^64 - 1. The loan is dropped.
     InternalError,
 }
 
 impl SendError {
-    /// What it displays as.
+    /// The text that the error displays as.
     pub fn text(&self) -> &'static str
         ensures { result.now ≡ send_text self.now }
     {
@@ -74,7 +74,7 @@ impl SendError {
     }
 }
 
-// What a send displays that lacks a loan.
+// The text of a send that couldn't loan a slot.
 fn send_text_of_loan(error: LoanError) -> &'static str
     ensures { result.now ≡ send_text (sending.LoanError error) }
 {
@@ -86,7 +86,7 @@ fn send_text_of_loan(error: LoanError) -> &'static str
     }
 }
 
-// What a send displays that lacks a connection.
+// The text of a send for which a connection failed.
 fn send_text_of_connection(failure: ConnectionFailure) -> &'static str
     ensures { result.now ≡ send_text (sending.ConnectionError failure) }
 {
@@ -120,20 +120,20 @@ impl From<ConnectionFailure> for SendError {
     }
 }
 
-/// Why nothing is received.
+/// Why no message could be received.
 ///
 /// Ported from `iceoryx2::port::ReceiveError`.
 #[derive(Clone, Copy, Debug, PartialEq, Eq, Hash, Error)]
 #[error("{}", self.text())]
 pub enum ReceiveError {
-    /// Some connection has data, and of each one that has the subscriber holds as many samples as it may.
+    /// Some connection has data, and of each such connection the subscriber holds as many samples as its limit allows.
     ExceedsMaxBorrows,
-    /// A publisher isn't connected.
+    /// A publisher couldn't be connected.
     ConnectionFailure(ConnectionFailure),
 }
 
 impl ReceiveError {
-    /// What it displays as.
+    /// The text that the error displays as.
     pub fn text(&self) -> &'static str
         ensures { result.now ≡ receive_text self.now }
     {

@@ -1,22 +1,23 @@
-//! Whose port it is, and which one.
+//! The owner and the identity of a port.
 
-/// Who a port belongs to.
+/// The owner of a port.
 #[derive(Clone, Copy, Debug, PartialEq, Eq)]
 pub struct PortOwner {
-    /// The number of who made the port: the ports, loans and samples of an owner are counted together.
+    /// The number of the owner, which in a hub is the factory that created the port. The ports, loans and samples of one owner are
+    /// counted together.
     pub number: u64,
-    /// The node that it was made in.
+    /// The node in which the port was created.
     pub node_id: u64,
 }
 
-/// Which port of which service it is.
+/// The identity of a port: its service, its number, its owner and its place.
 #[derive(Clone, Copy, Debug, PartialEq, Eq)]
 pub struct PortIdentity {
     /// The number of its service.
     pub service: u64,
     /// Its own number.
     pub number: u64,
-    /// Who it belongs to.
+    /// Its owner.
     pub owner: PortOwner,
     /// Its place in the list of the ports of its kind.
     pub place: usize,

@@ -1,38 +1,37 @@
-//! Who decides how many places a publisher gets.
+//! How many slots a publisher gets.
 ghost use Rattle.std.specs.Prelude.{◌≡◌, ◌≤◌, ℕ};
 ghost use Rattle.iox_domain_values.specs.OverrideAnswers.{Allowed, places};
 ghost use Rattle.iox_domain_values.specs.declared.samples_override.PreallocatedSamplesOverride.TheVariants as chosen;
 
-/// An object that decides how many places a publisher gets.
+/// An object that decides how many slots a publisher gets.
 ///
-/// An object names, for each number of places that are needed in the worst case, the numbers that it may answer, and a call keeps
-/// to them. What it remembers from call to call it keeps in cells.
+/// For each number of slots that the worst case needs, the object states which numbers it may answer (`allows`), and a call
+/// answers one of these. State that it keeps from call to call must be in cells.
 pub trait PreallocatedSamplesFn: Drop {
     ghost allows: { Self → ℕ → ℕ → Type 0 };
 
-    /// How many places, where so many are needed in the worst case.
+    /// How many slots the publisher gets if the worst case needs `worst_case` slots.
     fn call(&self, worst_case: usize) -> usize
         ensures { allows self.now worst_case result };
 }
 
-/// What decides how many places a publisher gets. It names, for each number of places that are needed in the worst case, the numbers
-/// that it may answer.
+/// What decides how many slots a publisher gets. For each number of slots that the worst case needs, it states which numbers it
+/// may answer.
 pub trait Overrides: Drop {
     ghost overrides: { Self → ℕ → ℕ → Type 0 };
 
-    /// A number that may be answered, where so many places are needed in the worst case. It may be 0, or above the worst
-    /// case.
+    /// A number that may be answered if the worst case needs `worst_case` slots. It may be 0, or above the worst case.
     fn number(&self, worst_case: usize) -> usize
         ensures { overrides self.now worst_case result };
 }
 
-/// Who decides how many places a publisher gets: as many as are needed in the worst case, a number, or an object that the
-/// caller made.
+/// How many slots a publisher gets: as many as the worst case needs, a fixed number, or what an object answers that the caller
+/// made.
 ///
 /// Ported from `iceoryx2::service::port_factory::publisher::PreallocatedSamplesOverride`.
 #[derive(Drop)]
 pub enum PreallocatedSamplesOverride {
-    /// As many as are needed in the worst case.
+    /// As many as the worst case needs.
     WorstCase,
     /// This number.
     Fixed(usize),
@@ -41,7 +40,7 @@ pub enum PreallocatedSamplesOverride {
 }
 
 impl PreallocatedSamplesOverride {
-    /// This number.
+    /// This number, each time.
     pub fn new_with(number: usize) -> Self
         ensures { result ≡ chosen.Fixed number }
     {
@@ -68,8 +67,8 @@ impl Overrides for PreallocatedSamplesOverride {
     }
 }
 
-/// How many places a publisher gets that needs so many in the worst case: a number that may be answered, but at least 1
-/// and at most the worst case.
+/// How many slots a publisher gets if the worst case needs `worst_case` slots: a number that `overriding` may answer, but at
+/// least 1 and at most the worst case.
 pub fn number_of_places<O: Overrides>(overriding: &O, worst_case: usize) -> usize
     requires { 1 ≤ worst_case }
     ensures number { (answer : ℕ) × O.overrides overriding.now worst_case answer × (result ≡ places worst_case answer) }
@@ -79,7 +78,7 @@ pub fn number_of_places<O: Overrides>(overriding: &O, worst_case: usize) -> usiz
     overriding.number(worst_case).clamp(1, worst_case)
 }
 
-/// What a publisher has where none is named: as many as are needed in the worst case.
+/// The choice of a publisher for which none is made: as many slots as the worst case needs.
 impl Default for PreallocatedSamplesOverride {
     ghost is_default = { λ made. made ≡ chosen.WorstCase };
 

@@ -1,32 +1,33 @@
-//! How much a service allows to its ports.
+//! The limits that a service sets for its ports.
 ghost use Rattle.std.specs.Prelude.{◌≡◌, ◌<◌, ◌^◌, IfSome};
 ghost use Rattle.iox_domain_values.specs.Sizes.{worst_case, within, buffer_of};
 
 use crate::create_error::SubscriberCreateError;
 
-/// How much a service allows to its ports. All ports of a service go by the same numbers.
+/// The limits that a service sets for its ports. They are the same for all ports of the service.
 #[derive(Clone, Copy)]
 pub struct ServiceSizes {
-    /// How many publishers there may be at once.
+    /// The maximum number of publishers at once.
     pub max_publishers: u32,
-    /// How many subscribers there may be at once.
+    /// The maximum number of subscribers at once.
     pub max_subscribers: u32,
-    /// How many messages of one publisher may wait for a subscriber at most.
+    /// The maximum number of messages of one publisher that wait for a subscriber.
     pub subscriber_max_buffer_size: u32,
-    /// How many samples of one connection a subscriber may hold.
+    /// The maximum number of samples of one connection that a subscriber holds.
     pub subscriber_max_borrowed_samples: u32,
-    /// How many of its last messages a publisher keeps for subscribers that come later.
+    /// How many of its last messages a publisher keeps for later subscribers.
     pub history_size: u32,
-    /// Whether a full mailbox drops its oldest message, in place of holding the publisher up.
+    /// Whether a full mailbox drops its oldest message instead of blocking the publisher.
     pub enable_safe_overflow: bool,
-    /// Whether messages have numbers.
+    /// Whether messages have sequence numbers.
     pub sequence_numbers: bool,
-    /// How many connections of a subscriber may wait to be read after their publishers left.
+    /// How many connections of closed publishers a subscriber keeps.
     pub expired_connections: u32,
 }
 
 impl ServiceSizes {
-    /// How many slots a publisher with so many loans needs, so that a loan never lacks one; None above 2^32 - 1.
+    /// How many slots a publisher with at most `max_loaned_samples` loans needs so that a loan always finds one; None if that
+    /// is above 2^32 - 1.
     pub fn worst_case(&self, max_loaned_samples: usize) -> Option<usize>
         ensures slots { result ≡ within (worst_case self.now max_loaned_samples) }
         ensures few { IfSome result (λ slots. slots < 2 ^ 32) }
@@ -43,10 +44,10 @@ impl ServiceSizes {
         }
     }
 
-    /// How many messages of one publisher may wait for a subscriber: as many as it names, at least 1, or as many as the service
-    /// allows where it names none.
+    /// How many messages of one publisher may wait for a subscriber: as many as it asks for, at least 1, or the service's limit
+    /// if it doesn't ask.
     ///
-    /// Refused with `BufferSizeExceedsMaxSupportedBufferSizeOfService` if it names more than the service allows.
+    /// The call fails with `BufferSizeExceedsMaxSupportedBufferSizeOfService` if the subscriber asks for more than that limit.
     pub fn buffer_size(&self, named: Option<usize>) -> Result<usize, SubscriberCreateError>
         ensures { result ≡ buffer_of named self.now }
     {

@@ -1,4 +1,4 @@
--- What a run with handlers is answered, in the words of the machine of `iox_machine`.
+-- What a run with handlers replies, in terms of the machine of `iox_machine`.
 use Rattle.std.specs.Prelude.{◌≡◌, ◌^◌, ◌<◌, Bool, false, List, length, map, Option, ◌++◌, drop}
 use Rattle.std.specs.List.{AllByRecursion}
 use Rattle.iox_hub_commands.specs.Command.declared.reply.Reply.{Reply}
@@ -23,8 +23,8 @@ use Rattle.iox_machine.specs.Choices.{chosen_by}
 use Rattle.iox_machine.specs.Run as machine
 use Rattle.iox_negotiate_machine.specs.Laws.{HaveOwnHashes}
 
--- The types are those of the messages; then what is a default value, who decides by fixed actions, who by handlers that are handed in, and
--- what anybody who decides may answer.
+-- The parameters: the types of the messages; which values are default values; the handlers that are made of fixed actions, or of handed-in
+-- handlers; and what a handler may answer.
 module _ {T U B D P : Type 0} (types : MessageTypeDetails) (is_default : T → Type 0)
     (fixed : BackpressureStrategy → Option BackpressureAction → DegradationAction → B)
     (handled : BackpressureStrategy → Option BackpressureAction → DegradationAction → Option P → Option D → B)
@@ -32,11 +32,10 @@ module _ {T U B D P : Type 0} (types : MessageTypeDetails) (is_default : T → T
     (decides : B → BackpressureInfo → BackpressureDecision → Type 0)
     (fixed_reader : DegradationAction → D)
     (reader_degrades : D → DegradationCause → DegradationInfo → DegradationAction → Type 0) where
-  -- What a hub replied to commands, where these handlers lay at their places at first, is what a new machine may answer where those were
-  -- handed in who were: to all commands, or, where the run stopped, to the first of them, where a run may stop. A command that doesn't
-  -- find a handler that it names is skipped, and the machine isn't asked it. So it is where the hub was new, no two services of the names
-  -- that are asked for share a hash, commands and their steps are fewer than 2 ^ 56, and whoever is made of fixed actions for a port
-  -- decides by these.
+  -- The replies of a new hub to commands with these handed-in handlers are ones that a new machine with these handlers may give: to all
+  -- commands, or, if the run stopped, to those before a command at which a run may stop. A command that doesn't find a handler that it
+  -- names is skipped, and the machine isn't given it. The premises: no two services of the names that are asked for share a hash, commands
+  -- and their actions of other nodes are fewer than 2 ^ 56, and handlers that are made of fixed actions decide by these.
   abbrev pub AnswersWithHandlers : HubConfig → List (HandledCommand T) → NumberedHub T U B D → List (Option (GivenHandler P D))
       → List (Reply T) → Bool → Type 0
   AnswersWithHandlers config commands old given replies stopped =

@@ -1,4 +1,4 @@
--- What a run with handlers comes to, in the words of the machine of `iox_machine`.
+-- Theorems about runs with handlers, in terms of the machine of `iox_machine`.
 use Rattle.std.specs.Prelude.{ℕ, ◌≡◌, ◌^◌, ◌<◌, Bool, true, List, length, map, Option}
 use Rattle.iox_hub_commands.specs.Command.declared.reply.Reply.{Reply}
 use Rattle.iox_hub_commands.specs.DescribeBase.declared.pattern.MessagingPattern.{MessagingPattern}
@@ -28,10 +28,10 @@ use Rattle.iox_machine.specs.Run as machine
 use Rattle.iox_machine.specs.State.{State, new_state}
 use Rattle.iox_negotiate_machine.specs.Laws.{HaveOwnHashes}
 
--- The terms of the hub are given, and who decides by handlers that are handed in.
+-- The parameters: the terms of the hub, and the handlers that are made of handed-in ones.
 module _ {T U B D P : Type 0} (terms : Terms T U B D)
     (handled : BackpressureStrategy → Option BackpressureAction → DegradationAction → Option P → Option D → B) where
-  -- Each run of a new hub that stops only where it may is answered as a new machine may answer.
+  -- Each run of a new hub that stops only where it may has replies that a new machine may give.
   abbrev pub HandledRunsAnswer : Type 0
   HandledRunsAnswer = (config : HubConfig) (commands : List (HandledCommand T))
       (old new : NumberedHub T U B D × List (Option (GivenHandler P D))) (replies : List (Reply T)) (stopped : Bool)
@@ -40,8 +40,8 @@ module _ {T U B D P : Type 0} (terms : Terms T U B D)
       → AnswersWithHandlers terms.types terms.is_default terms.fixed handled terms.degrades terms.decides terms.fixed_reader
       terms.reader_degrades config commands old.0 old.1 replies stopped
 
-  -- What a hub that replied to commands stands for is a state to which a new machine comes with the same replies, where those were handed
-  -- in who were. So what is so of each state that a run of the machine leads to, is so of what such a hub stands for.
+  -- A hub that replied to commands represents a state that a new machine, with the same handed-in handlers, reaches with the same replies.
+  -- So what holds of each state that a run of the machine reaches holds of the state that such a hub represents.
   abbrev pub StandsWithHandlers : HubConfig → List (HandledCommand T) → List (Option (GivenHandler P D)) → NumberedHub T U B D
       → List (Reply T) → Type 0
   StandsWithHandlers config commands given new replies =
@@ -55,7 +55,7 @@ module _ {T U B D P : Type 0} (terms : Terms T U B D)
       terms.degrades terms.decides terms.reader_degrades (names_in (map (λ command. without_places command) commands)) taken naming order
       new after
 
-  -- So it is with each run to its end, by the same premises.
+  -- After each run to its end, the hub represents such a state, under the same premises.
   abbrev pub HandledRunsStand : Type 0
   HandledRunsStand = (config : HubConfig) (commands : List (HandledCommand T))
       (old new : NumberedHub T U B D × List (Option (GivenHandler P D))) (replies : List (Reply T))

@@ -1,4 +1,4 @@
--- The definitions that contracts about commands with handlers cite.
+-- The definitions that contracts of commands with handlers cite.
 pub mod Places
 pub mod Steps
 pub mod Taking
@@ -12,7 +12,7 @@ pub mod RecordedCalls
 pub mod RecordedNames
 pub mod RecordedLaws
 pub mod Recording
--- The definitions that contracts of the names here cite, by the crates that have them.
+-- The definitions that contracts of re-exported names cite, by their crates.
 pub use Rattle.iox_hub_commands.specs.Delivery as Delivery
 pub use Rattle.iox_delivery_factories.specs as DeliveryFactories
 pub use Rattle.iox_hub_commands.specs.DescribeBase as DescribeBase

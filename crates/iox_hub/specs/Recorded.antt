@@ -1,4 +1,4 @@
--- What was asked of a recorded hub, and what it answered.
+-- What a recorded hub was asked, and what it answered.
 use Rattle.std.specs.Prelude.{◌^◌, ◌<◌, List, [], ◌∷◌, ◌++◌, length, Option}
 use Rattle.std.specs.List.{AllByRecursion}
 use Rattle.iox_hub_commands.specs.DomainValues.declared.backpressure.BackpressureAction.{BackpressureAction}
@@ -18,9 +18,8 @@ use Rattle.iox_hub_machine.specs.ArrivalLaws.{AnswersAsFixed, DecidesAsFixed}
 use Rattle.iox_hub_machine.specs.RunLaws.{all_asked, names_in}
 use Rattle.iox_negotiate_machine.specs.Laws.{HaveOwnHashes}
 
--- What was asked of a hub, in the words of commands, and what it answered to each; the ports, loans and samples, and the factories, that
--- its program holds, by the numbers of commands; the values of each message that was received; and how the hub was made: what tells it
--- apart, and how many connections of publishers that left it keeps for each subscriber.
+-- What the hub was asked, as commands, and its answer to each; the ports, loans and samples, and the factories, that its program holds, by
+-- the numbers of commands; the values of each received message; and the configuration of the hub.
 pub record Calls (T : Type 0) : Type 0 where
   pub asked : List (Command T)
   pub answers : List (Reply T)
@@ -29,18 +28,18 @@ pub record Calls (T : Type 0) : Type 0 where
   pub received : List (List T)
   pub config : HubConfig
 
--- What proofs know of a recorded hub: the calls of it, and the values that it has of the newest sample.
+-- What proofs know of a recorded hub: its calls, and the values of the newest sample.
 pub record HubRecord (T : Type 0) : Type 0 where
   pub calls : Calls T
   pub newest : List T
 
--- one call more, which was answered so; what the program holds is as it was
+-- The calls with one more and its answer; what the program holds is as it was.
 abbrev pub asked_too : {T : Type 0} → Command T → Reply T → Calls T → Calls T
 asked_too asked answer calls = record calls { asked = calls.asked ++ asked ∷ []; answers = calls.answers ++ answer ∷ [] }
 
--- What the machine's answers to calls stand on: no two services of the names that they ask for share a hash, they and the steps that
--- they name are fewer than 2 ^ 56, each message that was received fits in a vector, and who is made of fixed actions for a port decides by
--- these.
+-- The premises of the statement that the machine gives these answers: no two services of the names that are asked for share a hash, the
+-- calls and the actions of other nodes that they name are fewer than 2 ^ 56, each received message fits in a vector, and handlers that are
+-- made of fixed actions decide by these.
 abbrev pub AreFollowed : {T B D : Type 0} → (BackpressureStrategy → Option BackpressureAction → DegradationAction → B)
     → (B → DegradationCause → DegradationInfo → DegradationAction → Type 0) → (B → BackpressureInfo → BackpressureDecision → Type 0)
     → (DegradationAction → D) → (D → DegradationCause → DegradationInfo → DegradationAction → Type 0) → Calls T → Type 0

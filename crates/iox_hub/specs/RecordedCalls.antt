@@ -1,4 +1,4 @@
--- What the calls of a recorded hub are told as: commands, and answers to them.
+-- The calls of a recorded hub, as commands and the answers to them.
 use Rattle.std.specs.Prelude.{ℕ, ◌≡◌, ◌⊎◌, ◌^◌, ◌<◌, true, List, [], ◌∷◌, ◌++◌, length, Option, None, Some, Result, Ok, Err}
 use Rattle.std.specs.Global.{Vec}
 use Rattle.std.specs.Vec.{vec_items}
@@ -27,12 +27,13 @@ use Rattle.iox_negotiate_base.specs.declared.request.Opened.{Opened}
 use Rattle.iox_hub.specs.Recorded.{Calls, asked_too}
 use Rattle.iox_hub.specs.declared.recorded.named.Named.{Named}
 
--- what goes by a number goes by it still
+-- Each number that named something still names it.
 abbrev pub KeepNumbers : {V : Type 0} → NumberTable V → NumberTable V → Type 0
 KeepNumbers {V} old new = (number : ℕ) (held : V) → value_at old number ≡ Some held → value_at new number ≡ Some held
 
--- A service is as a node asked for it. It is the one of the hash of this name. What is agreed of it meets these options and attributes, and
--- its settings are some that can be asked for, within the limits; or it has just what a service of this name is created with for them.
+-- The service is as a node asked for it, and has the hash of this name. Either its agreement meets these options and attributes, and its
+-- settings are possible ones, within the limits; or the service is exactly as it is created with this name for these options and
+-- attributes.
 abbrev pub IsAsAsked : MessageTypeDetails → List ℕ → PublishSubscribeOptions → Required → Opened → Type 0
 IsAsAsked types name named required service =
     (service.description.service_hash ≡ service_hash_of pattern.PublishSubscribe name)
@@ -44,7 +45,7 @@ IsAsAsked types name named required service =
     ⊎ ((service.description.name ≡ name) × (service.description.settings ≡ settings_of types (options.PublishSubscribe named))
     × (service.description.attributes ≡ required.pairs)))
 
--- A subscriber received, or none stands. A sample that came goes by the next number, and is told with these values, if they fit in a
+-- A subscriber received, or there is none. A received sample gets the next number, and is recorded with these values, if they fit in a
 -- vector.
 abbrev pub IsReceived : {T U : Type 0} → List T → ℕ
     → Option (Result (Option (Named (Sample T U Slice))) ReceiveError) → Calls T → Calls T → Type 0
@@ -61,15 +62,16 @@ IsReceived values subscriber (Some (Ok None)) old new = new ≡ asked_too (comma
 IsReceived values subscriber (Some (Err why)) old new =
     new ≡ asked_too (command.Receive subscriber) (reply.Refused (refusal.Receive why)) old
 
--- The calls, with a command that was answered: what came is told and kept so, and why nothing came is told by this refusal. None where it
--- was skipped.
+-- The calls with one command and its answer: a success is recorded by `told` and `kept`, a failure as this refusal, and None as a command
+-- that was skipped.
 abbrev pub answered_as : {T S E : Type 0} → Option (Result S E) → Command T → (S → Reply T) → (E → Refusal) → (S → Calls T → Calls T)
     → Calls T → Calls T
 answered_as None asked told refused kept calls = asked_too asked reply.Skipped calls
 answered_as (Some (Ok came)) asked told refused kept calls = kept came (asked_too asked (told came) calls)
 answered_as (Some (Err why)) asked told refused kept calls = asked_too asked (reply.Refused (refused why)) calls
 
--- how a send is told: skipped where none may send, or none waits; to how many it went; that it waits; or why it was refused
+-- The reply to a send: skipped if no publisher may send, or no send is blocked; how many mailboxes took the message; blocked; or the
+-- refusal.
 abbrev pub told_send : {T U : Type 0} → Option (Result (Sent T U) SendError) → Reply T
 told_send None = reply.Skipped
 told_send (Some (Ok (sent.Delivered count))) = reply.Delivered count

@@ -40,8 +40,8 @@ use Rattle.iox_negotiate_table.specs.Describe.Within.{HasForm}
 use Rattle.iox_negotiate_table.specs.DescribeVerdict.PublishSubscribeClauses as publish_subscribe_clauses
 use Rattle.iox_negotiate_table.specs.DescribeVerdict.Verdict.{first_unmet}
 
--- A subscriber received a sample, and after other calls that sample is read. Where the machine may answer so to all of them from the first
--- one on, the values that are read are those that were received.
+-- A subscriber received a sample, and the sample is read after other calls. If the machine may answer so to all of them from the first one
+-- on, the values that are read are those that were received.
 abbrev pub ReadsAsReceived : {T : Type 0} → Choices T → Type 0
 ReadsAsReceived {T} choices = (types : MessageTypeDetails) (buffer : ℕ) (before meanwhile : List (Command T))
     (first told : List (Reply T)) (subscriber sample : ℕ) (values read : Vec T) → length first ≡ length before
@@ -49,7 +49,7 @@ ReadsAsReceived {T} choices = (types : MessageTypeDetails) (buffer : ℕ) (befor
     ((first ++ reply.Received sample values ∷ []) ++ told ++ reply.Values read ∷ [])
     → vec_items read ≡ vec_items values
 
--- What calls stand on, they stand on with one sample read more, if they are few enough.
+-- If the premises hold of the calls, they hold of them with one read more, if the calls are few enough.
 abbrev pub ReadsAreFollowed : (T : Type 0) → {B D : Type 0} → (BackpressureStrategy → Option BackpressureAction → DegradationAction → B)
     → (B → DegradationCause → DegradationInfo → DegradationAction → Type 0) → (B → BackpressureInfo → BackpressureDecision → Type 0)
     → (DegradationAction → D) → (D → DegradationCause → DegradationInfo → DegradationAction → Type 0) → Type 0
@@ -57,37 +57,38 @@ ReadsAreFollowed T fixed degrades decides fixed_reader reader_degrades = (calls 
     → AreFollowed fixed degrades decides fixed_reader reader_degrades calls → all_asked calls.asked + 1 < 2 ^ 56
     → AreFollowed fixed degrades decides fixed_reader reader_degrades (record calls { asked = calls.asked ++ command.Read sample ∷ [] })
 
--- What calls stand on but who decides: no two services of the names that they ask for share a hash, they and the steps that they name are
--- fewer than 2 ^ 56, and each message that was received fits in a vector.
+-- The premises without that about handlers: no two services of the names that are asked for share a hash, the calls and the actions of
+-- other nodes that they name are fewer than 2 ^ 56, and each received message fits in a vector.
 abbrev pub StandUndecided : {T : Type 0} → Calls T → Type 0
 StandUndecided calls = HaveOwnHashes (names_in calls.asked) × (all_asked calls.asked < 2 ^ 56)
     × AllByRecursion (λ values. length values < 2 ^ 63) calls.received
 
--- Who decides here is made of fixed actions, and decides by these: so calls stand on nothing else.
+-- If the premises without that about handlers hold, all premises hold: handlers of these types decide by the fixed actions of which they
+-- are made.
 abbrev pub DecidesForCalls : (T : Type 0) → {B D : Type 0} → (BackpressureStrategy → Option BackpressureAction → DegradationAction → B)
     → (B → DegradationCause → DegradationInfo → DegradationAction → Type 0) → (B → BackpressureInfo → BackpressureDecision → Type 0)
     → (DegradationAction → D) → (D → DegradationCause → DegradationInfo → DegradationAction → Type 0) → Type 0
 DecidesForCalls T fixed degrades decides fixed_reader reader_degrades = (calls : Calls T) → StandUndecided calls
     → AreFollowed fixed degrades decides fixed_reader reader_degrades calls
 
--- What was read under the hash of this name meets each clause of these options and attributes, and is within the limits of a description;
--- or it is just what is required.
+-- The description that was read under the hash of this name meets each clause of these options and attributes, and is within the limits of
+-- a description; or it is exactly what is required.
 abbrev pub IsMetOrMade : MessageTypeDetails → List ℕ → PublishSubscribeOptions → Required → Opened → Type 0
 IsMetOrMade types name named required service =
     IsMet (hash_of name (options.PublishSubscribe named))
     (λ given. first_unmet (publish_subscribe_clauses.clauses (required_publish_subscribe named types required) given)) service
     ⊎ (service.description ≡ agreed_of name (options.PublishSubscribe named) types required.pairs)
 
--- A service that is as a node asked for it, in the machine's words, is so in those of the code, if its description has the form of one:
--- that of every factory has.
+-- If a service is as a node asked for it, in the machine's terms, and its description has the form of one, as that of every factory has,
+-- then the service is so in the terms of the code.
 abbrev pub AsAskedIsMet : Type 0
 AsAskedIsMet = (types : MessageTypeDetails) (name : List ℕ) (named : PublishSubscribeOptions) (required : Required) (service : Opened)
     → HasForm service.description → IsAsAsked types name named required service → IsMetOrMade types name named required service
 
--- A sample has values that were sent. Among the commands, by their places, is one to receive that was answered with the sample, with these
--- values; and before that one that began their send: a put of them, or the send of a loan, which has just these values in the machine's
--- state before. It waited, went to so many, or didn't reach all. In the machine's state before the sample was received, the publisher that
--- sent them is one of the subscriber's own service.
+-- The sample has values that were sent. One of the commands receives the sample, and its answer has these values. An earlier command began
+-- their send: a put of them, or the send of a loan that has these values in the machine's state before it. That send was blocked, was
+-- delivered, or didn't reach all. In the machine's state before the receive, the publisher that sent them is of the subscriber's own
+-- service.
 pub record WasSentBefore {T : Type 0} (types : MessageTypeDetails) (choices : Choices T) (buffer sample : ℕ) (values : List T)
     (asked : List (Command T)) (answers : List (Reply T)) : Type 0 where
   pub received : ℕ

@@ -1,4 +1,4 @@
--- What ties a hub to what was asked of it, and what calls make of that. No clause that a caller reads cites this.
+-- How a hub relates to what it was asked, and how calls change that. No clause that a caller reads cites these definitions.
 use Rattle.std.specs.Prelude.{ℕ, ◌≡◌, ◌-◌, ◌^◌, ◌<◌, ◌&&◌, Bool, true, false, List, [], ◌∷◌, ◌++◌, length, nat_lt, Option, None, Some}
 use Rattle.std.specs.Prelude.{Result, Ok, Err, not, ◌==◌}
 use Rattle.iox_delivery.specs.Holding.{holds_message, loan_found, publisher_blocked}
@@ -54,7 +54,7 @@ use Rattle.iox_hub_commands.specs.declared.services.made.MadeFactory.{MadeFactor
 use Rattle.iox_hub.specs.Recorded.{Calls, asked_too}
 use Rattle.iox_hub_commands.specs.Terms.{Terms}
 
--- nothing was asked yet
+-- The record of a hub that wasn't asked anything yet.
 abbrev pub no_calls : {T : Type 0} → HubConfig → Calls T
 no_calls config = record {
   asked = [];
@@ -65,11 +65,11 @@ no_calls config = record {
   config = config;
 }
 
--- one call more, after which the program holds these ports, loans and samples
+-- The calls with one more, after which the program holds these ports, loans and samples.
 abbrev pub asked_with : {T : Type 0} → Made → Command T → Reply T → Calls T → Calls T
 asked_with made asked answer calls = record (asked_too asked answer calls) { made = made }
 
--- A sample of this number came: a command to receive was answered with it.
+-- A sample with this number was received: the answer to a receive reported it.
 pub record HasCome {T : Type 0} (sample : ℕ) (asked : List (Command T)) (answers : List (Reply T)) : Type 0 where
   pub before : List (Command T)
   pub first : List (Reply T)
@@ -81,79 +81,79 @@ pub record HasCome {T : Type 0} (sample : ℕ) (asked : List (Command T)) (answe
   pub are : asked ≡ before ++ command.Receive subscriber ∷ later
   pub answered : answers ≡ first ++ reply.Received sample values ∷ told
 
--- Each command was answered, and each sample that the program holds came.
+-- Each command has an answer, and each sample that the program holds was received.
 pub record HaveTold {T : Type 0} (samples : NumberTable MadeSample) (asked : List (Command T)) (answers : List (Reply T)) : Type 0 where
   pub long : length answers ≡ length asked
   pub came : (number : ℕ) (held : MadeSample) → value_at samples number ≡ Some held → HasCome number asked answers
 
--- Each message that was received fits in a vector.
+-- Each received message fits in a vector.
 abbrev pub AllFit : {T : Type 0} → List (List T) → Type 0
 AllFit received = AllByRecursion (λ values. length values < 2 ^ 63) received
 
 module _ {T : Type 0} where
-  -- how a send is told that may not be: skipped where none stands who may send, or no send waits to be tried again
+  -- The reply to a send that may not be made: skipped if no publisher may send, or no blocked send may be tried again.
   abbrev pub told_sent_if : {U : Type 0} → Option (Result (Sent T U) SendError) → Reply T
   told_sent_if None = reply.Skipped
   told_sent_if (Some answer) = told_sent answer
 
-  -- how what a send came to is told: to how many it went, None for one that waits
+  -- The reply to a send: how many mailboxes took the message, or blocked, if that is None.
   abbrev pub told_came : Option (Result (Option ℕ) SendError) → Reply T
   told_came None = reply.Skipped
   told_came (Some (Ok (Some count))) = reply.Delivered count
   told_came (Some (Ok None)) = reply.Blocked
   told_came (Some (Err why)) = reply.Refused (refusal.Send why)
 
--- A call is made if it may be; else nothing happens.
+-- A call is made if it may be; otherwise nothing happens.
 abbrev pub IsDoneIf : {A H : Type 0} → Bool → (H → A → H → Type 0) → H → Option A → H → Type 0
 IsDoneIf may does old None new = (may ≡ false) × (new ≡ old)
 IsDoneIf may does old (Some answer) new = (may ≡ true) × does old answer new
 
--- A call spends what it is handed if it may be made; else nothing happens, and that is handed back.
+-- A call spends what it is handed if it may be made; otherwise nothing happens, and that is handed back.
 abbrev pub IsDoneOrBack : {A W H : Type 0} → Bool → W → (H → A → H → Type 0) → H → Result A W → H → Type 0
 IsDoneOrBack may waits does old (Ok answer) new = does old answer new
 IsDoneOrBack may waits does old (Err back) new = (may ≡ false) × (back ≡ waits) × (new ≡ old)
 
--- the values of a sample in a hub; none where it isn't held
+-- The values of a sample in a hub; an empty list if the sample isn't held.
 abbrev pub values_there : {T U B D : Type 0} → Sample T U Slice → Hub T U B D → List T
 values_there sample hub = unwrap_or (payload_there sample hub) []
 
--- the values of the newest sample of a program in a hub; none where it isn't held
+-- The values of the program's newest sample in a hub; an empty list if the sample isn't held.
 abbrev pub newest_there : {T U B D : Type 0} → Calls T → Hub T U B D → List T
 newest_there calls hub = unwrap_or (values_under hub_ports (value_at calls.made.samples (calls.made.samples.next - 1)) hub) []
 
--- whether a sample is held, and its values fit in a vector
+-- Whether a sample is held, and its values fit in a vector.
 abbrev pub is_known : {T U B D : Type 0} → Sample T U Slice → Hub T U B D → Bool
 is_known sample hub = holds_message sample.port.number sample.taken (hub_ports sample.port.domain hub)
     && nat_lt (length (values_there sample hub)) (2 ^ 63)
 
--- whether what was received last, if anything was, is held and fits in a vector
+-- Whether the sample that was just received, if any, is held and fits in a vector.
 abbrev pub newest_is_known : {T U B D : Type 0} → Option (Result (Option (Sample T U Slice)) ReceiveError) → Hub T U B D → Bool
 newest_is_known None hub = true
 newest_is_known (Some (Ok (Some sample))) hub = is_known sample hub
 newest_is_known (Some (Ok None)) hub = true
 newest_is_known (Some (Err why)) hub = true
 
--- whether a loan is written, with so many values
+-- Whether a loan is written, with so many values.
 abbrev pub is_written_with : {T U : Type 0} → Option (Loan T U) → ℕ → Bool
 is_written_with loan count = is_written_loan loan && (length (unwrap_or (values_at loan) []) == count)
 
--- whether a loan may be sent: it is written, and no send of its publisher waits
+-- Whether a loan may be sent: it is written, and no send of its publisher is blocked.
 abbrev pub may_send : {T U H : Type 0} → (DomainId → H → Option (ServicePorts T U)) → PortId → ℕ → H → Bool
 may_send ports_of port slot home = is_written_loan (loan_found port.number slot (ports_of port.domain home))
     && not (publisher_blocked port.number (ports_of port.domain home))
 
--- The answer to a node that asked for a service: the number of its factory, or why there is none.
+-- The answer to a node that asked for a service: the number of its factory, or the refusal.
 abbrev pub told_opened : {E : Type 0} → (E → Refusal) → ℕ → Result MadeFactory E → Result ℕ Refusal
 told_opened refused next (Ok factory) = Ok next
 told_opened refused next (Err why) = Err (refused why)
 
--- the factories then: one that was made goes by the next number
+-- The factories after that answer: a new one has the next number.
 abbrev pub factories_opened : {E : Type 0} → FactoryTable → Result MadeFactory E → FactoryTable
 factories_opened table (Ok factory) = inserted table factory
 factories_opened table (Err why) = table
 
--- A node asks for a service in this way, if that node was made. Why there is none is told by this refusal; the factories are those that go
--- by numbers before.
+-- A node asks for a service in this way, if the node was made. A failure is reported as this refusal; the factories are those that had
+-- numbers before.
 abbrev pub OpensIf : {T U B D E : Type 0} → (E → Refusal) → ℕ
     → (FactoryTable → Hub T U B D → Result ℕ Refusal → FactoryTable → Hub T U B D → Type 0) → FactoryTable → Hub T U B D
     → Option (Result MadeFactory E) → Hub T U B D → Type 0
@@ -161,25 +161,25 @@ OpensIf refused node asks table old None new = (is_node node old.nodes ≡ false
 OpensIf refused node asks table old (Some answer) new = (is_node node old.nodes ≡ true)
     × asks table old (told_opened refused table.next answer) (factories_opened table answer) new
 
--- the calls, with the command of a node that asked for a service
+-- The calls with the command of a node that asked for a service.
 abbrev pub calls_opened : {T E : Type 0} → Command T → (E → Refusal) → Option (Result MadeFactory E) → Calls T → Calls T
 calls_opened asked refused None calls = asked_too asked reply.Skipped calls
 calls_opened asked refused (Some (Ok factory)) calls =
     record (asked_too asked (reply.FactoryMade calls.factories.next) calls) { factories = inserted calls.factories factory }
 calls_opened asked refused (Some (Err why)) calls = asked_too asked (reply.Refused (refused why)) calls
 
--- the calls, with the command that closes a factory
+-- The calls with the command that closes a factory.
 abbrev pub calls_closed : {T F : Type 0} → ℕ → Result (Unit {0}) (CloseError × Option F) → Calls T → Calls T
 calls_closed number answer calls =
     record (asked_too (command.Close number) (told_closed answer) calls) { factories = factories_then answer number calls.factories }
 
--- A service has just what a node created it with: these settings and attributes, under the hash of this name.
+-- The service is exactly as a node created it: with these settings and attributes, under the hash of this name.
 abbrev pub IsMadeAsAsked : MessageTypeDetails → List ℕ → PublishSubscribeOptions → List Attribute → Joined → Type 0
 IsMadeAsAsked types name named attributes service =
     (service.description.service_hash ≡ hash_of name (options.PublishSubscribe named)) × (service.description.name ≡ name)
     × (service.description.settings ≡ settings_of types (options.PublishSubscribe named)) × (service.description.attributes ≡ attributes)
 
--- A service under the hash of this name meets these options and attributes, within the limits of settings.
+-- The service under the hash of this name meets these options and attributes, and is within the limits of settings.
 abbrev pub IsMetAsAsked : MessageTypeDetails → List ℕ → PublishSubscribeOptions → Required → Joined → Type 0
 IsMetAsAsked types name named required service =
     (service.description.service_hash ≡ hash_of name (options.PublishSubscribe named))
@@ -188,7 +188,7 @@ IsMetAsAsked types name named required service =
     × (are_within_limits service.description.settings ≡ true)
 
 module _ {T U B D : Type 0} where
-  -- a hub with what its program holds by numbers
+  -- The hub with what its program holds, by number.
   abbrev pub numbered : Calls T → Hub T U B D → NumberedHub T U B D
   numbered calls hub = record {
     hub = hub;
@@ -197,10 +197,10 @@ module _ {T U B D : Type 0} where
     pledged = record { loans = 0; samples = 0 };
   }
 
--- The terms of the hub are given.
+-- The parameters: the terms of the hub.
 module _ {T U B D : Type 0} (terms : Terms T U B D) where
-  -- The calls were a run of the machine, and the hub stands for what that led to; it is as it was made, and this is true. So it is for any
-  -- names among which are those that were asked for, of which no two services share a hash.
+  -- The calls were a run of the machine, and the hub represents the state that the run reached; the hub has its configuration, and `fit` is
+  -- true. This holds for any names that include those that were asked for, and of which no two services share a hash.
   abbrev pub IsRun : Bool → Calls T → Hub T U B D → Type 0
   IsRun fit calls hub = (names : List (List ℕ)) → DecidesAsFixed terms.fixed terms.degrades terms.decides
       → AnswersAsFixed terms.fixed_reader terms.reader_degrades
@@ -209,8 +209,8 @@ module _ {T U B D : Type 0} (terms : Terms T U B D) where
       × (hub.expired_connection_buffer ≡ calls.config.expired_connection_buffer)
       × (fit ≡ true)
 
-  -- That, and the numbers of what the program holds rise; the hub is told apart as it was made; if this is true, each message that was
-  -- received fits in a vector; and what the program holds came.
+  -- `IsRun` holds; the numbers of what the program holds rise; the hub has the id of its configuration; if `fit` is true, each received
+  -- message fits in a vector; and each sample that the program holds was received.
   pub record IsRecorded (fit : Bool) (calls : Calls T) (hub : Hub T U B D) : Type 0 where
     pub rise : NumbersRise (numbered calls hub)
     pub id : hub.table.id ≡ calls.config.id

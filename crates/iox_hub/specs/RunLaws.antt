@@ -1,4 +1,4 @@
--- What a run of commands with handlers comes to, where they name none.
+-- What a run of commands with handlers is, if they name none.
 use Rattle.std.specs.Prelude.{◌≡◌, Bool, List, map, Result}
 use Rattle.std.specs.declared.alloc.AllocError.{AllocError}
 use Rattle.iox_hub_commands.specs.Command.declared.command.Command.{Command}
@@ -8,7 +8,7 @@ use Rattle.iox_hub_commands.specs.declared.numbered_hub.NumberedHub.{NumberedHub
 use Rattle.iox_hub.specs.declared.handled_command.HandledCommand.{HandledCommand}
 use Rattle.iox_hub.specs.declared.handled_command.HandledCommand.TheVariants as asked
 
--- A run of commands that name no handler is a run of the machine without handlers, and leaves all of them where they are.
+-- A run of commands that name no handler is a run without handlers, and leaves all handlers in their places.
 abbrev pub PlainRunsArePlain : {T U B D X : Type 0}
     → (HandledCommand T → NumberedHub T U B D × X → Result (Reply T) AllocError → NumberedHub T U B D × X → Type 0)
     → (Command T → NumberedHub T U B D → Result (Reply T) AllocError → NumberedHub T U B D → Type 0) → Type 0

@@ -1,4 +1,4 @@
--- The machine: what each command does to a hub and to the handlers that are left, and what it is replied.
+-- What each command does to a hub and to the handlers that are left, and what the reply is.
 use Rattle.std.specs.Prelude.{ℕ, ◌≡◌, List, Option, None, Some, Result}
 use Rattle.std.specs.declared.alloc.AllocError.{AllocError}
 use Rattle.iox_hub_commands.specs.Command.declared.port.PublisherOptions.{PublisherOptions}
@@ -25,14 +25,14 @@ use Rattle.iox_hub.specs.declared.given.GivenHandler.{GivenHandler}
 use Rattle.iox_hub.specs.declared.handled_command.HandledCommand.{HandledCommand}
 use Rattle.iox_hub.specs.declared.handled_command.HandledCommand.TheVariants as asked
 
--- the ports of the service of a factory, if there is one of publish-subscribe and its domain is here
+-- The ports of a factory's service, if there is a publish-subscribe factory and its domain is in the hub.
 abbrev pub ports_of_factory : {T U B D : Type 0} → Option Opened → Hub T U B D → Option (ServicePorts T U)
 ports_of_factory None hub = None
 ports_of_factory (Some opened) hub = hub_ports (domain_of_factory opened) hub
 
 module _ {T U B D P : Type 0} where
-  -- A publisher of the service of a factory comes, with the handlers that are named, and they are taken, be it refused or not. Where one of
-  -- them isn't there, or the ports of the service aren't, it is skipped, and nothing changes.
+  -- A publisher is created for the service of a factory with the named handlers, which are taken even if the publisher is refused. If one
+  -- of the handlers or the ports of the service don't exist, the command is skipped, and nothing changes.
   abbrev pub PublisherTakes : (U → Type 0)
       → (BackpressureStrategy → Option BackpressureAction → DegradationAction → Option P → Option D → B)
       → (B → DegradationCause → DegradationInfo → DegradationAction → Type 0)
@@ -48,8 +48,8 @@ module _ {T U B D P : Type 0} where
       MakesPublisher is_default (λ strategy action degrading. handled strategy action degrading at_full at_failure) degrades factory
       options old.0 answer new.0 × (new.1 ≡ fewer)
 
-  -- A subscriber of the service of a factory comes, with the handler that is named, and it is taken, be the subscriber refused or
-  -- not. Where no such handler is there, or the ports of the service aren't, it is skipped, and nothing changes.
+  -- A subscriber is created for the service of a factory with the named handler, which is taken even if the subscriber is refused. If the
+  -- handler or the ports of the service don't exist, the command is skipped, and nothing changes.
   abbrev pub SubscriberTakes : (D → DegradationCause → DegradationInfo → DegradationAction → Type 0) → Option D
       → Option (ServicePorts T U) → ℕ → SubscriberOptions → List (Option (GivenHandler P D))
       → NumberedHub T U B D × List (Option (GivenHandler P D)) → Reply T → NumberedHub T U B D × List (Option (GivenHandler P D)) → Type 0
@@ -58,8 +58,8 @@ module _ {T U B D P : Type 0} where
   SubscriberTakes degrades (Some handler) (Some ports) factory options fewer old answer new =
       MakesSubscriber (λ action. handler) degrades factory options old.0 answer new.0 × (new.1 ≡ fewer)
 
-  -- What each command does to a hub and to the handlers that are left, by their places, and what it is replied. A command that names no
-  -- handler does what `Step` says, and leaves them.
+  -- What each command does to a hub and to the handlers that are left in their places, and what its reply is. A command that names no
+  -- handler does what `Step` says, and leaves the handlers.
   abbrev pub HandledStep : Terms T U B D → (BackpressureStrategy → Option BackpressureAction → DegradationAction → Option P → Option D → B)
       → HandledCommand T → NumberedHub T U B D × List (Option (GivenHandler P D)) → Result (Reply T) AllocError → NumberedHub T U B D
       × List (Option (GivenHandler P D)) → Type 0

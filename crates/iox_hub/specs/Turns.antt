@@ -1,4 +1,4 @@
--- What of a run with handlers the machine is asked, what it answers, and who was handed in for which port.
+-- Which commands and replies of a run with handlers are the machine's, and which handlers were handed in for which port.
 use Rattle.std.specs.Prelude.{◌-◌, ◌==◌, Bool, true, ◌&&◌, List, [], ◌∷◌, map, filter, fold, Option}
 use Rattle.std.specs.Prelude.{None, Some, is_some, unwrap_or, option_and_then, slice_set, if◌then◌else◌}
 use Rattle.std.specs.Option.{option_map_or}
@@ -18,20 +18,20 @@ use Rattle.iox_hub.specs.declared.handled_command.HandledCommand.{HandledCommand
 use Rattle.iox_hub.specs.declared.handled_command.HandledCommand.TheVariants as asked
 use Rattle.iox_machine.specs.Choices.{Handed}
 
--- the command without the places that it names
+-- The command without the places that it names.
 abbrev pub without_places : {T : Type 0} → HandledCommand T → Command T
 without_places (asked.Plain command) = command
 without_places (asked.Publisher factory options at_full at_failure) = command.Publisher factory options
 without_places (asked.Subscriber factory options at_failure) = command.Subscriber factory options
 
--- A turn of a run: a command, its reply, and the handlers that lay at their places before.
+-- A turn of a run: a command, its reply, and the handlers that were in their places before.
 pub record Turn (T P D : Type 0) : Type 0 where
   pub command : HandledCommand T
   pub answer : Reply T
   pub given : List (Option (GivenHandler P D))
 
 module _ {T P D : Type 0} where
-  -- whether at each place that a command names a handler of that kind lies
+  -- Whether each place that the command names has a handler of that kind.
   abbrev pub finds_handlers : HandledCommand T → List (Option (GivenHandler P D)) → Bool
   finds_handlers (asked.Plain command) given = true
   finds_handlers (asked.Publisher factory options at_full at_failure) given =
@@ -39,8 +39,8 @@ module _ {T P D : Type 0} where
       && option_map_or (λ place. is_some (degradation_of (lies_at place given))) at_failure true
   finds_handlers (asked.Subscriber factory options at_failure) given = is_some (degradation_of (lies_at at_failure given))
 
-  -- The turns of a run, where these handlers lay at their places at first. A command that isn't skipped takes those at its places, which
-  -- are counted from 1.
+  -- The turns of a run that begins with these handlers in their places. A command that isn't skipped takes the handlers at its places,
+  -- which are counted from 1.
   abbrev pub turns : List (HandledCommand T) → List (Reply T) → List (Option (GivenHandler P D)) → List (Turn T P D)
   turns [] replies given = []
   turns (command ∷ commands) [] given = []
@@ -50,19 +50,19 @@ module _ {T P D : Type 0} where
         | other ↦ fold (λ left place. slice_set left (place - 1) None) given (places_of command)
       ])
 
-  -- what the machine is asked in turns: of each whose command finds the handlers that it names, the command without places
+  -- The commands that the machine is given: those of the turns that find the handlers that they name, without places.
   abbrev pub asked_in : List (Turn T P D) → List (Command T)
   asked_in all = map (λ turn. without_places turn.command) (filter (λ turn. finds_handlers turn.command turn.given) all)
 
-  -- what it answers there
+  -- The replies to the commands that the machine is given.
   abbrev pub answered_in : List (Turn T P D) → List (Reply T)
   answered_in all = map (λ turn. turn.answer) (filter (λ turn. finds_handlers turn.command turn.given) all)
 
 module _ {T B D P : Type 0}
     (handled : BackpressureStrategy → Option BackpressureAction → DegradationAction → Option P → Option D → B) where
-  -- Who was handed in for ports, by their numbers: each by the command of the turn where its number was told. A publisher's is made of the
-  -- handlers at its places, and of what the command names besides: without a strategy a send waits, and without an action a failed
-  -- connection is passed over with a warning. A subscriber's is the handler at its place.
+  -- The handlers that were handed in for ports, by port number: each by the command in whose reply the number was reported. A publisher's
+  -- is made of the handlers at its places, and of what the command names: without a strategy a send is blocked at a full mailbox, and
+  -- without an action a failed connection is skipped with a warning. A subscriber's is the handler at its place.
   abbrev pub handed_in : List (Turn T P D) → Handed B D
   handed_in [] = record { publishers = λ number. None; subscribers = λ number. None }
   handed_in (turn ∷ later) = elim turn.answer [

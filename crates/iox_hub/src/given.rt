@@ -1,23 +1,23 @@
-//! Handlers that are handed in, by their places.
+//! Handed-in handlers, by their places.
 ghost use Rattle.std.specs.Prelude.{◌≡◌, ◌++◌, [], ◌∷◌, Some, is_some, IsSome, IfOk, OnErr, length, option_copied};
 ghost use Rattle.iox_hub.specs.Places.{lies_at, emptied, emptied_if, named, backpressure_of, degradation_of};
 
 use std::alloc::{AllocError, Global};
 
-/// A handler that is handed in for a run. Which of the two it is, is its kind.
+/// A handler that is handed in for a run. Its variant is its kind.
 ///
-/// `P` decides at a full mailbox, `D` where a connection failed. This port's own.
+/// `P` decides at a full mailbox, `D` at a failed connection. Not in `iceoryx2`.
 #[derive(Drop)]
 pub enum GivenHandler<P, D> {
-    /// It is asked at a full mailbox.
+    /// A handler for full mailboxes.
     Backpressure(P),
-    /// It is asked where a connection failed.
+    /// A handler for failed connections.
     Degradation(D),
 }
 
 /// The handlers that are handed in for runs, by their places, counted from 1. A place is empty once its handler is taken.
 ///
-/// This port's own.
+/// Not in `iceoryx2`.
 #[derive(Drop)]
 pub struct GivenHandlers<P, D> {
     /// The places, in their order.
@@ -25,7 +25,7 @@ pub struct GivenHandlers<P, D> {
 }
 
 impl<P, D> GivenHandlers<P, D> {
-    /// No handlers. It takes no memory.
+    /// A value without handlers. It takes no memory.
     /// Example: `let mut given = GivenHandlers::new(alloc);`
     pub fn new(alloc: Global) -> Self
         ensures { result.places.items ≡ [] }
@@ -37,9 +37,9 @@ impl<P, D> GivenHandlers<P, D> {
 }
 
 impl<P: Drop, D: Drop> GivenHandlers<P, D> {
-    /// Hands a handler in, and answers its place, which is the next one.
+    /// Hands in a handler, and returns its place, which is the next one.
     ///
-    /// Fails only where an allocation fails: then nothing has changed, and the handler is dropped.
+    /// Fails only if an allocation fails; then nothing has changed, and the handler is dropped.
     /// Example: `let place = given.hand_in(GivenHandler::Degradation(handler))?;`
     pub fn hand_in(&mut self, handler: GivenHandler<P, D>) -> Result<u64, AllocError>
         ensures place { IfOk result (λ place. place ≡ length self.new.places.items) }
@@ -50,7 +50,7 @@ impl<P: Drop, D: Drop> GivenHandlers<P, D> {
         Ok(self.places.len() as u64)
     }
 
-    // What lies at a place, counted from 1.
+    // The handler at a place, counted from 1.
     fn at(&self, place: u64) -> Option<&GivenHandler<P, D>>
         ensures { option_copied result ≡ lies_at place self.now.places.items }
     {
@@ -60,7 +60,7 @@ impl<P: Drop, D: Drop> GivenHandlers<P, D> {
         self.places.get(place as usize - 1)?.as_ref()
     }
 
-    // Whether a handler that is asked at a full mailbox lies at the place that is named, or none is named.
+    // Whether the named place has a handler for full mailboxes, or no place is named.
     pub(crate) fn holds_backpressure(&self, place: Option<u64>) -> bool
         ensures { result ≡ is_some (named (λ lies. backpressure_of lies) place self.now.places.items) }
     {
@@ -70,7 +70,7 @@ impl<P: Drop, D: Drop> GivenHandlers<P, D> {
         }
     }
 
-    // Whether a handler that is asked where a connection failed lies at the place that is named, or none is named.
+    // Whether the named place has a handler for failed connections, or no place is named.
     pub(crate) fn holds_degradation(&self, place: Option<u64>) -> bool
         ensures { result ≡ is_some (named (λ lies. degradation_of lies) place self.now.places.items) }
     {
@@ -80,7 +80,7 @@ impl<P: Drop, D: Drop> GivenHandlers<P, D> {
         }
     }
 
-    // Takes what lies at a place, counted from 1.
+    // Takes the handler at a place, counted from 1.
     fn take(&mut self, place: u64) -> Option<GivenHandler<P, D>>
         requires { IsSome (lies_at place self.old.places.items) }
         ensures was { result ≡ lies_at place self.old.places.items }
@@ -89,7 +89,7 @@ impl<P: Drop, D: Drop> GivenHandlers<P, D> {
         self.places[place as usize - 1].take()
     }
 
-    // Takes the handler that is asked at a full mailbox from the place that is named, if one is.
+    // Takes the handler for full mailboxes from the named place, if a place is named.
     pub(crate) fn take_backpressure(&mut self, place: Option<u64>) -> Option<P>
         requires { IsSome (named (λ lies. backpressure_of lies) place self.old.places.items) }
         ensures was { named (λ lies. backpressure_of lies) place self.old.places.items ≡ Some result }
@@ -101,7 +101,7 @@ impl<P: Drop, D: Drop> GivenHandlers<P, D> {
         }
     }
 
-    // Takes the handler that is asked where a connection failed from the place that is named, if one is.
+    // Takes the handler for failed connections from the named place, if a place is named.
     pub(crate) fn take_degradation(&mut self, place: Option<u64>) -> Option<D>
         requires { IsSome (named (λ lies. degradation_of lies) place self.old.places.items) }
         ensures was { named (λ lies. degradation_of lies) place self.old.places.items ≡ Some result }

@@ -1,4 +1,4 @@
-//! Who decides for a publisher, made of handlers that are handed in.
+//! Handlers of a publisher that are made of handed-in ones.
 ghost use Rattle.std.specs.Prelude.{◌≡◌, Option, None, Some, refl};
 ghost use Rattle.std.specs.Option.{option_map, option_or, unwrap_or};
 ghost use Rattle.iox_hub_commands.specs.DomainValues.declared.backpressure.BackpressureAction.{BackpressureAction};
@@ -13,15 +13,15 @@ use iox_domain_values::{
 };
 use iox_hub_commands::PublisherHandlers;
 
-/// Who may decide for a publisher that a command made, and can be had of handlers that are handed in: of one that decides at a
-/// full mailbox, and of one that decides where a connection failed. In the place of each that there isn't an action stands.
+/// Handlers of a publisher that can be made of handed-in ones: of one that decides at a full mailbox, and of one that decides at a failed
+/// connection. In the place of a missing handler there is a fixed action.
 ///
-/// This port's own.
+/// Not in `iceoryx2`.
 pub trait TakesHandlers<P, D>: PublisherHandlers {
-    // who decides by this strategy and these handlers, and by these actions in the place of handlers that there aren't
+    // the handlers with this strategy and these handed-in handlers, and with these actions in the place of missing ones
     ghost handled: { BackpressureStrategy → Option BackpressureAction → DegradationAction → Option P → Option D → Self };
 
-    /// Who decides by this strategy and these handlers, and by these actions in the place of handlers that there aren't.
+    /// The handlers with this strategy and these handed-in handlers, and with these actions in the place of missing ones.
     /// Example: `Handlers::with_handlers(strategy, None, DegradationAction::Warn, Some(at_full), None)`
     fn with_handlers(
         strategy: BackpressureStrategy,
@@ -32,7 +32,7 @@ pub trait TakesHandlers<P, D>: PublisherHandlers {
     ) -> Self
         ensures { result ≡ handled strategy backpressure degradation at_full at_failure };
 
-    // without handlers it is who decides by the actions alone
+    // without handed-in handlers they are those that are made of the actions alone
     ghost unhandled: { (strategy : BackpressureStrategy) (action : Option BackpressureAction) (degrading : DegradationAction)
         → handled strategy action degrading None None ≡ Self.fixed strategy action degrading };
 }

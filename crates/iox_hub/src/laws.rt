@@ -1,4 +1,4 @@
-//! What runs come to, in other words than theirs. Each law is the contract of a function that does nothing.
+//! Theorems about runs: consequences of their contracts. Each is the contract of a function that does nothing.
 ghost use Rattle.iox_hub_commands.specs.CommandSteps.{Step};
 ghost use Rattle.iox_hub_commands.specs.Terms.{terms_of};
 ghost use Rattle.iox_hub.specs.HandledLaws.{HandledRunsAnswer, HandledRunsStand};
@@ -11,7 +11,7 @@ use iox_hub_commands::SubscriberHandler;
 use iox_hub_machine::runs::{decided_runs_go_on, new_hub_begins};
 use iox_queues_base::Words;
 
-/// A run of commands that name no handler is a run of `NumberedHub::run`, and leaves all handlers where they are.
+/// A run of commands that name no handler is a run of `NumberedHub::run`, and leaves all handlers in their places.
 pub fn plain_commands_take_nothing<
     T: Words + ZeroCopySend + Default,
     U: Copy + ZeroCopySend + Default,
@@ -26,11 +26,12 @@ pub fn plain_commands_take_nothing<
         (λ handlers. B.degrades handlers) (λ handlers. B.decides handlers) D.fixed (λ handler. D.degrades handler))) }
 {}
 
-/// What a new hub replies to commands with handlers is what a new machine may answer: to all commands, or, where the run stopped, to the
-/// first of them, where a run may stop. Of each port the machine knows by its number who was handed in for it, as the replies tell
-/// (`handed_in`). A command that doesn't find a handler that it names is skipped, and the machine isn't asked it. `IsRun` and `StopsInTime`
-/// are what `run` says of its replies. No two services of the names that are asked for may share a hash, commands and steps must be fewer
-/// than 2 ^ 56, and whoever is made of fixed actions for a port must decide by these, as `FixedHandlers` and `FixedDegradation` do.
+/// The replies of a new hub to commands with handlers are ones that a new machine may give: to all commands, or, if the run stopped, to
+/// those before a command at which a run may stop. For each port, by its number, the machine has the handlers that were handed in for it,
+/// as the replies say (`handed_in`). A command that doesn't find a handler that it names is skipped, and the machine isn't given it.
+/// `IsRun` and `StopsInTime` are what `run` ensures of its replies. The premises: no two services of the names that are asked for share a
+/// hash, commands and actions of other nodes are fewer than 2 ^ 56, and handlers that are made of fixed actions decide by these, as
+/// `FixedHandlers` and `FixedDegradation` do.
 pub fn runs_with_handlers_answer<
     T: Words + ZeroCopySend + Default,
     U: Copy + ZeroCopySend + Default,
@@ -46,8 +47,8 @@ pub fn runs_with_handlers_answer<
     decided_runs_go_on::<T, U, B, D>();
 }
 
-/// What a hub that replied to all commands stands for is a state to which a new machine comes with the same replies, by the same premises:
-/// what is so of each state that a run of the machine leads to, is so of what such a hub stands for, whoever was handed in.
+/// A hub that replied to all commands represents a state that a new machine reaches with the same replies, under the same premises. So what
+/// holds of each state that a run of the machine reaches holds of the state that such a hub represents, whichever handlers were handed in.
 pub fn runs_with_handlers_stand<
     T: Words + ZeroCopySend + Default,
     U: Copy + ZeroCopySend + Default,

@@ -1,28 +1,28 @@
-//! The crate that programs name: all that one of publish and subscribe needs, by the modules of iceoryx2, and runs of commands with
-//! handlers that are handed in.
+//! The crate that a program depends on: all that publish-subscribe needs, by the modules of iceoryx2, and runs of commands with handed-in
+//! handlers.
 //!
-//! A command that makes a port names handlers by their places, and takes them.
+//! A command that creates a port names handlers by their places, and takes them.
 //!
 //! | Module | What it has |
 //! |---|---|
 //! | `prelude` | what a first program needs |
-//! | `node` | nodes, and the hub that keeps them with all services in one value |
+//! | `node` | nodes, and the hub that contains them with all services in one value |
 //! | `service` | names, attributes, descriptions, builders, open services, storages for them, domains, and builders of ports |
-//! | `port` | publishers and subscribers, what they take and answer, and who decides for them |
-//! | `sample_mut_uninit`, `sample_mut`, `sample` | a loan that is to be written, one that is written, and a message that was received |
+//! | `port` | publishers and subscribers, the types of their calls, and their handlers |
+//! | `sample_mut_uninit`, `sample_mut`, `sample` | a loan that is still to be written, a written loan, and a received message |
 //! | `slice` | publishers, subscribers, loans and messages of slices |
 //! | `container` | vectors, strings, queues, options, maps, semantic strings, byte cells |
 //! | `lock_free` | sets of indices, containers of members, queues and bit sets |
-//! | `given` | handlers that are handed in, by their places |
-//! | `handlers` | who decides for a publisher, made of such handlers |
-//! | `handled_command` | what may be asked |
-//! | `making` | ports come, with the handlers that are named |
+//! | `given` | handed-in handlers, by their places |
+//! | `handlers` | handlers of a publisher that are made of handed-in ones |
+//! | `handled_command` | commands that may name handlers |
+//! | `making` | how ports are created with the handlers that are named |
 //! | `stepping` | one command, and its reply |
 //! | `running` | a list of commands |
-//! | `recorded` | a hub of which proofs know what was asked of it: typed calls that say their commands |
-//! | `laws` | what a run comes to in other words |
+//! | `recorded` | a hub whose proofs know what it was asked: typed calls that say their commands |
+//! | `laws` | theorems about runs |
 //!
-//! Its `specs/` hand on the definitions that contracts of these names cite: `Rattle.iox_hub.specs.Delivery`, `Domain` and others.
+//! Its `specs/` re-export the definitions that contracts of these names cite: `Rattle.iox_hub.specs.Delivery`, `Domain` and others.
 //!
 //! First calls: a hub with a node, and a publisher of a service.
 //!
@@ -38,7 +38,7 @@
 //! let publisher = builder.create(alloc, &mut hub)?;
 //! ```
 //!
-//! Of commands, on a hub of `iox_hub_commands` whose ports boxed handlers may decide for:
+//! First commands, on a hub of `iox_hub_commands` whose ports may have boxed handlers:
 //!
 //! ```
 //! let mut given = GivenHandlers::new(alloc);

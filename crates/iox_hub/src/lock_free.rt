@@ -1,4 +1,4 @@
-//! Sets of indices, containers of members, queues and bit sets; most have a form that threads share.
+//! Sets of indices, containers of members, queues and bit sets; most have a form that threads can share.
 pub use iox_index::{
     Container, ContainerAddFailure, ContainerHandle, ContainerRemoveError, ContainerState,
     FixedSizeContainer, FixedSizeUniqueIndexSet, Member, OwnerId, OwnerIdNewError, ReleaseMode,

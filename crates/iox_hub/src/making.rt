@@ -1,4 +1,4 @@
-//! Ports come, with the handlers that are named.
+//! How ports are created with the handlers that are named.
 ghost use Rattle.std.specs.Prelude.{◌≡◌, ◌+◌, ◌<◌, ◌^◌, Some, is_some, IfSome};
 ghost use Rattle.std.specs.Option.{option_map};
 ghost use Rattle.iox_hub_commands.specs.Naming.{publisher_handlers};
@@ -18,8 +18,8 @@ use iox_domain_values::{Decides, DegradationAction, Degrades, PortOwner};
 use iox_hub_commands::NumberedHub;
 use std::alloc::Global;
 
-// The domain of the factory that goes by a number, and whose its ports are; None where none of publish-subscribe does, or its domain isn't
-// here.
+// The domain of the factory with this number, and the owner of its ports; None if the number has no publish-subscribe factory, or its
+// domain isn't in the hub.
 fn place_here<T: Copy, U: Copy, B: Decides + Degrades, D: Degrades>(
     hub: &NumberedHub<T, U, B, D>,
     factory: u64,
@@ -36,7 +36,7 @@ fn place_here<T: Copy, U: Copy, B: Decides + Degrades, D: Degrades>(
     }
 }
 
-// Who decides for a publisher: these handlers, and the actions that the command names where there are none.
+// The handlers of a publisher: the given ones, and the actions that the command names in the place of missing ones.
 fn publisher_handlers<P, D, B: TakesHandlers<P, D>>(
     options: &PublisherOptions,
     at_full: Option<P>,
@@ -57,9 +57,9 @@ fn publisher_handlers<P, D, B: TakesHandlers<P, D>>(
     )
 }
 
-/// A publisher of the factory's service comes, and takes the handlers that are named by their places: of one that is asked at a
-/// full mailbox the first, of one that is asked where a connection failed the second. Skipped, and nothing happens, where a
-/// handler that is named isn't there, no factory of publish-subscribe goes by the number, or its domain isn't here.
+/// Creates a publisher for the factory's service, and takes the handlers that are named by their places: the first for full mailboxes, the
+/// second for failed connections. Skipped, and nothing happens, if a named handler doesn't exist, if the number has no publish-subscribe
+/// factory, or if the factory's domain isn't in the hub.
 pub(crate) fn publisher<T: Copy, U: Copy + Default, B: TakesHandlers<P, D>, D: Degrades, P: Drop>(
     hub: &mut NumberedHub<T, U, B, D>,
     alloc: Global,
@@ -94,8 +94,8 @@ pub(crate) fn publisher<T: Copy, U: Copy + Default, B: TakesHandlers<P, D>, D: D
     hub.publisher_with(alloc, place.0, place.1, options, handlers)
 }
 
-/// A subscriber of the factory's service comes, and takes the handler that is asked where a connection failed, by its place. Skipped, and
-/// nothing happens, where no such handler is there, no factory of publish-subscribe goes by the number, or its domain isn't here.
+/// Creates a subscriber for the factory's service, and takes the handler for failed connections, by its place. Skipped, and nothing
+/// happens, if there is no such handler, if the number has no publish-subscribe factory, or if the factory's domain isn't in the hub.
 pub(crate) fn subscriber<T: Copy, U: Copy, B: Decides + Degrades, D: Degrades, P: Drop>(
     hub: &mut NumberedHub<T, U, B, D>,
     alloc: Global,

@@ -1,4 +1,4 @@
-//! Ports of publish-subscribe: publishers and subscribers as values, what they take and answer, and who may decide for them.
+//! Ports of publish-subscribe: publishers and subscribers as values, the types of their calls, and their handlers.
 pub mod publisher;
 pub mod subscriber;
 

@@ -1,6 +1,6 @@
-//! What a first program of publish and subscribe needs.
+//! What a first publish-subscribe program needs.
 //!
-//! Ports of slices have the names of those of single values, so they are named by their module: `slice::Publisher`.
+//! Ports of slices have the same names as those of single values, so they are named with their module: `slice::Publisher`.
 //!
 //! ```
 //! use iox_hub::prelude::*;

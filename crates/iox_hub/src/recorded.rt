@@ -1,13 +1,13 @@
-//! A hub that records what is asked of it, and what it answers, for proofs alone: both are a run of the machine (`docs/MACHINE.md`).
+//! A hub that records what it is asked and what it answers, for proofs alone: both are a run of the machine (`docs/MACHINE.md`).
 //!
 //! | Module | What it has |
 //! |---|---|
-//! | `laws` | what it comes to in other words |
-//! | `loans` | loans are lent, written, given up and sent |
-//! | `named` | ports, factories, loans and samples with the numbers by which the machine has them |
+//! | `laws` | theorems about recorded hubs |
+//! | `loans` | how loans are made, written, dropped and sent |
+//! | `named` | ports, factories, loans and samples with their numbers in the machine |
 //! | `recorded_hub` | the hub |
 //!
-//! At run time it is a hub, and nothing more: neither record nor numbers take memory. Messages are slices.
+//! At run time it is just a hub: neither record nor numbers take memory. Messages are slices.
 //!
 //! First calls:
 //!

@@ -24,16 +24,16 @@ use iox_hub_commands::{NumberedHub, RunReport, SubscriberHandler};
 use iox_queues_base::Words;
 use std::alloc::Global;
 
-/// Carries out commands, one after another, once there is room for all replies. Those that make ports take the handlers that they name by
-/// their places; those that no port took are left in their places.
+/// Carries out commands, one after the other, once there is capacity for all replies. Commands that create ports take the handlers that
+/// they name by their places; all other handlers are left in their places.
 ///
-/// It stops before the first command, where an allocation fails for that room, and then nothing has changed; or at a command
-/// that receives or reads, where an allocation fails for the values of its reply, and those before it are replied to. It makes
-/// no room for numbers: each port made that when it came.
+/// It stops before the first command if an allocation fails for that capacity, and then nothing has changed; or at a command that receives
+/// or reads, if an allocation fails for the values of its reply, and then those before it have their replies. It makes no capacity for
+/// numbers: each port made that when it was created.
 ///
-/// What a new hub replies is what a new machine may answer (`docs/MACHINE.md`), for whose ports those decide who were handed in. That is
-/// where no two services of the names that are asked for share a hash, commands and steps are fewer than 2 ^ 56, and who is made of
-/// actions decides by these.
+/// The replies of a new hub are ones that a new machine with the same handed-in handlers may give (`docs/MACHINE.md`). This holds if no two
+/// services of the names that are asked for share a hash, commands and actions of other nodes are fewer than 2 ^ 56, and handlers that are
+/// made of fixed actions decide by these.
 /// Example: `let report = run(&mut hub, alloc, commands, &mut given);`
 pub fn run<
     T: Words + ZeroCopySend + Default,
@@ -61,9 +61,10 @@ pub fn run<
     ensures grows { GrowsOn hub.old.hub hub.new.hub }
     ensures agreed { HaveGrown hub.old.hub.services.domains → AreAsAgreed hub.new.hub.services.domains }
     ensures one_agreement { AreOfOneAgreement hub.old.factories.made hub.old.hub → AreOfOneAgreement hub.new.factories.made hub.new.hub }
-    // Just the places that commands name which are replied to, and not skipped, are emptied; each held a handler, and no two are the same.
+    // Exactly the places are emptied that were named by commands that have a reply and weren't skipped; each had a handler, and no place
+    // was named twice.
     ensures once { TakesOnce (taken commands.entry.items result.replies.items) given.old.places.items given.new.places.items }
-    // What a new hub replies is what a new machine may answer, where those were handed in who were, by the premises in the definition.
+    // The replies of a new hub are ones that a new machine with the same handed-in handlers may give, by the premises in the definition.
     ensures answers { (config : HubConfig) → AnswersWithHandlers (types_of T.name T.size T.alignment U.name U.size U.alignment) T.is_default
         B.fixed (λ strategy action degrading at_full at_failure. B.handled strategy action degrading at_full at_failure)
         (λ handlers. B.degrades handlers) (λ handlers. B.decides handlers) D.fixed (λ handler. D.degrades handler) config
@@ -73,7 +74,7 @@ pub fn run<
     carry_out_all(hub, alloc, commands, given)
 }
 
-// The same, without what that comes to in other words.
+// Carries out the commands, with the run alone as contract, not its consequences.
 fn carry_out_all<
     T: Words + ZeroCopySend + Default,
     U: Copy + ZeroCopySend + Default,

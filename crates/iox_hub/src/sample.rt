@@ -1,2 +1,2 @@
-//! A message that was received.
+//! A received message.
 pub use iox_delivery::Sample;

@@ -1,2 +1,2 @@
-//! A loan that is written, and may be sent.
+//! A written loan, which may be sent.
 pub use iox_delivery::SampleMut;

@@ -1,2 +1,2 @@
-//! A loan that is to be written.
+//! A loan that is still to be written.
 pub use iox_delivery::SampleMutUninit;

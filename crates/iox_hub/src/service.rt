@@ -1,4 +1,4 @@
-//! Services: how they are named and described, how nodes agree on one, where that is stored, and the domain that keeps the ports of one.
+//! Services: how they are named and described, how nodes agree on one, where that is stored, and the domain that contains the ports of one.
 pub mod port_factory;
 pub mod static_config;
 

@@ -19,13 +19,13 @@ use iox_hub_commands::{NumberedHub, SubscriberHandler};
 use iox_queues_base::Words;
 use std::alloc::{AllocError, Global};
 
-/// Carries out one command, and answers the reply to it: as `NumberedHub::step` does where it names no handler. A port takes the handlers
-/// that its command names by their places, also where it is then refused, and they are dropped.
+/// Carries out one command, and returns the reply to it: as `NumberedHub::step` does if it names no handler. A port takes the handlers that
+/// its command names by their places; if the port is then refused, they are dropped.
 ///
-/// A command is skipped, and nothing happens, also where a place doesn't exist, or is empty, or has a handler of the other kind.
-/// The handlers that a skipped command names stay where they are.
+/// A command is also skipped, and nothing happens, if a place doesn't exist, is empty, or has a handler of the other kind. The handlers
+/// that a skipped command names stay in their places.
 ///
-/// Fails as `NumberedHub::step` does, and never where a handler is named.
+/// Fails as `NumberedHub::step` does, and never if a handler is named.
 /// Example: `let reply = step(&mut hub, alloc, HandledCommand::Plain(Command::Node), &mut given)?;`
 pub fn step<
     T: Words + ZeroCopySend + Default,
@@ -56,7 +56,7 @@ pub fn step<
     carry_out(hub, alloc, command, given)
 }
 
-// The same, without what it comes to in other words.
+// Carries out one command, with the step alone as contract, not its consequences.
 fn carry_out<
     T: Words + ZeroCopySend + Default,
     U: Copy + ZeroCopySend + Default,

@@ -1,10 +1,10 @@
--- Whether the same is agreed.
+-- Whether two agreements on a publish-subscribe service are the same.
 use Rattle.std.specs.Prelude.{◌==◌, ◌&&◌, Bool}
 use Rattle.std.specs.Bool.{beq}
 use Rattle.iox_domain.specs.DescribeBase.Compatible.{same_detail}
 use Rattle.iox_domain.specs.DescribeSettings.declared.static_config.publish_subscribe.StaticConfig.{StaticConfig}
 
--- whether two publish-subscribe settings are the same, each of them
+-- Whether two publish-subscribe settings are the same in each field; of the type details each is compared, too.
 abbrev pub same_agreement : StaticConfig → StaticConfig → Bool
 same_agreement a b =
     beq a.enable_safe_overflow b.enable_safe_overflow

@@ -1,4 +1,4 @@
--- What values by their numbers end as, once a `&mut` into them has ended.
+-- What a list of values by number is, once a `&mut` to one of its values has ended.
 use Rattle.std.specs.Prelude.{ℕ, List, Option}
 use Rattle.std.specs.Borrow.{Fml, Lends, LendsIf, MutBor, RattleType}
 use Rattle.std.specs.BTreeMap.{is_at}
@@ -6,10 +6,11 @@ use Rattle.std.specs.Map.{set_value}
 use Rattle.std.specs.Ordering.{nat_cmp}
 use Rattle.iox_hub_base.specs.contracts.by_number.ByNumber.{the_row}
 
--- what is last behind the reference is the value of the number, which has one
+-- The number has a value, and once the reference has ended its value is the one that was last behind the reference.
 abbrev pub LendsStanding : (X : RattleType) → MutBor (List (ℕ × X.Denot)) → ℕ → MutBor X.Denot → Fml
 LendsStanding X lent number answer = Lends (the_row X) X lent answer (set_value (is_at (nat_cmp number)) lent.now)
 
--- what is last behind the reference is the value of the number; where it had none nothing has changed
+-- Once the reference has ended, the number's value is the one that was last behind the reference. If the number had none, nothing has
+-- changed.
 abbrev pub LendsUnder : (X : RattleType) → MutBor (List (ℕ × X.Denot)) → ℕ → Option (MutBor X.Denot) → Fml
 LendsUnder X lent number answer = LendsIf (the_row X) X lent answer (set_value (is_at (nat_cmp number)) lent.now) lent.now

@@ -1,4 +1,4 @@
--- A factory of a hub is closed.
+-- Closing a factory of a hub.
 use Rattle.std.specs.Prelude.{ℕ, ◌≡◌, ◌-◌, Bool, true, false, List, Option, None, Some, Result, Ok, Err, nat_lt, nat_le, if◌then◌else◌}
 use Rattle.iox_delivery_factories.specs.Domain.Kept.{kept, forgotten}
 use Rattle.iox_delivery_factories.specs.Domain.Living.{living}
@@ -15,38 +15,39 @@ use Rattle.iox_negotiate_table.specs.Sights.{Sight}
 use Rattle.iox_hub_base.specs.Hubs.{factories_of}
 use Rattle.iox_hub_base.specs.declared.hub.Hub.{Hub}
 
--- a service has one factory at most
+-- Whether a service has at most one factory.
 abbrev pub is_last : ℕ → List (ℕ × ℕ) → Bool
 is_last number counts = nat_le (factories_of number counts) 1
 
--- whose ports, loans and samples keep a factory from being closed: its own, and with the last factory of the service those of all
+-- Whose ports, loans and samples keep a factory from being closed: those of the factory itself, or all if it is the service's last factory.
 abbrev pub who_counts : Bool → ℕ → Option ℕ
 who_counts true owner = None
 who_counts false owner = Some owner
 
--- a domain that is out keeps a factory from being closed, and one that is here while something lives in it
+-- Whether a service keeps a factory from being closed: its domain is out, or something of this owner lives in its domain.
 abbrev pub lives_in : {T U B D : Type 0} → Option ℕ → Option (Presence T U B D) → Bool
 lives_in owner None = false
 lives_in owner (Some (Here domain)) = nat_lt 0 (living owner domain.state.ports)
 lives_in owner (Some (Out agreed)) = true
 
--- something keeps a factory from being closed
+-- Whether something keeps this factory from being closed.
 abbrev pub in_use : {T U B D : Type 0} → ℕ → ℕ → Hub T U B D → Bool
 in_use number owner hub = lives_in (who_counts (is_last number hub.factory_counts) owner) (presence_of number hub.services.domains)
 
--- one factory of a service less; with the last its domain ends
+-- The hub with one factory fewer of the service. With the last factory the service's domain ends.
 abbrev pub less_one : {T U B D : Type 0} → ℕ → Hub T U B D → Hub T U B D
 less_one number hub =
     if is_last number hub.factory_counts then record hub
     { factory_counts = forgotten number hub.factory_counts; services = without_service number hub.services }
     else record hub { factory_counts = kept number (factories_of number hub.factory_counts - 1) hub.factory_counts }
 
--- what is answered of a factory that is spent
+-- The reply once the table has closed a factory: the factory isn't handed back.
 abbrev pub spent : {F : Type 0} → Result (Unit {0}) CloseError → Result (Unit {0}) (CloseError × Option F)
 spent (Ok done) = Ok tt
 spent (Err error) = Err (error, None)
 
--- A factory is closed in the table, and its service has one less; while it is in use it is handed back, and nothing has changed.
+-- While the factory is in use, it is handed back with `StillInUse`, and nothing changes. Otherwise the table closes the factory, and its
+-- service has one factory fewer.
 abbrev pub ClosesIf : {T U B D F : Type 0} → Bool → Membership → F → Hub T U B D → Result (Unit {0}) (CloseError × Option F)
     → Hub T U B D → Type 0
 ClosesIf true member factory old result new = (result ≡ Err (StillInUse, Some factory)) × (new ≡ old)
@@ -55,7 +56,7 @@ ClosesIf false member factory old result new = (closed : Result (Unit {0}) Close
     closed) new.table
     × (result ≡ spent closed) × (new ≡ less_one member.service.number (record old { table = new.table }))
 
--- a factory of a hub is closed
+-- A call of `close`: its result for this factory, and the hub before and after it.
 abbrev pub Closes : {T U B D F : Type 0} → Membership → ℕ → F → Hub T U B D → Result (Unit {0}) (CloseError × Option F) → Hub T U B D
     → Type 0
 Closes member owner factory old result new = ClosesIf (in_use member.service.number owner old) member factory old result new

@@ -1,4 +1,4 @@
--- Nodes of others act on the services of a hub.
+-- Actions of other nodes on the services of a hub.
 use Rattle.std.specs.Prelude.{◌≡◌, List, Result, Ok, Err}
 use Rattle.std.specs.declared.alloc.AllocError.{AllocError}
 use Rattle.iox_command.specs.declared.refusal.HubError.{HubError}
@@ -9,16 +9,16 @@ use Rattle.iox_negotiate_table.specs.Stepped.{ActsAll}
 use Rattle.iox_negotiate_table.specs.declared.step.ForeignStep.{ForeignStep}
 use Rattle.iox_hub_base.specs.declared.hub.Hub.{Hub}
 
--- what steps came to: they were done, or one found no memory
+-- The reply to a list of actions: they were done, or one ran out of memory.
 abbrev pub told : Result (Unit {0}) AllocError → Result (Unit {0}) HubError
 told (Ok done) = Ok tt
 told (Err lacking) = Err OutOfMemory
 
--- the steps are done in turn, up to the first that finds no memory
+-- The actions are done one after the other, up to the first that runs out of memory.
 abbrev pub ActsInTurn : ServiceHash → List ForeignStep → Contents → Result (Unit {0}) HubError → Contents → Type 0
 ActsInTurn hash steps old result new = (happened : Result (Unit {0}) AllocError) × ActsAll hash steps old happened new
     × (result ≡ told happened)
 
--- the steps are done on the table of a hub, and all else stays
+-- The actions are done on the table of the hub, and all else stays.
 abbrev pub ActsOn : {T U B D : Type 0} → ServiceHash → List ForeignStep → Hub T U B D → Result (Unit {0}) HubError → Hub T U B D → Type 0
 ActsOn hash steps old result new = ActsInTurn hash steps old.table result new.table × (new ≡ record old { table = new.table })

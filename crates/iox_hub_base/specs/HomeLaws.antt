@@ -1,4 +1,4 @@
--- What holds of the services of a hub as a home of domains.
+-- Theorems about the services of a hub as a home of domains.
 use Rattle.std.proofs.Common.{ℕ, ◌≡◌, Bool, true, false, List, Option, None, Some, refl, sym, ap, ◌∙◌, cond}
 use Rattle.std.proofs.lemmas.Bool.{eqb-true, eq-eqb}
 use Rattle.std.specs.Option.{option_map}
@@ -13,14 +13,14 @@ use Rattle.iox_hub_base.specs.Open.{OpenServices, here_if, presence_of, domain_o
 use Rattle.iox_hub_base.specs.declared.presence.Presence.{Presence}
 use Rattle.iox_hub_base.specs.declared.presence.Presence.TheVariants.{Here, Out}
 
--- where a domain is here, that is what stands under its number
+-- If a domain is in the hub, then it is what its number has.
 pub here_stands : {T U B D : Type 0} (found : Option (Presence T U B D)) (domain : Domain T U B D) → here_if found ≡ Some domain
     → found ≡ Some (Here domain)
 here_stands None domain is = cc
 here_stands (Some (Here other)) domain is = ap (λ d. Some (Here d)) (one_value is)
 here_stands (Some (Out agreed)) domain is = cc
 
--- a domain that is changed in its place is found
+-- A domain that was changed in its place is found under its number.
 found_number : {T U B D : Type 0} (number : ℕ) (domains : List (ℕ × Presence T U B D)) (domain after : Domain T U B D)
     → domain_of number domains ≡ Some domain → domain_of number (with_domain number domains after) ≡ Some after
 found_number number domains domain after is =
@@ -30,7 +30,7 @@ other_number : {T U B D : Type 0} (number other : ℕ) (domains : List (ℕ × P
     → (number ≡ other → ⊥) → domain_of other (with_domain number domains after) ≡ domain_of other domains
 other_number number other domains after apart = ap here_if (others_unchanged number other domains (Here after) apart)
 
--- an id of this hub under whose number a domain is here
+-- The id is of this hub, and the domain under the id's number is in the hub.
 pub record StandsAt {T U B D : Type 0} (id : DomainId) (services : OpenServices T U B D) (domain : Domain T U B D) : Type 0 where
   pub hub : id.hub ≡ services.hub
   pub found : domain_of id.service services.domains ≡ Some domain
@@ -40,12 +40,12 @@ stands_if : {T U B D : Type 0} (b : Bool) (id : DomainId) (services : OpenServic
 stands_if true id services domain is there = record { hub = eqb-true id.hub services.hub is; found = there }
 stands_if false id services domain is there = cc
 
--- where the domain of an id is found
+-- A domain that is found by its id is of this hub, and is found under the id's number.
 pub stands_at : {T U B D : Type 0} (id : DomainId) (services : OpenServices T U B D) (domain : Domain T U B D)
     → domain_at id services ≡ Some domain → StandsAt id services domain
 stands_at id services domain there = stands_if (id.hub == services.hub) id services domain refl there
 
--- a domain of this hub is found by its number
+-- The domain of an id of this hub is found by the id's number.
 pub at_hub : {T U B D : Type 0} (id : DomainId) (services : OpenServices T U B D) → id.hub ≡ services.hub
     → domain_at id services ≡ domain_of id.service services.domains
 at_hub id services is = ap (λ here. cond here (domain_of id.service services.domains) None) (eq-eqb id.hub services.hub is)
@@ -59,7 +59,7 @@ stepped_found id step services (Some domain) is =
     at_hub id (record services { domains = with_domain id.service services.domains (step domain) }) stands.hub
     ∙ found_number id.service services.domains domain (step domain) stands.found
 
--- the domain of an id after its step
+-- After a step of the domain with an id, that step of the domain is found under the id.
 pub stepped_here : {T U B D : Type 0} (id : DomainId) (step : Domain T U B D → Domain T U B D) (services : OpenServices T U B D)
     → domain_at id (stepped id step services) ≡ option_map step (domain_at id services)
 stepped_here id step services = stepped_found id step services (domain_at id services) refl
@@ -76,7 +76,7 @@ again_if id first second services (Some domain) is =
     ∙ ap (λ domains. record services { domains = domains })
     (changed_twice id.service services.domains (Here (first domain)) (Here (second (first domain))))
 
--- two steps of the domain of an id are one
+-- Two steps of the domain with an id, one after the other, are one step.
 pub stepped_again : {T U B D : Type 0} (id : DomainId) (first second : Domain T U B D
     → Domain T U B D) (services : OpenServices T U B D)
     → stepped id second (stepped id first services) ≡ stepped id (λ domain. second (first domain)) services
@@ -100,25 +100,25 @@ stepped_other id other step services None is apart = refl
 stepped_other id other step services (Some domain) is apart =
     stepped_beside (other.hub == services.hub) id other services domain (step domain) refl (stands_at id services domain is) apart
 
--- the other domains after a step of one
+-- A step of one domain leaves the other domains as they were.
 pub stepped_elsewhere : {T U B D : Type 0} (id other : DomainId) (step : Domain T U B D
     → Domain T U B D) (services : OpenServices T U B D) → (id ≡ other → ⊥)
     → domain_at other (stepped id step services) ≡ domain_at other services
 stepped_elsewhere id other step services apart = stepped_other id other step services (domain_at id services) refl apart
 
--- a step of what is lent, as it is found
+-- The state of a domain after a step is that step of its state.
 state_stepped : {T U B D : Type 0} (step : DomainState T U B D → DomainState T U B D) (found : Option (Domain T U B D))
     → state_if (option_map (in_state step) found) ≡ option_map step (state_if found)
 state_stepped step None = refl
 state_stepped step (Some domain) = refl
 
--- what was changed is found so
+-- After a step of the state of the domain with an id, that step of the state is found under the id.
 pub changed_found : {T U B D : Type 0} (id : DomainId) (step : DomainState T U B D
     → DomainState T U B D) (services : OpenServices T U B D)
     → state_at id (changed_at id step services) ≡ option_map step (state_at id services)
 changed_found id step services = ap state_if (stepped_here id (in_state step) services) ∙ state_stepped step (domain_at id services)
 
--- the other domains stay as they were
+-- A step of one domain's state leaves the states of the other domains as they were.
 pub others_stay : {T U B D : Type 0} (id other : DomainId) (step : DomainState T U B D
     → DomainState T U B D) (services : OpenServices T U B D) → (id ≡ other → ⊥)
     → state_at other (changed_at id step services) ≡ state_at other services
@@ -132,7 +132,7 @@ alike_if number one other services None same = refl
 alike_if number one other services (Some domain) same
     = ap (λ state. record services { domains = with_domain number services.domains (record domain { state = state }) }) (one_value same)
 
--- steps that make the same of what is there are one
+-- Two steps that agree on the state that is found make the same change.
 pub alike : {T U B D : Type 0} (id : DomainId) (one other : DomainState T U B D → DomainState T U B D) (services : OpenServices T U B D)
     → option_map one (state_at id services) ≡ option_map other (state_at id services)
     → changed_at id one services ≡ changed_at id other services
@@ -145,11 +145,11 @@ unchanged_if id services (Some domain) is =
     let stands = here_stands (presence_of id.service services.domains) domain (stands_at id services domain is).found in
     ap (λ domains. record services { domains = domains }) (same_unchanged id.service services.domains (Here domain) stands)
 
--- a step that changes nothing
+-- A step that changes nothing leaves the services as they were.
 pub unchanged : {T U B D : Type 0} (id : DomainId) (services : OpenServices T U B D) → changed_at id (λ state. state) services ≡ services
 unchanged id services = unchanged_if id services (domain_at id services) refl
 
--- two steps are one
+-- Two steps of a state, one after the other, are one step.
 pub again : {T U B D : Type 0} (id : DomainId) (first second : DomainState T U B D
     → DomainState T U B D) (services : OpenServices T U B D)
     → changed_at id second (changed_at id first services) ≡ changed_at id (λ state. second (first state)) services

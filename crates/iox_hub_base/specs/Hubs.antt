@@ -1,4 +1,4 @@
--- A hub: its nodes, the table of its services, and the domains of those that are open in it.
+-- A hub: its nodes, the table of its services, and the domains of the services that are open in it.
 use Rattle.std.specs.Prelude.{ℕ, ◌≡◌, ◌+◌, ◌-◌, ◌^◌, ◌&&◌, Bool, List, [], Option, None, Some, min, nat_le}
 use Rattle.std.specs.Option.{unwrap_or}
 use Rattle.iox_delivery_factories.specs.Domain.Kept.{kept_under, kept}
@@ -10,7 +10,7 @@ use Rattle.iox_hub_base.specs.declared.hub.HashState.TheVariants as state
 use Rattle.iox_hub_base.specs.declared.hub.Hub.{Hub}
 use Rattle.iox_hub_base.specs.declared.hub.HubConfig.{HubConfig}
 
--- A hub without nodes and services.
+-- The hub has no nodes and no services, and has the id and the capacity for expired connections of its configuration.
 pub record IsNewHub {T U B D : Type 0} (config : HubConfig) (hub : Hub T U B D) : Type 0 where
   pub expired_connection_buffer : hub.expired_connection_buffer ≡ config.expired_connection_buffer
   pub nodes : hub.nodes ≡ 0
@@ -19,23 +19,23 @@ pub record IsNewHub {T U B D : Type 0} (config : HubConfig) (hub : Hub T U B D) 
   pub factory_counts : hub.factory_counts ≡ []
   pub services : hub.services ≡ record { hub = config.id; domains = [] }
 
--- one more, and 2^64 - 1 past that
+-- One more than the count, but at most 2^64 - 1.
 abbrev pub one_more : ℕ → ℕ
 one_more count = min (count + 1) (2 ^ 64 - 1)
 
--- a node of this number was made, where so many were
+-- Whether a node of this number was made, if `nodes` nodes were made so far.
 abbrev pub is_node : ℕ → ℕ → Bool
 is_node number nodes = nat_le 1 number && nat_le number nodes
 
--- how many factories of a service are open
+-- How many factories of a service are open.
 abbrev pub factories_of : ℕ → List (ℕ × ℕ) → ℕ
 factories_of number counts = unwrap_or (kept_under number counts) 0
 
--- one factory of a service more
+-- The counts with one factory more of this service.
 abbrev pub with_factory : ℕ → List (ℕ × ℕ) → List (ℕ × ℕ)
 with_factory number counts = kept number (one_more (factories_of number counts)) counts
 
--- what lies under a hash where this entry does: nothing, a lock, or the description of a service that stands
+-- What lies under the hash of a service that has this entry in the table: nothing, a lock, or the description of an existing service.
 abbrev pub hash_state : Option Entry → HashState
 hash_state None = state.Absent
 hash_state (Some (entry.Locked node number)) = state.Locked

@@ -1,4 +1,4 @@
--- What holds of the services of a hub, in other words than their calls'.
+-- Theorems about the services of a hub: consequences of the contracts of their calls.
 use Rattle.std.specs.Prelude.{ℕ, ◌≡◌, true, [], None, Some, Result, Ok, Err}
 use Rattle.iox_domain.specs.DescribeBase.Detail.{Detail}
 use Rattle.iox_domain.specs.DescribeSettings.declared.static_config.Settings.{Settings}
@@ -17,7 +17,7 @@ abbrev pub OthersStay : {T U B D : Type 0} → ℕ → OpenServices T U B D → 
 OthersStay number old new = (new.hub ≡ old.hub)
     × ((other : ℕ) → (number ≡ other → ⊥) → presence_of other new.domains ≡ presence_of other old.domains)
 
--- Where the settings fit, a service that was opened is open; its domain is here if none was open before; and the others stay.
+-- If the settings fit, a service that was opened is open, with the domain that it had if it was open before. The other services stay.
 abbrev pub OpenedIsFound : (T U B D : Type 0) → Type 0
 OpenedIsFound T U B D =
     (payload user_header : Detail) (buffer number : ℕ) (settings : Settings) (old new : OpenServices T U B D)
@@ -25,13 +25,13 @@ OpenedIsFound T U B D =
     → (is_open number new ≡ true) × (is_open number old ≡ true → presence_of number new.domains ≡ presence_of number old.domains)
     × OthersStay number old new
 
--- A domain has no port, no message and no history, and is of this hub and number.
+-- The domain has this hub's and this service's id, no port and no handler.
 abbrev pub IsBlank : {T U B D : Type 0} → ℕ → ℕ → Domain T U B D → Type 0
 IsBlank hub number domain =
     (domain.id ≡ record { hub = hub; service = number }) × (domain.state.ports.service ≡ number) × (domain.state.ports.publishers ≡ [])
     × (domain.state.ports.subscribers ≡ []) × (domain.state.publisher_handlers ≡ []) × (domain.state.subscriber_handlers ≡ [])
 
--- A service that opens where nothing was open under its number has a blank domain, whatever was there earlier.
+-- A service that opens where nothing was open under its number has a blank domain, whatever was open there earlier.
 abbrev pub BeginsAnew : (T U B D : Type 0) → Type 0
 BeginsAnew T U B D =
     (payload user_header : Detail) (buffer number : ℕ) (settings : Settings) (old new : OpenServices T U B D)
@@ -39,8 +39,8 @@ BeginsAnew T U B D =
     → Fits payload user_header settings
     → (domain : Domain T U B D) × (domain_of number new.domains ≡ Some domain) × IsBlank old.hub number domain
 
--- A domain that is taken and put back is accepted, and all is as it was. While it is out its service is open, its ports aren't
--- lent, and it isn't taken again; the others stay.
+-- A domain that is taken and put back is accepted, and all is as it was before. While it is out, its service is open, its ports can't be
+-- borrowed, and it can't be taken again. The other services stay.
 abbrev pub GivesBack : (T U B D : Type 0) → Type 0
 GivesBack T U B D =
     (number : ℕ) (old between new : OpenServices T U B D) (domain : Domain T U B D)
@@ -51,8 +51,8 @@ GivesBack T U B D =
     × ((again : Result (Domain T U B D) TakeError) (after : OpenServices T U B D) → Takes number between again after
     → (again ≡ Err DomainIsOut) × (after ≡ between))
 
--- A domain that is taken, and is of the hub and of the service of that number, is awaited, however it changes, while its id and what is
--- agreed are as they were. Put back it is accepted, and all is as it was before, but that it is here as it came back.
+-- A domain that was taken is awaited as long as its id and its agreement stay as they were, whatever else of it changes. When it is put
+-- back it is accepted, and all is as it was before, except that the domain is the changed one.
 abbrev pub ChangedIsPutBack : (T U B D : Type 0) → Type 0
 ChangedIsPutBack T U B D =
     (number : ℕ) (old between : OpenServices T U B D) (domain changed : Domain T U B D)

@@ -1,4 +1,4 @@
--- What services end as, once a `&mut` into them has ended.
+-- What services are, once a `&mut` into them has ended.
 use Rattle.std.specs.Prelude.{ℕ, List, Option}
 use Rattle.std.specs.Borrow.{Fml, Lends, LendsIf, MutBor, RattleType}
 use Rattle.iox_domain.specs.declared.domain.Domain.{Domain}
@@ -10,17 +10,17 @@ use Rattle.iox_hub_base.specs.contracts.presence.Presence as presence
 use Rattle.iox_hub_base.specs.contracts.presences.Presences as presences
 
 module _ (T U B D : RattleType) where
-  -- the last domain behind the reference is here
+  -- Once the reference has ended, the domain that was last behind it is in the hub.
   abbrev pub LendsDomain : MutBor (Presence T.Denot U.Denot B.Denot D.Denot) → MutBor (Domain T.Denot U.Denot B.Denot D.Denot) → Fml
   LendsDomain lent answer = Lends (presence.the_row T U B D) (domain.the_row T U B D) lent answer (λ last. Here last)
 
-  -- what is last behind the reference stands under the number; where nothing was open nothing has changed
+  -- Once the reference has ended, the number has what was last behind it. If nothing was open under the number, nothing has changed.
   abbrev pub LendsPresence : MutBor (List (ℕ × Presence T.Denot U.Denot B.Denot D.Denot)) → ℕ
       → Option (MutBor (Presence T.Denot U.Denot B.Denot D.Denot)) → Fml
   LendsPresence lent number answer = LendsIf (presences.the_row T U B D) (presence.the_row T U B D) lent answer
       (with_presence number lent.now) lent.now
 
-  -- the last domain behind the reference is here under the number
+  -- Once the reference has ended, the number has the domain that was last behind it.
   abbrev pub LendsDomainAt : MutBor (List (ℕ × Presence T.Denot U.Denot B.Denot D.Denot)) → ℕ
       → MutBor (Domain T.Denot U.Denot B.Denot D.Denot) → Fml
   LendsDomainAt lent number answer = Lends (presences.the_row T U B D) (domain.the_row T U B D) lent answer (with_domain number lent.now)

@@ -1,4 +1,4 @@
--- The definitions that contracts about a hub's calls cite.
+-- The definitions that contracts of a hub's calls cite.
 pub mod Numbered
 pub mod Unboxed
 pub mod ByNumberLends

@@ -1,4 +1,4 @@
--- Values under numbers: what a change of one says of it and of the others.
+-- Values by number: how a change of one value leaves it and the others.
 use Rattle.std.proofs.Common.{ℕ, ◌≡◌, Bool, true, false, cond, List, [], ◌∷◌, Option, None, Some, refl, sym, ap, ◌∙◌}
 use Rattle.std.proofs.lemmas.Bool.{eqb-true}
 use Rattle.std.specs.BTreeMap.{insert_entry, is_at}
@@ -8,19 +8,20 @@ use Rattle.std.specs.Ordering.{nat_cmp, is_eq, match_ordering}
 use Rattle.std.specs.declared.cmp.Ordering.{Ordering}
 use Rattle.std.specs.declared.cmp.Ordering.TheVariants.{Less, Equal, Greater}
 
--- the test that a key is a number
+-- The test whether a key is this number.
 abbrev at : ℕ → ℕ → Bool
 at number = is_at (nat_cmp number)
 
--- a key that passes is that number
+-- A key that passes the test is that number.
 pub is_number : (number key : ℕ) → is_at (nat_cmp number) key ≡ true → number ≡ key
 is_number number key passes = eqb-true number key (sym (unsigned_tied number key) ∙ passes)
 
--- another number doesn't pass
+-- Another number doesn't pass the test.
 another : (b : Bool) (number key : ℕ) → at number key ≡ b → (number ≡ key → ⊥) → b ≡ false
 another true number key is apart = absurd (apart (is_number number key is))
 another false number key is apart = refl
 
+-- A number that differs from the key doesn't pass the test.
 pub not_number : (number key : ℕ) → (number ≡ key → ⊥) → is_at (nat_cmp number) key ≡ false
 not_number number key apart = another (at number key) number key refl apart
 
@@ -30,7 +31,7 @@ here : {X : Type 0} (b : Bool) (number key : ℕ) (x y w : X) (rest changed : Li
 here true number key x y w rest changed is later found = rw is refl
 here false number key x y w rest changed is later found = rw is (later found)
 
--- a value that was changed is found
+-- A value that was changed is found under its number.
 pub changed_found : {X : Type 0} (number : ℕ) (values : List (ℕ × X)) (y w : X) → lookup (is_at (nat_cmp number)) values ≡ Some y
     → lookup (is_at (nat_cmp number)) (set_value (is_at (nat_cmp number)) values w) ≡ Some w
 changed_found number [] y w found = cc
@@ -46,7 +47,7 @@ elsewhere true number other key x w rest changed is apart later =
     rw off refl
 elsewhere false number other key x w rest changed is apart later = ap (cond (at other key) (Some x)) later
 
--- the others stay
+-- A change of one number's value leaves the values of the other numbers as they were.
 pub others_unchanged : {X : Type 0} (number other : ℕ) (values : List (ℕ × X)) (w : X) → (number ≡ other → ⊥)
     → lookup (is_at (nat_cmp other)) (set_value (is_at (nat_cmp number)) values w) ≡ lookup (is_at (nat_cmp other)) values
 others_unchanged number other [] w apart = refl
@@ -58,7 +59,7 @@ abbrev value_or : {X : Type 0} → X → Option X → X
 value_or default None = default
 value_or default (Some value) = value
 
--- values that are both there are one
+-- Two values are equal if the options that have them are.
 pub one_value : {X : Type 0} {x y : X} → Some x ≡ Some y → x ≡ y
 one_value {X} {x} {y} same = ap (value_or x) same
 
@@ -68,7 +69,7 @@ same_at : {X : Type 0} (b : Bool) (key : ℕ) (x w : X) (rest changed : List (�
 same_at true key x w rest changed found later is = ap (λ value. (key, value) ∷ rest) (sym (one_value is))
 same_at false key x w rest changed found later is = ap (λ rest. (key, x) ∷ rest) (later is)
 
--- a value that is put where it is found changes nothing
+-- Replacing a value by itself changes nothing.
 pub same_unchanged : {X : Type 0} (number : ℕ) (values : List (ℕ × X)) (w : X) → lookup (is_at (nat_cmp number)) values ≡ Some w
     → set_value (is_at (nat_cmp number)) values w ≡ values
 same_unchanged number [] w found = refl
@@ -81,7 +82,7 @@ absent_at : {X : Type 0} (b : Bool) (key : ℕ) (x w : X) (rest changed : List (
 absent_at true key x w rest changed found later is = cc
 absent_at false key x w rest changed found later is = ap (λ rest. (key, x) ∷ rest) (later is)
 
--- where nothing is found nothing is put
+-- Replacing the value of a number that has none changes nothing.
 pub absent_unchanged : {X : Type 0} (number : ℕ) (values : List (ℕ × X)) (w : X) → lookup (is_at (nat_cmp number)) values ≡ None
     → set_value (is_at (nat_cmp number)) values w ≡ values
 absent_unchanged number [] w none = refl
@@ -95,7 +96,7 @@ twice_at : {X : Type 0} (b : Bool) (number key : ℕ) (x v w : X) (rest changed 
 twice_at true number key x v w rest changed again is later = rw is refl
 twice_at false number key x v w rest changed again is later = rw is (ap (λ rest. (key, x) ∷ rest) later)
 
--- of two values that are put under a number the last stays
+-- If the value of a number is replaced twice, the last one stays.
 pub changed_twice : {X : Type 0} (number : ℕ) (values : List (ℕ × X)) (v w : X)
     → set_value (is_at (nat_cmp number)) (set_value (is_at (nat_cmp number)) values v) w ≡ set_value (is_at (nat_cmp number)) values w
 changed_twice number [] v w = refl
@@ -114,7 +115,7 @@ beside Equal number other key x w rest inserted is apart later =
     rw off refl
 beside Greater number other key x w rest inserted is apart later = ap (cond (at other key) (Some x)) later
 
--- the others stay where one comes
+-- Inserting a value under one number leaves the values of the other numbers as they were.
 pub others_beside : {X : Type 0} (number other : ℕ) (values : List (ℕ × X)) (w : X) → (number ≡ other → ⊥)
     → lookup (is_at (nat_cmp other)) (insert_entry nat_cmp values number w) ≡ lookup (is_at (nat_cmp other)) values
 others_beside number other [] w apart = rw (not_number other number (λ same. apart (sym same))) refl

@@ -1,4 +1,4 @@
--- A service of a pattern is created or opened in a hub.
+-- Creating and opening a service of a pattern in a hub.
 use Rattle.std.specs.Prelude.{ℕ, List, None, Result}
 use Rattle.iox_delivery_factories.specs.DescribeBase.Detail.{Detail}
 use Rattle.iox_delivery_factories.specs.DescribeBase.Hash.{service_hash_of}
@@ -20,7 +20,7 @@ use Rattle.iox_negotiate_table.specs.declared.step.ForeignStep.{ForeignStep}
 use Rattle.iox_hub_base.specs.Opening.{Made, OpensInHub, lacking_either}
 use Rattle.iox_hub_base.specs.declared.hub.Hub.{Hub}
 
--- a node creates a service of a pattern with these settings, of which it is known whether they can be
+-- A node creates a service of this pattern with these settings; `is_within` and `is_too_long` say whether the settings are possible.
 abbrev pub CreatesOfPattern : {T U B D E : Type 0} → Detail → Detail → MessagingPattern → Settings → Type 0 → Type 0 → (CreateFailure → E)
     → ℕ → List ℕ → List Attribute → List (List ForeignStep) → Hub T U B D → Result Made E → Hub T U B D → Type 0
 CreatesOfPattern payload user_header pattern settings is_within is_too_long error node name attributes lists old opened new =
@@ -29,7 +29,7 @@ CreatesOfPattern payload user_header pattern settings is_within is_too_long erro
     (agreement name (service_hash_of pattern name) settings attributes) is_within is_too_long error before came after)
     lists old opened new
 
--- a node opens the service of a hash, if it meets what is asked; a failure is told as this error
+-- A node opens the service of this hash, if its agreement passes the verdict. A failure is reported as `error` of it.
 abbrev pub OpensJudged : {T U B D V E : Type 0} → Detail → Detail → (OpenFailure V → E) → ServiceHash → ℕ
     → (Agreement → Result (Unit {0}) V) → List (List ForeignStep) → Hub T U B D → Result Made E → Hub T U B D → Type 0
 OpensJudged payload user_header error hash node verdict lists old opened new =
@@ -38,7 +38,7 @@ OpensJudged payload user_header error hash node verdict lists old opened new =
     came after)
     lists old opened new
 
--- a node opens a service of a pattern, if it meets what is asked, or creates it with these settings
+-- A node opens a service of this pattern, if its agreement passes the verdict, or creates it with these settings.
 abbrev pub EitherOfPattern : {T U B D V E : Type 0} → Detail → Detail → MessagingPattern → Settings → Type 0 → Type 0
     → (Agreement → Result (Unit {0}) V) → (OpenOrCreateFailure V → E) → ℕ → List ℕ → List Attribute → List (List ForeignStep)
     → Hub T U B D → Result Made E → Hub T U B D → Type 0

@@ -7,56 +7,56 @@ use Rattle.iox_domain.specs.declared.domain.Domain.{Domain}
 use Rattle.iox_hub_base.specs.declared.presence.Presence.{Presence}
 use Rattle.iox_hub_base.specs.declared.presence.Presence.TheVariants.{Here, Out}
 
--- The open services of a hub: each that is here or out, with its number, by rising number.
+-- The open services of a hub: each one has its number, and its domain is in the hub or out. They are ordered by rising number.
 pub record OpenServices (T U B D : Type 0) : Type 0 where
   pub hub : ℕ
   pub domains : List (ℕ × Presence T U B D)
 
--- the domain of a service, if it is here
+-- The domain of a service, if it is in the hub.
 abbrev pub here : {T U B D : Type 0} → Presence T U B D → Option (Domain T U B D)
 here (Here domain) = Some domain
 here (Out agreed) = None
 
--- a service of which the domain is out, with what is agreed; one that is out stays so
+-- The service with its domain out: its agreement stays in the domain's place. A service whose domain is out already stays as it is.
 abbrev pub taken_out : {T U B D : Type 0} → Presence T U B D → Presence T U B D
 taken_out (Here domain) = Out domain.agreed
 taken_out (Out agreed) = Out agreed
 
--- what is open under a number, if anything is
+-- The service that is open under this number, if one is.
 abbrev pub presence_of : {T U B D : Type 0} → ℕ → List (ℕ × Presence T U B D) → Option (Presence T U B D)
 presence_of number domains = lookup (is_at (nat_cmp number)) domains
 
--- the domain of a service that may be open, if it is here
+-- The domain of a service, if the service is open and its domain is in the hub.
 abbrev pub here_if : {T U B D : Type 0} → Option (Presence T U B D) → Option (Domain T U B D)
 here_if None = None
 here_if (Some presence) = here presence
 
--- the domain under a number, if it is here
+-- The domain under this number, if it is in the hub.
 abbrev pub domain_of : {T U B D : Type 0} → ℕ → List (ℕ × Presence T U B D) → Option (Domain T U B D)
 domain_of number domains = here_if (presence_of number domains)
 
--- something else stands under a number that is open
+-- The services with another one under this number, if one is open under it.
 abbrev pub with_presence : {T U B D : Type 0} → ℕ → List (ℕ × Presence T U B D) → Presence T U B D → List (ℕ × Presence T U B D)
 with_presence number domains presence = set_value (is_at (nat_cmp number)) domains presence
 
--- another domain is here under a number that is open
+-- The services with another domain under this number, if a service is open under it.
 abbrev pub with_domain : {T U B D : Type 0} → ℕ → List (ℕ × Presence T U B D) → Domain T U B D → List (ℕ × Presence T U B D)
 with_domain number domains domain = with_presence number domains (Here domain)
 
--- a service opens under a number, at its place in their order
+-- The services with one that opens under this number, at its place by rising number.
 abbrev pub opened : {T U B D : Type 0} → ℕ → Presence T U B D → List (ℕ × Presence T U B D) → List (ℕ × Presence T U B D)
 opened number presence domains = insert_entry nat_cmp domains number presence
 
--- nothing is open under a number any longer
+-- The services without the one under this number.
 abbrev pub closed : {T U B D : Type 0} → ℕ → List (ℕ × Presence T U B D) → List (ℕ × Presence T U B D)
 closed number domains = remove_entry (is_at (nat_cmp number)) domains
 
--- A domain that is here is of the hub, and of the service whose number it stands under.
+-- A domain that is in the hub has the hub's id and the number of the service under which it is kept.
 abbrev pub IsOwn : {T U B D : Type 0} → ℕ → ℕ → Presence T U B D → Type 0
 IsOwn hub number (Here domain) = domain.id ≡ record { hub = hub; service = number }
 IsOwn hub number (Out agreed) = Unit {0}
 
--- Each domain that is here is the hub's own.
+-- Each domain that is in the hub is the hub's own.
 abbrev pub AreOwn : {T U B D : Type 0} → ℕ → List (ℕ × Presence T U B D) → Type 0
 AreOwn hub [] = Unit {0}
 AreOwn hub (service ∷ services) = IsOwn hub service.0 service.1 × AreOwn hub services

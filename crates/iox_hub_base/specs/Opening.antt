@@ -1,4 +1,4 @@
--- A service is created or opened in a hub.
+-- Creating or opening a service in a hub.
 use Rattle.std.specs.Prelude.{ℕ, ◌≡◌, ◌⊎◌, Bool, true, false, List, Result, Ok, Err}
 use Rattle.std.specs.Result.{result_map_both}
 use Rattle.iox_delivery_factories.specs.DescribeBase.Detail.{Detail}
@@ -18,11 +18,11 @@ use Rattle.iox_negotiate_table.specs.declared.step.ForeignStep.{ForeignStep}
 use Rattle.iox_hub_base.specs.Hubs.{one_more, with_factory}
 use Rattle.iox_hub_base.specs.declared.hub.Hub.{Hub}
 
--- a factory of a hub: which node is in which service, and the factory's own number
+-- A factory of a hub: which node is in which service, and the factory's own number.
 abbrev pub Made : Type 0
 Made = Membership × ℕ
 
--- the accesses close a factory again, whatever that answers
+-- The factory is closed again in the table, whatever the table answers, and all else of the hub stays.
 abbrev pub IsClosedAgain : {T U B D : Type 0} → Membership → Hub T U B D → Hub T U B D → Type 0
 IsClosedAgain member old new =
     ((closed : Result (Unit {0}) CloseError)
@@ -30,13 +30,13 @@ IsClosedAgain member old new =
     closed) new.table)
     × (new ≡ record old { table = new.table })
 
--- a domain is to be made for a service: none of its number is open, and its settings fit
+-- A domain is to be made for the service: none of its number is open, and its settings fit.
 abbrev pub WantsDomain : {T U B D : Type 0} → Detail → Detail → Membership → Hub T U B D → Type 0
 WantsDomain payload user_header member hub =
     (is_open member.service.number hub.services ≡ false) × Fits payload user_header member.service.description.settings
 
--- A node is in a service. The service has one factory more, the next one of the hub, and its domain is made, where it fits and none is
--- there. Or no memory is found for the domain that is to be made, and the factory is closed again.
+-- A node is in a service. Either the service has one factory more, which gets the hub's next number, and its domain is made if the settings
+-- fit and the service isn't open yet. Or memory runs out for the domain that is to be made, and the factory is closed again.
 abbrev pub Enters : {T U B D : Type 0} → Detail → Detail → Membership → Hub T U B D → Result Made Bool → Hub T U B D → Type 0
 Enters payload user_header member old (Ok made) new =
     (made ≡ (member, one_more old.factories))
@@ -51,8 +51,8 @@ Enters payload user_header member old (Ok made) new =
 Enters payload user_header member old (Err was_new) new =
     (was_new ≡ member.service.is_new) × WantsDomain payload user_header member old × IsClosedAgain member old new
 
--- What the negotiation came to is what the hub answers, if a factory is made; the error of wanted memory depends on whether the
--- service had been created.
+-- The hub reports an error of the negotiation, or makes a factory for the service that was negotiated. Which error is reported if memory
+-- runs out there depends on whether the service was created.
 abbrev pub Settles : {T U B D E : Type 0} → Detail → Detail → (Bool → E) → Result Membership E → Hub T U B D → Result Made E
     → Hub T U B D → Type 0
 Settles payload user_header lacking (Err error) old result new = (result ≡ Err error) × (new ≡ old)
@@ -60,7 +60,7 @@ Settles payload user_header lacking (Ok member) old result new =
     (entered : Result Made Bool) × Enters payload user_header member old entered new
     × (result ≡ result_map_both (λ made. made) lacking entered)
 
--- The service is negotiated over the hub's table, with these lists of foreign steps before the accesses.
+-- The service is negotiated over the hub's table, and these lists of actions of other nodes are done before the accesses.
 pub record NegotiatesInHub {T U B D E : Type 0} (payload user_header : Detail) (lacking : Bool → E)
     (negotiates : Steps → Result Membership E → Steps → Type 0) (lists : List (List ForeignStep))
     (old : Hub T U B D) (result : Result Made E) (new : Hub T U B D) : Type 0 where
@@ -69,15 +69,15 @@ pub record NegotiatesInHub {T U B D E : Type 0} (payload user_header : Detail) (
   pub negotiated : negotiates (record { table = old.table; lists = lists }) answer mid
   pub settled : Settles payload user_header lacking answer (record old { table = mid.table }) result new
 
--- Room for the service's entry is made before the table is touched: the service is negotiated; or no memory is found for the room, where
--- what is asked for can be, and nothing changes.
+-- Either the service is negotiated. Or memory runs out for its entry before the table is touched, if the request itself is possible, and
+-- nothing changes.
 abbrev pub OpensInHub : {T U B D E : Type 0} → Detail → Detail → Type 0 → (Bool → E)
     → (Steps → Result Membership E → Steps → Type 0) → List (List ForeignStep) → Hub T U B D → Result Made E → Hub T U B D → Type 0
 OpensInHub payload user_header can_be lacking negotiates lists old result new =
     NegotiatesInHub payload user_header lacking negotiates lists old result new
     ⊎ (can_be × (result ≡ Err (lacking false)) × (new ≡ old))
 
--- the failure of a call that opens or creates, where no memory was found for the service after its last access: it was created, or opened
+-- The error of a call that opens or creates, if memory runs out after its last access: of the creation, or else of the opening.
 abbrev pub lacking_either : {V : Type 0} → Bool → OpenOrCreateFailure V
 lacking_either true = either.Create uncreated.OutOfMemory
 lacking_either false = either.Open unopened.OutOfMemory

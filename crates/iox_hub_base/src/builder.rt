@@ -1,4 +1,4 @@
-//! Services are created and opened in a hub.
+//! How services are created and opened in a hub.
 ghost use Rattle.std.specs.Prelude.{◌≡◌, ℕ, List, nat_eq};
 ghost use Rattle.std.specs.Result.{result_map_both};
 ghost use Rattle.iox_delivery_factories.specs.DescribeBase.Detail.{detail};
@@ -16,42 +16,42 @@ use iox_negotiate_table::StepList;
 use iox_queues_base::Words;
 use std::alloc::Global;
 
-/// What creates and opens services in a hub: a builder that `Hub::service_builder` gave.
+/// A builder that creates or opens one service in a hub. `Hub::service_builder` returns it.
 ///
-/// Each call is handed lists of steps of foreign nodes: the first is done before the call's first access to the table, the second
-/// before its second, and so on. Where it opens a publish-subscribe service whose description fits the hub, the domain of the
-/// service's ports is made, unless it is there. Where no memory is found for that, the factory is closed again, and the call is
-/// refused with `OutOfMemory`.
+/// Each call is handed lists of actions of other nodes: the first list is done before the call's first access to the table, the second
+/// before its second, and so on. If the call opens a publish-subscribe service whose description fits the hub, it makes the domain of the
+/// service's ports, unless the hub has one. If memory runs out for that, the factory is closed again, and the call is refused with
+/// `OutOfMemory`.
 ///
-/// Room for the service's entry is made before the table is touched, where there is none. Where no memory is found for that, the call is
-/// refused with `OutOfMemory`, too, one that opens or creates as an opening is, and nothing has changed but that there may be more room.
-/// A creation's settings that can't be are refused first.
+/// Capacity for the service's entry is made before the table is touched. If memory runs out there, the call is refused with `OutOfMemory`,
+/// too (`open_or_create` with the error of an opening), and nothing has changed except that there may be more capacity. A creation whose
+/// settings are impossible is refused for these first.
 ///
-/// This port's own: the builders of `iceoryx2` find the services of their machine by themselves.
+/// Not in `iceoryx2`: the builders of `iceoryx2` find the services of their machine by themselves.
 pub trait HubBuilder<P: Negotiated>: Sized {
-    // the id of the hub that it is of
+    // the id of the builder's hub
     ghost hub_of: { Self → ℕ };
 
-    // the node that asks
+    // the node that creates or opens
     ghost node_of: { Self → ℕ };
 
     // the name of the service
     ghost name_of: { Self → List ℕ };
 
-    // what is asked of it
+    // what is asked of the service
     ghost requirement_of: { Self → P.Requirement };
 
-    /// The builder of the service, whatever storage it is negotiated over.
+    /// The builder of the service, independent of the storage over which the service is negotiated.
     /// Example: `let service = builder.builder();`
     fn builder(self) -> ServiceBuilder<P>
         ensures { result ≡ record { hub = hub_of self; node = node_of self; name = name_of self; requirement = requirement_of self } };
 
-    /// Whether it is a builder of this hub.
+    /// Whether the builder is of this hub.
     /// Example: `let is_of_it = builder.holds(&hub);`
     fn holds<T: Copy, U: Copy, B: Drop, D: Drop>(&self, hub: &Hub<T, U, B, D>) -> bool
         ensures { result ≡ nat_eq (hub_of self.now) hub.now.table.id };
 
-    /// Creates the service, with no attributes but those that were asked for. See `create_with_attributes_in`.
+    /// Creates the service, with no attributes except those that were asked for. See `create_with_attributes_in`.
     /// Example: `let factory = builder.create_in(alloc, &mut hub, Vec::new(alloc))?;`
     fn create_in<T: Words + ZeroCopySend, U: Copy + ZeroCopySend, B: Drop, D: Drop>(
         self,
@@ -71,7 +71,7 @@ pub trait HubBuilder<P: Negotiated>: Sized {
 
     /// Creates the service with these attributes.
     ///
-    /// Refused as `ServiceBuilder::create_with_attributes` refuses it.
+    /// Refused with the errors of `ServiceBuilder::create_with_attributes`.
     /// Example: `let factory = builder.create_with_attributes_in(alloc, &attributes, &mut hub, Vec::new(alloc))?;`
     fn create_with_attributes_in<T: Words + ZeroCopySend, U: Copy + ZeroCopySend, B: Drop, D: Drop>(
         self,
@@ -106,9 +106,9 @@ pub trait HubBuilder<P: Negotiated>: Sized {
         open(alloc, self.builder(), None, hub, steps)
     }
 
-    /// Opens the service if it has these attributes too.
+    /// Opens the service if it also has these attributes.
     ///
-    /// Refused as `ServiceBuilder::open_with_attributes` refuses it.
+    /// Refused with the errors of `ServiceBuilder::open_with_attributes`.
     /// Example: `let factory = builder.open_with_attributes_in(alloc, attributes, &mut hub, Vec::new(alloc))?;`
     fn open_with_attributes_in<T: Words + ZeroCopySend, U: Copy + ZeroCopySend, B: Drop, D: Drop>(
         self,
@@ -126,7 +126,7 @@ pub trait HubBuilder<P: Negotiated>: Sized {
         open(alloc, self.builder(), Some(attributes), hub, steps)
     }
 
-    /// Opens the service, whatever its attributes, or creates it with none. See `open_or_create_with_attributes_in`.
+    /// Opens the service, whatever its attributes, or creates it without attributes. See `open_or_create_with_attributes_in`.
     /// Example: `let factory = builder.open_or_create_in(alloc, &mut hub, Vec::new(alloc))?;`
     fn open_or_create_in<T: Words + ZeroCopySend, U: Copy + ZeroCopySend, B: Drop, D: Drop>(
         self,
@@ -145,9 +145,9 @@ pub trait HubBuilder<P: Negotiated>: Sized {
         open_or_create(alloc, self.builder(), None, hub, steps)
     }
 
-    /// Opens the service if it has these attributes too, or creates it with the required pairs where none exists.
+    /// Opens the service if it also has these attributes, or creates it with the required pairs if it doesn't exist.
     ///
-    /// Refused as `ServiceBuilder::open_or_create_with_attributes` refuses it.
+    /// Refused with the errors of `ServiceBuilder::open_or_create_with_attributes`.
     /// Example: `let factory = builder.open_or_create_with_attributes_in(alloc, attributes, &mut hub, Vec::new(alloc))?;`
     fn open_or_create_with_attributes_in<
         T: Words + ZeroCopySend,

@@ -1,4 +1,4 @@
-//! Values by their numbers: a list by rising number, in which a number is found at once.
+//! Values by number: a list by rising number, in which a number is found at once.
 ghost use Rattle.std.specs.Prelude.{◌≡◌, ◌<◌, ℕ, length, option_copied, IfSome, IfNone, IfOk, OnOk, OnErr, [], None, Some};
 ghost use Rattle.std.specs.BTreeMap.{insert_entry, is_at};
 ghost use Rattle.std.specs.Borrow.{sem};
@@ -13,12 +13,12 @@ use std::alloc::{AllocError, Global};
 use std::marker::Model;
 use std::mem;
 
-/// Values by their numbers, at most one for each.
+/// Values by number, at most one for each number.
 ///
-/// Contracts see each with its number, by rising number.
+/// Contracts see the values with their numbers, by rising number.
 #[derive(Drop)]
 pub(crate) struct ByNumber<X> {
-    // By rising number. Each value has a box of its own, so that few bytes move where an entry comes or goes.
+    // By rising number. Each value has a box of its own, so that few bytes move when an entry is added or removed.
     entries: Vec<(u64, Box<X>)>,
 }
 
@@ -39,7 +39,7 @@ impl<X> Model for ByNumber<X> {
 impl<X: Drop> ByNumber<X> {
     ghost use Rattle.iox_hub_base.specs.ByNumberLends.{LendsStanding, LendsUnder};
 
-    /// No number has a value. It takes no memory.
+    /// An empty list. It takes no memory.
     pub(crate) fn new(alloc: Global) -> Self
         ensures { result ≡ [] }
     {
@@ -48,7 +48,7 @@ impl<X: Drop> ByNumber<X> {
         }
     }
 
-    /// Where a number stands, if it has a value.
+    /// The place of a number, if the number has a value.
     pub(crate) fn place(&self, number: u64) -> Option<usize>
         ensures some { IfSome result (λ place. StandsAt number place self.now) }
         ensures none { IfNone result (lookup (is_at (nat_cmp number)) self.now ≡ None) }
@@ -56,7 +56,7 @@ impl<X: Drop> ByNumber<X> {
         place_of(&self.entries, number)
     }
 
-    /// The value of a number, which stands at this place.
+    /// The value of a number, which is at this place.
     pub(crate) fn at(&self, number: u64, place: usize) -> &X
         requires { StandsAt number place self.now }
         ensures { lookup (is_at (nat_cmp number)) self.now ≡ Some result.now }
@@ -64,7 +64,7 @@ impl<X: Drop> ByNumber<X> {
         &self.entries[place].1
     }
 
-    /// The same, to be changed there.
+    /// The value of a number, which is at this place, to be changed there.
     pub(crate) fn at_mut(&mut self, number: u64, place: usize) -> &mut X
         requires { StandsAt number place self.old }
         ensures* writes_back { sem 𝓛 (LendsStanding X.row self.entry number result) }
@@ -94,7 +94,7 @@ impl<X: Drop> ByNumber<X> {
         }
     }
 
-    /// Another value is there under a number, if it has one. It takes no memory.
+    /// Replaces the value of a number, if it has one. It takes no memory.
     pub(crate) fn replace(&mut self, number: u64, value: X)
         ensures { self.new ≡ set_value (is_at (nat_cmp number)) self.old value }
     {
@@ -110,8 +110,8 @@ impl<X: Drop> ByNumber<X> {
         &self.entries
     }
 
-    /// The values, with room for one number more; there are none here until they are put back. It takes no memory where there is room.
-    /// Fails only where an allocation fails, and then nothing has changed.
+    /// The values, with capacity for one number more; this list is empty until they are put back. It takes no memory if there is capacity.
+    /// It fails only if an allocation fails, and then nothing has changed.
     pub(crate) fn lend(&mut self, alloc: Global) -> Result<RoomyByNumber<X>, AllocError>
         ensures ok { IfOk result (λ lent. lent ≡ self.old) }
         ensures left { OnOk result (self.new ≡ []) }
@@ -123,7 +123,7 @@ impl<X: Drop> ByNumber<X> {
         })
     }
 
-    /// A number has no value any longer. The other numbers have what they had.
+    /// Removes the value of a number. The other numbers keep theirs.
     pub(crate) fn remove(&mut self, number: u64)
         ensures new { self.new ≡ remove_entry (is_at (nat_cmp number)) self.old }
         ensures gone { lookup (is_at (nat_cmp number)) self.new ≡ None }
@@ -136,9 +136,9 @@ impl<X: Drop> ByNumber<X> {
     }
 }
 
-/// Values by their numbers, among which there is room for one number more.
+/// Values by number, with capacity for one number more.
 ///
-/// Contracts see them as `ByNumber`.
+/// Contracts see them as those of `ByNumber`.
 #[derive(Drop)]
 pub(crate) struct RoomyByNumber<X> {
     entries: Vec<(u64, Box<X>)>,
@@ -171,7 +171,7 @@ impl<X: Drop> RoomyByNumber<X> {
         }
     }
 
-    /// A number has the value in a box, in the place of one that it had. It takes no memory, and can't fail.
+    /// Gives a number the value in a box, and drops the value that the number had. It takes no memory, and can't fail.
     pub(crate) fn insert(self, number: u64, boxed: Box<X>) -> ByNumber<X>
         ensures { result ≡ insert_entry nat_cmp self number boxed.value }
     {
@@ -182,14 +182,14 @@ impl<X: Drop> RoomyByNumber<X> {
                 ByNumber { entries }
             }
             Err(place) => {
-                // There is room for it.
+                // There is capacity for it.
                 let _ = entries.insert(place, (number, boxed));
                 ByNumber { entries }
             }
         }
     }
 
-    /// The values as they are.
+    /// The values, without any change.
     pub(crate) fn into_values(self) -> ByNumber<X>
         ensures { result ≡ self }
     {
@@ -199,7 +199,7 @@ impl<X: Drop> RoomyByNumber<X> {
     }
 }
 
-// Where a number stands, if it does. While no number before it is missing it stands as far behind the first as it is above that.
+// The place of a number, if it has a value. While no number before it is missing, its place is its distance from the first number.
 fn place_of<X>(entries: &[(u64, Box<X>)], number: u64) -> Option<usize>
     requires { IsStrictlySortedBy nat_cmp (keys_of entries.now) }
     ensures within { IfSome result (λ place. place < length entries.now) }
@@ -213,7 +213,7 @@ fn place_of<X>(entries: &[(u64, Box<X>)], number: u64) -> Option<usize>
     search_of(entries, number).ok()
 }
 
-// Where a number stands, or else where it would.
+// The place of a number, or the place at which it would be inserted.
 pub(crate) fn search_of<V>(entries: &[(u64, V)], number: u64) -> Result<usize, usize>
     ensures bound { IsSearchInRange result (length entries.now) }
     ensures position { IsBinarySearchResult (λ entry. nat_cmp entry.0 number) entries.now result }

@@ -1,4 +1,4 @@
-//! Factories are closed.
+//! How factories are closed.
 ghost use Rattle.std.specs.Prelude.{◌≡◌};
 ghost use Rattle.std.specs.Result.{result_map_both};
 ghost use Rattle.iox_hub_base.specs.Closing.{is_last, in_use, Closes, less_one};
@@ -9,15 +9,15 @@ use iox_describe::pattern::Pattern;
 use iox_negotiate_base::errors::CloseError;
 
 impl<T: Copy, U: Copy, B: Drop, D: Drop> Hub<T, U, B, D> {
-    /// Closes a factory of this hub: takes it off the segment of its service, and removes description and segment if its node was the
-    /// last one in. With the last factory of a service in the hub its domain ends.
+    /// Closes a factory of this hub: the factory leaves the segment of its service, and if its node was the last one in, description and
+    /// segment are removed. With the last factory of a service in the hub the service's domain ends.
     ///
-    /// Refused with `StillInUse`, the factory handed back, and nothing has changed: while the domain of the service is out; while a port
-    /// that was made by the factory exists, a loan or a blocked send of such a publisher, or a sample that such a subscriber received; and
-    /// for the last factory of its service in the hub while any port, loan, blocked send or sample of the domain lives.
-    /// `UnableToRemoveDescription` and `UnableToRemoveSegment` as the table answers; the factory is spent then.
+    /// Refused with `StillInUse`, the factory handed back and nothing changed: while the domain of the service is out; while a port that
+    /// the factory made exists, or a loan or a blocked send of such a publisher, or a sample of such a subscriber; and for the last factory
+    /// of its service in the hub, while any port, loan, blocked send or sample of the domain exists. Refused with
+    /// `UnableToRemoveDescription` and `UnableToRemoveSegment` if the table reports these; the factory is spent then.
     ///
-    /// Stands for dropping an `iceoryx2::service::port_factory`, which its ports hold on to.
+    /// Corresponds to dropping an `iceoryx2::service::port_factory`, which the ports of `iceoryx2` keep alive.
     /// Example: `let closed = hub.close(factory);`
     pub fn close<P: Pattern>(&mut self, factory: PortFactory<P>) -> Result<(), NotClosed<P>>
         requires { factory.service.membership.storage ≡ self.old.table.id }
@@ -42,9 +42,9 @@ impl<T: Copy, U: Copy, B: Drop, D: Drop> Hub<T, U, B, D> {
         }
     }
 
-    /// Whether something lives that keeps a factory of this hub from being closed: `close` answers `StillInUse` just then.
+    /// Whether a factory of this hub is in use, so that `close` would refuse with `StillInUse`.
     ///
-    /// This port's own.
+    /// Not in `iceoryx2`.
     /// Example: `let stays = hub.is_in_use(&factory);`
     pub fn is_in_use<P: Pattern>(&self, factory: &PortFactory<P>) -> bool
         requires { factory.now.service.membership.storage ≡ self.now.table.id }
@@ -53,7 +53,7 @@ impl<T: Copy, U: Copy, B: Drop, D: Drop> Hub<T, U, B, D> {
         self.is_kept_open(factory.number(), factory.owner())
     }
 
-    // Whether something lives that keeps a factory from being closed, by the number of its service and its own.
+    // Whether something keeps a factory from being closed, by the number of its service and its own.
     fn is_kept_open(&self, number: u64, owner: u64) -> bool
         ensures { result ≡ in_use number owner self.now }
     {
@@ -70,14 +70,14 @@ impl<T: Copy, U: Copy, B: Drop, D: Drop> Hub<T, U, B, D> {
         }
     }
 
-    // Whether a service has one factory at most.
+    // Whether a service has at most one factory.
     fn is_last(&self, number: u64) -> bool
         ensures { result ≡ is_last number self.now.factory_counts }
     {
         self.factory_counts.of(number) <= 1
     }
 
-    // One factory of a service less; with the last its domain ends.
+    // Counts one factory fewer of a service; with the last its domain ends.
     fn let_go(&mut self, number: u64)
         ensures { self.new ≡ less_one number self.old }
     {

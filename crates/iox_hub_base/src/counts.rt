@@ -9,9 +9,9 @@ use std::alloc::{AllocError, Global};
 use std::marker::Model;
 use std::mem;
 
-/// How many factories of a service are open, for each that has one.
+/// The number of open factories of each service that has one.
 ///
-/// Contracts see each count with the service's number, by rising number. This port's own.
+/// Contracts see each count with the service's number, by rising number. Not in `iceoryx2`.
 #[derive(Drop)]
 pub struct Counts {
     entries: Vec<(u64, u64)>,
@@ -31,7 +31,7 @@ impl Model for Counts {
 }
 
 impl Counts {
-    /// No service has a factory. It takes no memory.
+    /// Counts without entries: no service has a factory. It takes no memory.
     pub(crate) fn new(alloc: Global) -> Self
         ensures { result ≡ [] }
     {
@@ -50,8 +50,8 @@ impl Counts {
         }
     }
 
-    /// The counts, with room for one service more; there are none here until they are put back. It takes no memory where there is room.
-    /// Fails only where an allocation fails, and then nothing has changed.
+    /// The counts, with capacity for one service more; there are none here until they are put back. It takes no memory if there is
+    /// capacity. It fails only if an allocation fails, and then nothing has changed.
     pub(crate) fn lend(&mut self, alloc: Global) -> Result<RoomyCounts, AllocError>
         ensures ok { IfOk result (λ lent. lent ≡ self.old) }
         ensures err { OnErr result (self.new ≡ self.old) }
@@ -62,7 +62,7 @@ impl Counts {
         })
     }
 
-    /// One factory less of a service that has more than one.
+    /// Counts one factory fewer of a service that has more than one.
     pub(crate) fn one_less(&mut self, number: u64)
         requires { is_last number self.old ≡ false }
         ensures { self.new ≡ kept number (factories_of number self.old - 1) self.old }
@@ -73,7 +73,7 @@ impl Counts {
         }
     }
 
-    /// A service has no factory any longer.
+    /// Removes the count of a service, which has no factory any longer.
     pub(crate) fn forget(&mut self, number: u64)
         ensures { self.new ≡ forgotten number self.old }
     {
@@ -86,9 +86,9 @@ impl Counts {
     }
 }
 
-/// Counts among which there is room for one service more.
+/// Counts with capacity for one service more.
 ///
-/// Contracts see them as `Counts`.
+/// Contracts see them as those of `Counts`.
 #[derive(Drop)]
 pub(crate) struct RoomyCounts {
     entries: Vec<(u64, u64)>,
@@ -110,7 +110,7 @@ impl Model for RoomyCounts {
 }
 
 impl RoomyCounts {
-    /// The counts, with one factory of a service more. It takes no memory, and can't fail.
+    /// The counts with one factory more of this service. It takes no memory, and can't fail.
     pub(crate) fn one_more(self, number: u64) -> Counts
         ensures { result ≡ with_factory number self }
     {
@@ -121,14 +121,14 @@ impl RoomyCounts {
                 Counts { entries }
             }
             Err(place) => {
-                // There is room for it.
+                // There is capacity for it.
                 let _ = entries.insert(place, (number, 1));
                 Counts { entries }
             }
         }
     }
 
-    /// The counts as they are.
+    /// The counts, without any change.
     pub(crate) fn into_counts(self) -> Counts
         ensures { result ≡ self }
     {

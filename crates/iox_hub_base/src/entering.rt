@@ -1,4 +1,4 @@
-//! From a service that was negotiated to a factory of the hub.
+//! How a service that was negotiated becomes a factory of the hub.
 ghost use Rattle.std.specs.Prelude.{◌≡◌, Bool, false, true, if◌then◌else◌, IfOk, OnOk, OnErr};
 ghost use Rattle.std.specs.Result.{result_map_both};
 ghost use Rattle.iox_delivery_factories.specs.DescribeBase.Detail.{detail};
@@ -16,8 +16,8 @@ use iox_queues_base::Words;
 use std::alloc::{AllocError, Global};
 use std::mem;
 
-/// The errors of a call that negotiates a service, where no memory is found for it after the last access: where the service had been
-/// opened, and where it had been created.
+/// The errors of a call that negotiates a service, if memory runs out after its last access: one if the service was opened, one if it was
+/// created.
 #[derive(Clone, Copy)]
 pub(crate) struct Lacking<E> {
     pub(crate) opened: E,
@@ -25,7 +25,7 @@ pub(crate) struct Lacking<E> {
 }
 
 impl<E: Copy> Lacking<E> {
-    /// The same error, whether the service had been opened or created.
+    /// The same error, whether the service was opened or created.
     pub(crate) fn either_way(error: E) -> Self
         ensures { result ≡ record { opened = error; created = error } }
     {
@@ -35,7 +35,7 @@ impl<E: Copy> Lacking<E> {
         }
     }
 
-    // The error where no memory was found.
+    // The error if memory ran out.
     fn error(self, no_room: NoRoom) -> E
         ensures { result ≡ (if no_room.was_new then self.created else self.opened) }
     {
@@ -47,15 +47,15 @@ impl<E: Copy> Lacking<E> {
     }
 }
 
-// That no memory was found for a service that was negotiated, and whether it had been created.
+// Memory ran out for a service that was negotiated; and whether that had been created.
 #[derive(Clone, Copy)]
 struct NoRoom {
     was_new: bool,
 }
 
 impl<T: Copy, U: Copy, B: Drop, D: Drop> Hub<T, U, B, D> {
-    // The services and the counts of their factories, with room for one service more. The hub is without them until they are put back.
-    // Fails only where an allocation fails, and then nothing has changed.
+    // The services and the counts of their factories, with capacity for one service more. The hub is without them until they are put back.
+    // Fails only if an allocation fails, and then nothing has changed.
     fn make_room(&mut self, alloc: Global) -> Result<ServiceRoom<T, U, B, D>, AllocError>
         ensures lent { IfOk result (λ room. (room.counts ≡ self.old.factory_counts) × (room.services ≡ self.old.services)) }
         ensures rest { OnOk result (self.new ≡ record self.old { factory_counts = self.new.factory_counts; services = self.new.services }) }
@@ -71,7 +71,7 @@ impl<T: Copy, U: Copy, B: Drop, D: Drop> Hub<T, U, B, D> {
         }
     }
 
-    // The table, with these lists of steps to do before its accesses. The hub is without it until it is put back.
+    // The table, with these lists of actions to do before its accesses. The hub is without it until it is put back.
     fn lend_table(&mut self, alloc: Global, steps: Vec<StepList>) -> Stepped
         ensures lent { result ≡ record { table = self.old.table; lists = steps.items } }
         ensures rest { self.new ≡ record self.old { table = self.new.table } }
@@ -79,8 +79,9 @@ impl<T: Copy, U: Copy, B: Drop, D: Drop> Hub<T, U, B, D> {
         Stepped::new(mem::replace(&mut self.table, Table::new(alloc, 0)), steps)
     }
 
-    /// What a call that opens a service needs: the table, with these lists of steps to do before its accesses, and room for the service.
-    /// The hub is without them until they are put back. Fails only where an allocation fails, and then nothing has changed.
+    /// What a call that opens a service needs: the table, with these lists of actions of other nodes to do before its accesses, and
+    /// capacity for the service. The hub is without them until they are put back. It fails only if an allocation fails, and then nothing
+    /// has changed.
     pub(crate) fn lend_parts(
         &mut self,
         alloc: Global,
@@ -99,7 +100,7 @@ impl<T: Copy, U: Copy, B: Drop, D: Drop> Hub<T, U, B, D> {
         Ok(OpeningParts { table, room })
     }
 
-    // Closes a factory for which no memory was found.
+    // Closes a factory for which memory ran out.
     fn give_back<P: Pattern>(&mut self, service: negotiated::PortFactory<P>) -> NoRoom
         requires { service.membership.storage ≡ self.old.table.id }
         ensures was_new { result.was_new ≡ service.membership.service.is_new }
@@ -112,7 +113,7 @@ impl<T: Copy, U: Copy, B: Drop, D: Drop> Hub<T, U, B, D> {
 }
 
 impl<T: Words + ZeroCopySend, U: Copy + ZeroCopySend, B: Drop, D: Drop> Hub<T, U, B, D> {
-    /// Puts back what was lent, and answers the factory of the hub for what was negotiated, if that is a service.
+    /// Puts back what was taken out of the hub for the call, and returns the factory of a service that was negotiated, or its error.
     pub(crate) fn settle<P: Pattern, E: Copy>(
         &mut self,
         alloc: Global,
@@ -142,7 +143,7 @@ impl<T: Words + ZeroCopySend, U: Copy + ZeroCopySend, B: Drop, D: Drop> Hub<T, U
         }
     }
 
-    // The factory of the hub for a service that was negotiated. Only memory of a domain that is to be made may lack.
+    // The factory of the hub for a service that was negotiated. Only memory for a domain that is to be made may run out.
     fn enter<P: Pattern>(
         &mut self,
         alloc: Global,

@@ -7,7 +7,7 @@ use iox_describe::{AttributeSpecifier, Description, ServiceName};
 use iox_negotiate as negotiated;
 use iox_negotiate_base::errors::CloseError;
 
-/// A service that is open in a hub, from which its ports are made. It is to be closed in that hub.
+/// A service that is open in a hub, and from which its ports are made. The factory is to be closed in the same hub.
 ///
 /// Ported from `iceoryx2::service::port_factory`, as one type for the three patterns.
 #[derive(Drop)]
@@ -16,12 +16,12 @@ pub struct PortFactory<P: Pattern> {
     pub(crate) owner: u64,
 }
 
-/// A factory that wasn't closed, or left something behind.
+/// The error of a close: the factory wasn't closed, or its description or segment couldn't be removed.
 #[derive(Drop)]
 pub struct NotClosed<P: Pattern> {
-    /// Why.
+    /// Why the factory wasn't closed, or what couldn't be removed.
     pub error: CloseError,
-    /// The factory, where it is handed back: at `StillInUse`.
+    /// The factory, if it is handed back: at `StillInUse`.
     pub factory: Option<PortFactory<P>>,
 }
 
@@ -34,7 +34,7 @@ impl<P: Pattern> PortFactory<P> {
         self.service.name()
     }
 
-    /// The settings that are agreed.
+    /// The settings on which the nodes of the service agreed.
     /// Example: `let history = factory.static_config().history_size;`
     pub fn static_config(&self) -> &P::StaticConfig
         ensures { P.static_config self.now.service.membership.service.description.settings ≡ Some result.now }
@@ -50,9 +50,9 @@ impl<P: Pattern> PortFactory<P> {
         self.service.attributes()
     }
 
-    /// What the nodes of the service agree on.
+    /// The description of the service, on which its nodes agree.
     ///
-    /// This port's own.
+    /// Not in `iceoryx2`.
     /// Example: `let hash = factory.description().service_hash();`
     pub fn description(&self) -> &Description
         ensures value { result.now ≡ self.now.service.membership.service.description }
@@ -61,7 +61,7 @@ impl<P: Pattern> PortFactory<P> {
         self.service.description()
     }
 
-    /// What tells apart the hub that it is of.
+    /// The id of the factory's hub.
     /// Example: `let is_of_it = factory.hub() == hub.id();`
     pub fn hub(&self) -> u64
         ensures { result ≡ self.now.service.membership.storage }
@@ -77,7 +77,7 @@ impl<P: Pattern> PortFactory<P> {
         self.service.number()
     }
 
-    /// The number of the node that the factory is of.
+    /// The number of the factory's node.
     /// Example: `let node = factory.node();`
     pub fn node(&self) -> u64
         ensures { result ≡ self.now.service.membership.node }
@@ -85,7 +85,7 @@ impl<P: Pattern> PortFactory<P> {
         self.service.node()
     }
 
-    /// The number of the factory, counted from 1 in each hub: who owns the ports that are made by it.
+    /// The number of the factory, counted from 1 in each hub; it is the owner of the ports that the factory makes.
     /// Example: `let owner = factory.owner();`
     pub fn owner(&self) -> u64
         ensures { result ≡ self.now.owner }

@@ -1,4 +1,4 @@
-//! Nodes of others act on the services of a hub.
+//! Actions of other nodes on the services of a hub.
 ghost use Rattle.std.specs.Prelude.{◌≡◌};
 ghost use Rattle.iox_delivery_factories.specs.DescribeBase.Hash.{service_hash_of};
 ghost use Rattle.iox_negotiate_table.specs.Stepped.{ActsAll};
@@ -11,12 +11,12 @@ use iox_negotiate_table::{ForeignStep, StepList, Table};
 use std::alloc::AllocError;
 
 impl<T: Copy, U: Copy, B: Drop, D: Drop> Hub<T, U, B, D> {
-    /// Nodes of others do these steps on the service of this pattern and name, one after the other. A step that doesn't fit changes
+    /// Does these actions of other nodes on the service of this pattern and name, one after the other. An action that doesn't fit changes
     /// nothing.
     ///
-    /// Refused with `HubError::OutOfMemory` at the first step that finds no memory; the steps before it stay done.
+    /// Refused with `HubError::OutOfMemory` at the first action that runs out of memory; the actions before it stay done.
     ///
-    /// This port's own: in `iceoryx2` other processes act by themselves.
+    /// Not in `iceoryx2`: in `iceoryx2` other processes act by themselves.
     /// Example: `hub.foreign(MessagingPattern::PublishSubscribe, &name, &steps)?;`
     pub fn foreign(
         &mut self,
@@ -34,7 +34,7 @@ impl<T: Copy, U: Copy, B: Drop, D: Drop> Hub<T, U, B, D> {
     }
 }
 
-// Does the steps in turn, up to the first that finds no memory.
+// Does the actions one after the other, up to the first that runs out of memory.
 fn act_all(table: &mut Table, hash: &ServiceHash, steps: &[ForeignStep]) -> Result<(), AllocError>
     ensures { ActsAll hash.now steps.now table.old result table.new }
 {

@@ -1,4 +1,4 @@
-//! A hub.
+//! The hub, and how it is made.
 ghost use Rattle.std.specs.Prelude.{◌≡◌, ◌-◌, ◌^◌, Ok, min, nat_eq};
 ghost use Rattle.iox_delivery_factories.specs.DescribeBase.Hash.{service_hash_of};
 ghost use Rattle.iox_negotiate_table.specs.Contents.{entry_at};
@@ -18,17 +18,17 @@ use iox_negotiate_base::{LookAnswer, Storage};
 use iox_negotiate_table::Table;
 use std::alloc::Global;
 
-/// How a hub is made.
+/// The configuration of a hub.
 #[derive(Clone, Copy, Debug, PartialEq, Eq)]
 pub struct HubConfig {
-    /// How many connections of a subscriber may wait to be read after their publishers left, or as many as samples of one connection may
-    /// be held, whichever is more.
+    /// How many connections of a subscriber may stay readable after their publishers were closed. If a service lets more samples of one
+    /// connection be borrowed, that number applies instead.
     pub expired_connection_buffer: u32,
-    /// What tells hubs apart.
+    /// The id of the hub, by which hubs are distinguished.
     pub id: u64,
 }
 
-/// Room for 128 connections of publishers that left, and the id 0.
+/// At most 128 connections of closed publishers, and the id 0.
 impl Default for HubConfig {
     ghost is_default = { λ made. (made.expired_connection_buffer ≡ 128) × (made.id ≡ 0) };
 
@@ -43,18 +43,18 @@ impl Default for HubConfig {
 /// What lies under the hash of a service.
 #[derive(Clone, Copy)]
 pub enum HashState {
-    /// Nothing: no service of it stands, and nobody is about to create one.
+    /// Nothing: the service doesn't exist, and no node is about to create it.
     Absent,
     /// A lock: a node is about to create the service.
     Locked,
-    /// A description: the service stands.
+    /// A description: the service exists.
     Described,
 }
 
-/// All nodes and services of a program: one owned value, which each call is handed.
+/// All nodes and services of a program, in one owned value that each call is handed.
 ///
-/// `T` is the element of messages, `U` their user header; `B` decides for publishers, `D` for subscribers. Stands for what the nodes of
-/// `iceoryx2` share on a machine.
+/// `T` is the element of messages, `U` their user header, `B` the handlers of a publisher, `D` the handler of a subscriber. Corresponds to
+/// what the nodes of `iceoryx2` share on a machine.
 pub struct Hub<T, U, B = Handlers, D = DegradationHandler> {
     pub(crate) expired_connection_buffer: u32,
     // How many nodes were made, and how many factories.
@@ -66,7 +66,7 @@ pub struct Hub<T, U, B = Handlers, D = DegradationHandler> {
     pub(crate) services: Services<T, U, B, D>,
 }
 
-/// Said here once, so that no crate above proves it anew.
+/// The implementation is here once, so that no crate above proves it again.
 impl<T: Drop, U: Drop, B: Drop, D: Drop> Drop for Hub<T, U, B, D> {
     fn drop(self) {
         let Hub {
@@ -96,7 +96,7 @@ impl<T: Copy, U: Copy, B: Drop, D: Drop> Hub<T, U, B, D> {
         }
     }
 
-    /// What tells hubs apart.
+    /// The id of the hub, by which hubs are distinguished.
     /// Example: `let id = hub.id();`
     pub fn id(&self) -> u64
         ensures { result ≡ self.now.table.id }
@@ -104,11 +104,11 @@ impl<T: Copy, U: Copy, B: Drop, D: Drop> Hub<T, U, B, D> {
         self.table.id()
     }
 
-    /// One more node, whose number is the next one; past 2^64 - 1 it is that.
+    /// Makes a node with the next number, which is at most 2^64 - 1.
     ///
-    /// `HubError::OutOfMemory` would say that an allocation failed; a node takes none.
+    /// `HubError::OutOfMemory` would report that an allocation failed; a node takes no memory.
     ///
-    /// Stands for `iceoryx2::node::NodeBuilder::create`.
+    /// Corresponds to `iceoryx2::node::NodeBuilder::create`.
     /// Example: `let node = hub.new_node()?;`
     pub fn new_node(&mut self) -> Result<NodeHandle, HubError>
         ensures node { result ≡ Ok (record { hub = self.old.table.id; number = one_more self.old.nodes }) }
@@ -123,7 +123,7 @@ impl<T: Copy, U: Copy, B: Drop, D: Drop> Hub<T, U, B, D> {
 
     /// Whether a node of this number was made: they are counted from 1.
     ///
-    /// This port's own.
+    /// Not in `iceoryx2`.
     /// Example: `let was_made = hub.has_node(1);`
     pub fn has_node(&self, number: u64) -> bool
         ensures { result ≡ is_node number self.now.nodes }
@@ -147,10 +147,10 @@ impl<T: Copy, U: Copy, B: Drop, D: Drop> Hub<T, U, B, D> {
         factory.service.storage() == self.id()
     }
 
-    /// What lies under the hash of a pattern and a name. Nothing changes, and it is told whatever memory there is: where a service stands
-    /// its description is copied if there is memory for that, and let go at once; elsewhere none is asked for.
+    /// What lies under the hash of a pattern and a name. Nothing changes, and the answer doesn't depend on memory: the description of an
+    /// existing service is copied if there is memory for it, and dropped at once; otherwise nothing is allocated.
     ///
-    /// This port's own.
+    /// Not in `iceoryx2`.
     /// Example: `let state = hub.state_under(MessagingPattern::Event, &name);`
     pub fn state_under(&mut self, pattern: MessagingPattern, name: &ServiceName) -> HashState
         ensures state { result ≡ hash_state (entry_at (service_hash_of pattern name.now) self.old.table) }
@@ -163,9 +163,9 @@ impl<T: Copy, U: Copy, B: Drop, D: Drop> Hub<T, U, B, D> {
         }
     }
 
-    /// How many loans the publishers of all domains that are here may still make, beside those that are out. Past 2^64 - 1 it is that.
+    /// How many loans the publishers of all domains in the hub may still make; domains that are out don't count. At most 2^64 - 1.
     ///
-    /// This port's own.
+    /// Not in `iceoryx2`.
     /// Example: `let loans = hub.loans_left();`
     pub fn loans_left(&self) -> u64
         ensures { result ≡ min (loans_left_in self.now.services.domains) (2 ^ 64 - 1) }
@@ -173,10 +173,10 @@ impl<T: Copy, U: Copy, B: Drop, D: Drop> Hub<T, U, B, D> {
         self.services.loans_left()
     }
 
-    /// How many samples the subscribers of all domains that are here may hold at once: each that didn't leave as many as may be
-    /// borrowed of a connection, of each publisher that is there. Past 2^64 - 1 it is that.
+    /// How many samples the subscribers of all domains in the hub may hold at once: for each open subscriber and each publisher that
+    /// exists, as many as may be borrowed of one connection. At most 2^64 - 1.
     ///
-    /// This port's own.
+    /// Not in `iceoryx2`.
     /// Example: `let samples = hub.samples_at_most();`
     pub fn samples_at_most(&self) -> u64
         ensures { result ≡ min (samples_at_most_in self.now.services.domains) (2 ^ 64 - 1) }

@@ -1,25 +1,26 @@
-//! What holds of the services of a hub, in other words than their calls'. Each law is the contract of a function that does nothing.
+//! Theorems about the services of a hub: consequences of the contracts of their calls. Each is the contract of a function that does
+//! nothing.
 ghost use Rattle.iox_hub_base.specs.Laws.{OpenedIsFound, BeginsAnew, GivesBack, ChangedIsPutBack};
 
-/// A service that was opened is found under its number, with a domain of its hub and number, and the services of the other numbers are as
-/// they were.
+/// A service that was opened is found under its number, with a domain of its hub and number. The services of the other numbers are as they
+/// were.
 pub fn opened_is_found<T, U, B, D>()
     ensures { OpenedIsFound T U B D }
 {}
 
-/// A service of a number under which nothing was open begins anew: no port, message or history of an earlier life is there.
+/// A service that opens under a number where nothing was open has a new domain: no port or message of an earlier lifetime is in it.
 pub fn begins_anew<T, U, B, D>()
     ensures { BeginsAnew T U B D }
 {}
 
-/// A domain that is taken and put back as it was is accepted, and all is as it was before. While it is out its ports aren't lent, it isn't
-/// taken again, and its service stays open.
+/// A domain that is taken and put back as it was is accepted, and all is as it was before. While it is out, its service stays open, its
+/// ports can't be borrowed, and it can't be taken again.
 pub fn gives_back<T, U, B, D>()
     ensures { GivesBack T U B D }
 {}
 
-/// A domain that is taken, and is of the hub and of that service, is awaited, however it changes, and accepted when it is put back: all is
-/// as it was before, but that it is here as it came back. It must have its id and its agreement still, as a domain has that was lanes.
+/// A domain that was taken is awaited, whatever changes in it except its id and its agreement. When it is put back it is accepted, and all
+/// is as it was before, except that the domain is the changed one. A domain that was stepped by lanes keeps its id and its agreement.
 pub fn changed_is_put_back<T, U, B, D>()
     ensures { ChangedIsPutBack T U B D }
 {}

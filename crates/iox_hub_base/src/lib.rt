@@ -2,27 +2,27 @@
 //!
 //! | Module | What it has |
 //! |---|---|
-//! | `presence` | a domain that is here, or what is agreed while it is out |
-//! | `services` | the services of a hub: they open and close |
-//! | `taking` | a domain is taken out, to be driven elsewhere, and put back |
+//! | `presence` | a domain that is in the hub, or its agreement while it is out |
+//! | `services` | the services of a hub, and how they open and close |
+//! | `taking` | how a domain is taken out, to be driven elsewhere, and put back |
 //! | `services_home` | the services of a hub as a home of domains |
-//! | `laws` | what holds of these calls, in other words |
-//! | `presences` | what is open, by numbers |
-//! | `by_number` | values by their numbers, of which one is found at once |
+//! | `laws` | theorems about these calls |
+//! | `presences` | open services by number |
+//! | `by_number` | values by number, of which one is found at once |
 //! | `counts` | how many factories of a service are open |
-//! | `service_room` | services and counts with room for one more |
+//! | `service_room` | services and counts with capacity for one more |
 //! | `node` | a node |
 //! | `factory` | a service that is open in a hub |
 //! | `hub` | the hub: nodes, and builders of services |
-//! | `builder` | services are created and opened in it |
-//! | `entering` | from a service that was negotiated to a factory of the hub |
-//! | `untouched` | a table of which no look finds memory |
-//! | `closing` | factories are closed |
-//! | `foreign` | nodes of others act |
-//! | `ports` | builders of ports; domains that are taken and put back |
+//! | `builder` | how services are created and opened in a hub |
+//! | `entering` | how a service that was negotiated becomes a factory of the hub |
+//! | `untouched` | a table whose looks run out of memory |
+//! | `closing` | how factories are closed |
+//! | `foreign` | actions of other nodes |
+//! | `ports` | builders of ports; how domains are taken and put back |
 //! | `home` | the hub as a home of its domains |
 //!
-//! First calls, of a builder of a service:
+//! First calls, with a builder of a service:
 //!
 //! ```
 //! let mut hub = Hub::<u64, (), Nobody, Nobody>::new(alloc, config);
@@ -31,7 +31,7 @@
 //! Ok((node.number(), builder.holds(&hub)))
 //! ```
 //!
-//! First calls, of a domain that is taken out and put back. `Hub` of `iox_hub_base` makes them.
+//! First calls, with a domain that is taken out and put back; `Hub` of `iox_hub_base` makes them.
 //!
 //! ```
 //! let mut services = Services::<u64, (), Nobody, Nobody>::new(alloc, 4);

@@ -1,4 +1,4 @@
-//! A service is created or opened in a hub as a builder asks, with attributes beside those that it asks for or without.
+//! How a service is created or opened in a hub as a builder asks, with or without attributes beside those that the builder has.
 ghost use Rattle.std.specs.Prelude.{◌≡◌, IfOk, Option, false, true, option_copied};
 ghost use Rattle.std.specs.Option.{option_map_or, unwrap_or};
 ghost use Rattle.std.specs.Result.{result_map_both};
@@ -24,7 +24,7 @@ use iox_negotiate_table::{StepList, Stepped};
 use iox_queues_base::Words;
 use std::alloc::Global;
 
-/// Creates the service, with these attributes; where there are none, with those that are asked for.
+/// Creates the service with these attributes, or, if none are given, with those that the builder asks for.
 pub(crate) fn create<
     P: Negotiated,
     T: Words + ZeroCopySend,
@@ -54,7 +54,7 @@ pub(crate) fn create<
     hub.settle(alloc, table, room, answer, lacking)
 }
 
-// The same over the table that a hub lends.
+// The creation over the table that a hub hands out.
 fn created<P: Negotiated>(
     alloc: Global,
     builder: ServiceBuilder<P>,
@@ -74,7 +74,7 @@ fn created<P: Negotiated>(
     }
 }
 
-/// Opens the service, if it has these attributes, too.
+/// Opens the service if it also has these attributes.
 pub(crate) fn open<
     P: Negotiated,
     T: Words + ZeroCopySend,
@@ -103,7 +103,7 @@ pub(crate) fn open<
     hub.settle(alloc, table, room, answer, lacking)
 }
 
-// The same over the table that a hub lends.
+// The opening over the table that a hub hands out.
 fn opened<P: Negotiated>(
     alloc: Global,
     builder: ServiceBuilder<P>,
@@ -122,7 +122,7 @@ fn opened<P: Negotiated>(
     }
 }
 
-/// Opens the service, if it has these attributes, too, or creates it with the required pairs.
+/// Opens the service if it also has these attributes, or creates it with the required pairs.
 pub(crate) fn open_or_create<
     P: Negotiated,
     T: Words + ZeroCopySend,
@@ -154,7 +154,7 @@ pub(crate) fn open_or_create<
     hub.settle(alloc, table, room, answer, lacking)
 }
 
-// The same over the table that a hub lends.
+// The opening or creation over the table that a hub hands out.
 fn opened_or_created<P: Negotiated>(
     alloc: Global,
     builder: ServiceBuilder<P>,
@@ -175,7 +175,7 @@ fn opened_or_created<P: Negotiated>(
     }
 }
 
-// The errors of a call that opens or creates, where no memory is found after its last access.
+// The errors of a call that opens or creates, if memory runs out after its last access.
 fn lacking_either<P: Negotiated>() -> Lacking<P::OpenOrCreateError>
     ensures opened { result.opened ≡ P.open_or_create_error (lacking_either false) }
     ensures created { result.created ≡ P.open_or_create_error (lacking_either true) }

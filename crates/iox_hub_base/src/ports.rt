@@ -1,4 +1,4 @@
-//! Builders of the ports of a factory's service, and domains that are taken and put back.
+//! Builders of the ports of a factory's service, and how domains are taken and put back.
 ghost use Rattle.std.specs.Prelude.{◌≡◌, IfOk, option_copied};
 ghost use Rattle.iox_delivery_factories.specs.Elements.{values_each};
 ghost use Rattle.iox_hub_base.specs.Builders.{publishers_of, subscribers_of};
@@ -19,7 +19,7 @@ use iox_domain_values::{
 use std::marker::PhantomData;
 
 impl<T: Copy, U: Copy, B: Drop, D: Drop> Hub<T, U, B, D> {
-    /// The domain of a factory's service; None where it is out, or none was made.
+    /// The domain of a factory's service. None if the domain is out, or none was made.
     /// Example: `let domain = hub.domain(&factory)?;`
     pub fn domain(&self, factory: &PortFactory<PublishSubscribe>) -> Option<&Domain<T, U, B, D>>
         requires { factory.now.service.membership.storage ≡ self.now.table.id }
@@ -28,10 +28,10 @@ impl<T: Copy, U: Copy, B: Drop, D: Drop> Hub<T, U, B, D> {
         self.services.domain(factory.number())
     }
 
-    /// Takes the domain of a factory's service out of the hub, to be driven elsewhere. It is of this hub and service. Its entry stays, so
-    /// that it takes no memory to put it back.
+    /// Takes the domain of a factory's service out of the hub, to be driven elsewhere. The domain is of this hub and service. Its entry
+    /// stays, so putting it back takes no memory.
     ///
-    /// Refused with `DomainIsOut` where it is out, or none was made; then nothing has changed.
+    /// Refused with `DomainIsOut` if the domain is out, or none was made; then nothing has changed.
     /// Example: `let domain = hub.take_domain(&factory)?;`
     pub fn take_domain(
         &mut self,
@@ -48,10 +48,10 @@ impl<T: Copy, U: Copy, B: Drop, D: Drop> Hub<T, U, B, D> {
         self.services.take(factory.number())
     }
 
-    /// Puts a domain back that was taken out of the hub.
+    /// Puts back a domain that was taken out of the hub.
     ///
-    /// Refused where hub, service and agreement aren't those of a domain that is out; the domain is handed back then, and nothing has
-    /// changed.
+    /// Refused with `DomainIsForeign` if hub, service and agreement aren't those of a domain that is out; then the domain is handed back,
+    /// and nothing has changed.
     /// Example: `let put = hub.put_domain(domain);`
     pub fn put_domain(
         &mut self,
@@ -64,11 +64,11 @@ impl<T: Copy, U: Copy, B: Drop, D: Drop> Hub<T, U, B, D> {
     }
 }
 
-// A function that makes a builder may call none that makes one, and so these say again what those of `iox_delivery_factories`
-// say: a builder holds an object, and a hub may hold some.
+// A function that makes a builder can't call another that makes one, so these repeat what those of `iox_delivery_factories` do: a builder
+// holds an object, and a hub may hold some.
 impl<T: Copy + ZeroCopySend, U: Copy, B: Drop, D: Drop> Hub<T, U, B, D> {
-    /// What makes publishers of a factory's service, sized by what is agreed of it: nothing is named yet. None where the domain is out,
-    /// or none was made.
+    /// The builder of publishers of a factory's service, with sizes from its agreement and no option set yet. None if the domain is out, or
+    /// none was made.
     ///
     /// Ported from `iceoryx2::service::port_factory::publish_subscribe::PortFactory::publisher_builder`.
     /// Example: `let builder = hub.publisher_builder(&factory)?;`
@@ -104,7 +104,7 @@ impl<T: Copy + ZeroCopySend, U: Copy, B: Drop, D: Drop> Hub<T, U, B, D> {
 }
 
 impl<T: Copy, U: Copy, B: Drop, D: Drop> Hub<T, U, B, D> {
-    /// What makes subscribers of a factory's service, sized by what is agreed of it: nothing is named yet. None where the domain is out,
+    /// The builder of subscribers of a factory's service, with sizes from its agreement and no option set yet. None if the domain is out,
     /// or none was made.
     ///
     /// Ported from `iceoryx2::service::port_factory::publish_subscribe::PortFactory::subscriber_builder`.
@@ -131,7 +131,7 @@ impl<T: Copy, U: Copy, B: Drop, D: Drop> Hub<T, U, B, D> {
     }
 }
 
-// How many values of this size an element of a size has.
+// How many values of this size in bytes an element of a size has.
 fn values_each(element: u64, value: u64) -> usize
     ensures { result ≡ values_each element value }
 {

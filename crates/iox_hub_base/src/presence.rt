@@ -1,4 +1,4 @@
-//! A domain that is here, or what is agreed while it is out.
+//! A domain that is in the hub, or its agreement while it is out.
 ghost use Rattle.std.specs.Prelude.{◌≡◌, ◌↔◌, ◌-◌, ◌^◌, IsSome, IsTrue, Some, min, option_copied};
 ghost use Rattle.std.specs.Borrow.{sem};
 ghost use Rattle.iox_hub_base.specs.Open.{here, taken_out};
@@ -14,19 +14,19 @@ use iox_domain::allowances::{loans, samples};
 use iox_domain_values::{DegradationHandler, Handlers};
 use std::mem;
 
-/// An open service: its domain, or what its nodes agreed on while the domain is out.
+/// An open service: its domain, or its nodes' agreement while the domain is out.
 #[derive(Drop)]
 pub enum Presence<T, U, B = Handlers, D = DegradationHandler> {
-    /// The domain is here.
+    /// The domain is in the hub.
     Here(Domain<T, U, B, D>),
-    /// The domain was taken by the user, to be driven elsewhere.
+    /// The user took the domain out, to drive it elsewhere; its agreement stays.
     Out(StaticConfig),
 }
 
 impl<T, U, B, D> Presence<T, U, B, D> {
     ghost use Rattle.iox_hub_base.specs.Lends.{LendsDomain};
 
-    /// The domain, if it is here.
+    /// The domain, if it is in the hub.
     /// Example: `let domain = presence.domain()?;`
     pub fn domain(&self) -> Option<&Domain<T, U, B, D>>
         ensures { option_copied result ≡ here self.now }
@@ -37,7 +37,7 @@ impl<T, U, B, D> Presence<T, U, B, D> {
         }
     }
 
-    /// The domain, which is here, to be changed in its place.
+    /// The domain, which is in the hub, to be changed in its place.
     /// Example: `let domain = presence.domain_mut();`
     pub fn domain_mut(&mut self) -> &mut Domain<T, U, B, D>
         requires { IsSome (here self.old) }
@@ -50,7 +50,7 @@ impl<T, U, B, D> Presence<T, U, B, D> {
         }
     }
 
-    /// Whether the domain is out, and just this is agreed.
+    /// Whether the domain is out with exactly this agreement.
     /// Example: `let is_awaited = presence.awaits(&domain.agreed);`
     pub fn awaits(&self, agreed: &StaticConfig) -> bool
         ensures { IsTrue result ↔ (self.now ≡ Out agreed.now) }
@@ -61,7 +61,7 @@ impl<T, U, B, D> Presence<T, U, B, D> {
         }
     }
 
-    /// Takes the domain out, if it is here; what is agreed stays.
+    /// Takes the domain out, if it is in the hub; its agreement stays.
     pub fn take(&mut self) -> Option<Domain<T, U, B, D>>
         ensures domain { result ≡ here self.old }
         ensures new { self.new ≡ taken_out self.old }
@@ -78,7 +78,7 @@ impl<T, U, B, D> Presence<T, U, B, D> {
 }
 
 impl<T: Copy, U: Copy, B, D> Presence<T, U, B, D> {
-    /// How many loans the publishers of the domain may still make; none where it is out. Past 2^64 - 1 it is that.
+    /// How many loans the publishers of the domain may still make; 0 if the domain is out. At most 2^64 - 1.
     /// Example: `let loans = presence.loans_left();`
     pub fn loans_left(&self) -> u64
         ensures { result ≡ min (counted_at (λ ports. loans_left ports) self.now) (2 ^ 64 - 1) }
@@ -89,7 +89,7 @@ impl<T: Copy, U: Copy, B, D> Presence<T, U, B, D> {
         }
     }
 
-    /// How many samples the subscribers of the domain may hold at once; none where it is out. Past 2^64 - 1 it is that.
+    /// How many samples the subscribers of the domain may hold at once; 0 if the domain is out. At most 2^64 - 1.
     /// Example: `let samples = presence.samples_at_most();`
     pub fn samples_at_most(&self) -> u64
         ensures { result ≡ min (counted_at (λ ports. samples_at_most ports) self.now) (2 ^ 64 - 1) }
@@ -101,7 +101,7 @@ impl<T: Copy, U: Copy, B, D> Presence<T, U, B, D> {
     }
 }
 
-// Whether the same is agreed.
+// Whether two agreements are the same.
 fn is_same(a: &StaticConfig, b: &StaticConfig) -> bool
     ensures { result ≡ same_agreement a.now b.now }
 {

@@ -1,4 +1,4 @@
-//! What is open, by numbers.
+//! Open services by number.
 ghost use Rattle.std.specs.Prelude.{◌≡◌, ◌-◌, ◌^◌, ℕ, min, option_copied, IfSome, IfNone, IsSome, IfOk, OnOk, OnErr, [], None, Some};
 ghost use Rattle.std.specs.Borrow.{sem};
 ghost use Rattle.std.specs.Option.{option_copied_mut};
@@ -13,9 +13,9 @@ use iox_domain_ports::living::add;
 use std::alloc::{AllocError, Global};
 use std::marker::Model;
 
-/// Open services, by their numbers.
+/// Open services by number.
 ///
-/// Contracts see each with its number, by rising number.
+/// Contracts see each service with its number, by rising number.
 #[derive(Drop)]
 pub struct Presences<T, U, B, D> {
     pub(crate) entries: ByNumber<Presence<T, U, B, D>>,
@@ -33,7 +33,7 @@ impl<T, U, B, D> Model for Presences<T, U, B, D> {
 impl<T: Copy, U: Copy, B: Drop, D: Drop> Presences<T, U, B, D> {
     ghost use Rattle.iox_hub_base.specs.Lends.{LendsPresence, LendsDomainAt};
 
-    /// Nothing is open.
+    /// A list without open services.
     pub fn new(alloc: Global) -> Self
         ensures { result ≡ [] }
     {
@@ -42,7 +42,7 @@ impl<T: Copy, U: Copy, B: Drop, D: Drop> Presences<T, U, B, D> {
         }
     }
 
-    /// What is open under a number, if anything is.
+    /// The service that is open under this number, if one is.
     /// Example: `let presence = presences.get(number)?;`
     pub fn get(&self, number: u64) -> Option<&Presence<T, U, B, D>>
         ensures { option_copied result ≡ presence_of number self.now }
@@ -50,7 +50,7 @@ impl<T: Copy, U: Copy, B: Drop, D: Drop> Presences<T, U, B, D> {
         self.entries.get(number)
     }
 
-    /// What is open under a number, if anything is, to be changed in its place.
+    /// The service that is open under this number, if one is, to be changed in its place.
     /// Example: `let presence = presences.get_mut(number)?;`
     pub fn get_mut(&mut self, number: u64) -> Option<&mut Presence<T, U, B, D>>
         ensures* writes_back { sem 𝓛 (LendsPresence T.row U.row B.row D.row self.entry number result) }
@@ -59,7 +59,7 @@ impl<T: Copy, U: Copy, B: Drop, D: Drop> Presences<T, U, B, D> {
         self.entries.get_mut(number)
     }
 
-    /// The domain under a number, if it is here.
+    /// The domain under this number, if it is in the hub.
     /// Example: `let domain = presences.domain(number)?;`
     pub fn domain(&self, number: u64) -> Option<&Domain<T, U, B, D>>
         ensures { option_copied result ≡ domain_of number self.now }
@@ -67,7 +67,7 @@ impl<T: Copy, U: Copy, B: Drop, D: Drop> Presences<T, U, B, D> {
         self.get(number)?.domain()
     }
 
-    /// Where the number of a domain that is here stands.
+    /// The place of this number, if its domain is in the hub.
     /// Example: `let place = presences.place(number)?;`
     pub fn place(&self, number: u64) -> Option<usize>
         ensures some { IfSome result (λ place. StandsAt number place self.now × IsSome (domain_of number self.now)) }
@@ -80,7 +80,7 @@ impl<T: Copy, U: Copy, B: Drop, D: Drop> Presences<T, U, B, D> {
         }
     }
 
-    /// The domain under a number that stands at this place; it is here.
+    /// The domain under this number, which is at this place and in the hub.
     /// Example: `let domain = presences.domain_at(number, place);`
     pub fn domain_at(&self, number: u64, place: usize) -> &Domain<T, U, B, D>
         requires { StandsAt number place self.now × IsSome (domain_of number self.now) }
@@ -92,7 +92,7 @@ impl<T: Copy, U: Copy, B: Drop, D: Drop> Presences<T, U, B, D> {
         }
     }
 
-    /// The same, to be changed in its place.
+    /// The domain under this number, which is at this place and in the hub, to be changed there.
     /// Example: `let domain = presences.domain_mut_at(number, place);`
     pub fn domain_mut_at(&mut self, number: u64, place: usize) -> &mut Domain<T, U, B, D>
         requires { StandsAt number place self.old × IsSome (domain_of number self.old) }
@@ -102,7 +102,7 @@ impl<T: Copy, U: Copy, B: Drop, D: Drop> Presences<T, U, B, D> {
         self.entries.at_mut(number, place).domain_mut()
     }
 
-    /// How many loans the publishers of all domains that are here may still make. Past 2^64 - 1 it is that.
+    /// How many loans the publishers of all domains in the hub may still make. At most 2^64 - 1.
     /// Example: `let loans = presences.loans_left();`
     pub fn loans_left(&self) -> u64
         ensures { result ≡ min (loans_left_in self.now) (2 ^ 64 - 1) }
@@ -115,7 +115,7 @@ impl<T: Copy, U: Copy, B: Drop, D: Drop> Presences<T, U, B, D> {
         left
     }
 
-    /// How many samples the subscribers of all domains that are here may hold at once. Past 2^64 - 1 it is that.
+    /// How many samples the subscribers of all domains in the hub may hold at once. At most 2^64 - 1.
     /// Example: `let samples = presences.samples_at_most();`
     pub fn samples_at_most(&self) -> u64
         ensures { result ≡ min (samples_at_most_in self.now) (2 ^ 64 - 1) }
@@ -128,7 +128,7 @@ impl<T: Copy, U: Copy, B: Drop, D: Drop> Presences<T, U, B, D> {
         count
     }
 
-    /// Something else is under a number, if something is open under it. It takes no memory.
+    /// Replaces the service under this number, if one is open under it. It takes no memory.
     /// Example: `presences.replace(number, Presence::Out(agreed));`
     pub fn replace(&mut self, number: u64, presence: Presence<T, U, B, D>)
         ensures { self.new ≡ with_presence number self.old presence }
@@ -136,8 +136,8 @@ impl<T: Copy, U: Copy, B: Drop, D: Drop> Presences<T, U, B, D> {
         self.entries.replace(number, presence);
     }
 
-    /// What is open, with room for one number more; nothing is open here until it is put back. It takes no memory where there is room.
-    /// Fails only where an allocation fails, and then nothing has changed.
+    /// The open services, with capacity for one number more; none is open here until they are put back. It takes no memory if there is
+    /// capacity. It fails only if an allocation fails, and then nothing has changed.
     pub(crate) fn lend(
         &mut self,
         alloc: Global,
@@ -149,7 +149,7 @@ impl<T: Copy, U: Copy, B: Drop, D: Drop> Presences<T, U, B, D> {
         self.entries.lend(alloc)
     }
 
-    /// A service opens under a number, in the place of one that had it. It fails only where an allocation fails, and then nothing has
+    /// Opens a service under this number, and drops the one that had the number. It fails only if an allocation fails, and then nothing has
     /// changed.
     /// Example: `presences.insert(alloc, number, Presence::Here(domain))?;`
     pub fn insert(
@@ -167,7 +167,7 @@ impl<T: Copy, U: Copy, B: Drop, D: Drop> Presences<T, U, B, D> {
         Ok(())
     }
 
-    /// Nothing is open under a number any longer. The other numbers have what they had.
+    /// Removes the service under this number. The other services stay.
     /// Example: `presences.remove(number);`
     pub fn remove(&mut self, number: u64)
         ensures new { self.new ≡ closed number self.old }

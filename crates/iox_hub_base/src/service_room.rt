@@ -1,4 +1,4 @@
-//! What is lent to a call that opens a service, before it touches the table: services and counts of factories, with room for one more.
+//! What a hub hands to a call that opens a service, before the call touches the table: services and counts with capacity for one more.
 ghost use Rattle.std.specs.Prelude.{◌≡◌, IfOk};
 ghost use Rattle.iox_domain.specs.DescribeBase.Detail.{detail};
 ghost use Rattle.iox_domain.specs.DescribeBase.declared.type_detail.TypeVariant.TheVariants.{FixedSize};
@@ -19,21 +19,22 @@ use iox_queues_base::Words;
 use std::alloc::Global;
 use std::marker::Model;
 
-/// What a hub lends to a call that opens a service: the table, with steps to do before its accesses, and room for the service.
+/// What a hub hands to a call that opens a service: the table, with actions of other nodes to do before its accesses, and capacity for the
+/// service.
 #[derive(Drop)]
 pub(crate) struct OpeningParts<T, U, B, D> {
     pub(crate) table: Stepped,
     pub(crate) room: ServiceRoom<T, U, B, D>,
 }
 
-/// The services of a hub and the counts of their factories, with room for one service more.
+/// The services of a hub and the counts of their factories, with capacity for one service more.
 #[derive(Drop)]
 pub(crate) struct ServiceRoom<T, U, B, D> {
     pub(crate) counts: RoomyCounts,
     pub(crate) services: RoomyServices<T, U, B, D>,
 }
 
-/// Services among which there is room for one more.
+/// Services with capacity for one more.
 ///
 /// Contracts see them as `Services`.
 #[derive(Drop)]
@@ -60,7 +61,7 @@ impl<T: Copy, U: Copy, B: Drop, D: Drop> RoomyServices<T, U, B, D> {
         self.presences.get(number).is_some()
     }
 
-    /// The services as they are.
+    /// The services, without any change.
     pub(crate) fn into_services(self) -> Services<T, U, B, D>
         ensures { result ≡ self }
     {
@@ -74,8 +75,8 @@ impl<T: Copy, U: Copy, B: Drop, D: Drop> RoomyServices<T, U, B, D> {
 }
 
 impl<T: Words + ZeroCopySend, U: Copy + ZeroCopySend, B: Drop, D: Drop> RoomyServices<T, U, B, D> {
-    /// The services with one that opens under a number, as `Services::open` opens it. There is room for its entry, so only memory of its
-    /// domain may lack; then the services are answered as they are.
+    /// The services with one that opens under a number, as `Services::open` opens it. There is capacity for its entry, so only an
+    /// allocation of its domain may fail; then the services are returned as they were.
     pub(crate) fn open(
         self,
         alloc: Global,
@@ -105,7 +106,7 @@ impl<T: Words + ZeroCopySend, U: Copy + ZeroCopySend, B: Drop, D: Drop> RoomySer
     }
 }
 
-// A new domain, which is here, in a box of its own.
+// A new domain in the hub, in a box of its own.
 fn new_here<T: Words + ZeroCopySend, U: Copy + ZeroCopySend, B: Drop, D: Drop>(
     alloc: Global,
     id: DomainId,

@@ -1,4 +1,4 @@
-//! The services of a hub.
+//! The open services of a hub.
 ghost use Rattle.std.specs.Prelude.{◌≡◌, ◌-◌, ◌^◌, ℕ, min, option_copied, IfSome, IfOk, OnErr, [], None};
 ghost use Rattle.iox_domain.specs.DescribeBase.Detail.{detail};
 ghost use Rattle.iox_domain.specs.DescribeBase.declared.type_detail.TypeVariant.TheVariants.{FixedSize};
@@ -16,11 +16,11 @@ use iox_queues_base::Words;
 use std::alloc::{AllocError, Global};
 use std::marker::Model;
 
-/// The open publish-subscribe services of a hub, by their numbers, each with its domain here, or out: taken by the user to be driven
-/// elsewhere.
+/// The open publish-subscribe services of a hub, by number. The domain of each is in the hub or out, that is, taken by the user to be
+/// driven elsewhere.
 ///
-/// Contracts see the number of the hub, and each service with its number, by rising number. A domain that is here is of this hub,
-/// and of the service under whose number it is kept. This port's own.
+/// Contracts see the id of the hub, and each service with its number, by rising number. A domain that is in the hub has the hub's id and
+/// the number under which it is kept. Not in `iceoryx2`.
 #[derive(Drop)]
 pub struct Services<T, U, B = Handlers, D = DegradationHandler> {
     pub(crate) hub: u64,
@@ -38,7 +38,7 @@ impl<T, U, B, D> Model for Services<T, U, B, D> {
 }
 
 impl<T: Copy, U: Copy, B: Drop, D: Drop> Services<T, U, B, D> {
-    /// No service is open in a hub of this number. It takes no memory.
+    /// The services of a hub with this id, of which none is open. It takes no memory.
     pub fn new(alloc: Global, hub: u64) -> Self
         ensures { result ≡ record { hub = hub; domains = [] } }
     {
@@ -48,7 +48,7 @@ impl<T: Copy, U: Copy, B: Drop, D: Drop> Services<T, U, B, D> {
         }
     }
 
-    /// Whether a service of this number is open: it was opened and not closed, be its domain here or out.
+    /// Whether a service of this number is open: it was opened and not closed; its domain may be in the hub or out.
     /// Example: `let is_open = services.is_open(number);`
     pub fn is_open(&self, number: u64) -> bool
         ensures { result ≡ is_open number self.now }
@@ -56,7 +56,7 @@ impl<T: Copy, U: Copy, B: Drop, D: Drop> Services<T, U, B, D> {
         self.presences.get(number).is_some()
     }
 
-    /// The domain of a service, if it is here. It is of this hub and number.
+    /// The domain of a service, if it is in the hub. Its id is that of this hub and number.
     /// Example: `let domain = services.domain(number)?;`
     pub fn domain(&self, number: u64) -> Option<&Domain<T, U, B, D>>
         ensures value { option_copied result ≡ domain_of number self.now.domains }
@@ -65,7 +65,7 @@ impl<T: Copy, U: Copy, B: Drop, D: Drop> Services<T, U, B, D> {
         self.presences.domain(number)
     }
 
-    /// How many loans the publishers of all domains that are here may still make, beside those that are out. Past 2^64 - 1 it is that.
+    /// How many loans the publishers of all domains in the hub may still make; domains that are out don't count. At most 2^64 - 1.
     /// Example: `let loans = services.loans_left();`
     pub fn loans_left(&self) -> u64
         ensures { result ≡ min (loans_left_in self.now.domains) (2 ^ 64 - 1) }
@@ -73,7 +73,7 @@ impl<T: Copy, U: Copy, B: Drop, D: Drop> Services<T, U, B, D> {
         self.presences.loans_left()
     }
 
-    /// How many samples the subscribers of all domains that are here may hold at once. Past 2^64 - 1 it is that.
+    /// How many samples the subscribers of all domains in the hub may hold at once. At most 2^64 - 1.
     /// Example: `let samples = services.samples_at_most();`
     pub fn samples_at_most(&self) -> u64
         ensures { result ≡ min (samples_at_most_in self.now.domains) (2 ^ 64 - 1) }
@@ -81,8 +81,8 @@ impl<T: Copy, U: Copy, B: Drop, D: Drop> Services<T, U, B, D> {
         self.presences.samples_at_most()
     }
 
-    /// The services, with room for one more; none is open here until they are put back. It takes no memory where there is room. Fails only
-    /// where an allocation fails, and then nothing has changed.
+    /// The services, with capacity for one more; none is open here until they are put back. It takes no memory if there is capacity. It
+    /// fails only if an allocation fails, and then nothing has changed.
     pub(crate) fn lend(&mut self, alloc: Global) -> Result<RoomyServices<T, U, B, D>, AllocError>
         ensures ok { IfOk result (λ lent. lent ≡ self.old) }
         ensures err { OnErr result (self.new ≡ self.old) }
@@ -94,7 +94,7 @@ impl<T: Copy, U: Copy, B: Drop, D: Drop> Services<T, U, B, D> {
         })
     }
 
-    /// Nothing is open under a number any longer: a domain that was here is dropped with its ports. The other services stay as they were.
+    /// Closes the service under this number: a domain that was in the hub is dropped with its ports. The other services stay as they were.
     /// It takes no memory.
     /// Example: `services.close(number);`
     pub fn close(&mut self, number: u64)
@@ -107,12 +107,12 @@ impl<T: Copy, U: Copy, B: Drop, D: Drop> Services<T, U, B, D> {
 }
 
 impl<T: Words + ZeroCopySend, U: Copy + ZeroCopySend, B: Drop, D: Drop> Services<T, U, B, D> {
-    /// Opens a service under a number: its domain is a new one of this hub and number, by the description, and has no ports. Nothing
-    /// happens where one of this number is open, be its domain here or out, nor where the description doesn't fit (`Domain::fits`). So
-    /// many connections of a subscriber may wait to be read after their publishers left, or as many as samples of one connection may be
-    /// held, whichever is more.
+    /// Opens a service under this number: its domain is a new one of this hub and number, by the description, and has no ports. Nothing
+    /// happens if one of this number is open, with its domain in the hub or out, or if the description doesn't fit (`Domain::fits`). The
+    /// buffer is how many connections of a subscriber may stay readable after their publishers were closed; if more samples of one
+    /// connection may be held, that number applies instead.
     ///
-    /// Refused with `OutOfMemory` where a domain is to be made and an allocation fails; then nothing has changed.
+    /// Refused with `OutOfMemory` if a domain is to be made and an allocation fails; then nothing has changed.
     pub fn open(
         &mut self,
         alloc: Global,

@@ -1,4 +1,4 @@
-//! A domain is taken out, to be driven elsewhere, and put back.
+//! How a domain is taken out, to be driven elsewhere, and put back.
 ghost use Rattle.std.specs.Prelude.{◌≡◌, ◌↔◌, IsTrue, IfOk};
 ghost use Rattle.iox_hub_base.specs.Taking.{Takes, IsAwaited, Puts};
 ghost use Rattle.iox_hub_base.specs.Texts.{take_text, foreign_text};
@@ -9,7 +9,7 @@ use iox_domain::Domain;
 use std::fmt;
 use thiserror::Error;
 
-/// Why a domain isn't taken. This port's own.
+/// Why a domain can't be taken. Not in `iceoryx2`.
 #[derive(Clone, Copy, Debug, PartialEq, Eq, Hash, Error)]
 #[error("{}", self.text())]
 pub enum TakeError {
@@ -18,7 +18,7 @@ pub enum TakeError {
 }
 
 impl TakeError {
-    /// What it displays as.
+    /// The text that the error displays.
     /// Example: `let text = TakeError::DomainIsOut.text();`
     pub fn text(&self) -> &'static str
         ensures { result.now ≡ take_text self.now }
@@ -29,16 +29,16 @@ impl TakeError {
     }
 }
 
-/// A domain that isn't put back: its hub, its service and what is agreed aren't those of a domain that is out. It is handed back. This
-/// port's own.
+/// The error for a domain that can't be put back: its hub, its service and its agreement aren't those of a domain that is out. The domain
+/// is handed back. Not in `iceoryx2`.
 #[derive(Drop)]
 pub struct DomainIsForeign<X> {
-    /// The domain.
+    /// The domain that is handed back.
     pub domain: X,
 }
 
 impl<X> DomainIsForeign<X> {
-    /// What it displays as.
+    /// The text that the error displays.
     /// Example: `let text = foreign.text();`
     pub fn text(&self) -> &'static str
         ensures { result.now ≡ foreign_text }
@@ -59,10 +59,10 @@ impl<X> fmt::Display for DomainIsForeign<X> {
 }
 
 impl<T: Copy, U: Copy, B: Drop, D: Drop> Services<T, U, B, D> {
-    /// Takes the domain of a service out, to be driven elsewhere. It is of this hub and number. What is agreed stays in its place, so that
-    /// only such a domain is put back. It takes no memory.
+    /// Takes the domain of a service out, to be driven elsewhere. The domain is of this hub and number. Its agreement stays in its place,
+    /// so that only a domain with the same agreement is put back. It takes no memory.
     ///
-    /// Refused with `DomainIsOut` where the domain is out, or where none was made; then nothing has changed.
+    /// Refused with `DomainIsOut` if the domain is out, or none was made; then nothing has changed.
     pub fn take(&mut self, number: u64) -> Result<Domain<T, U, B, D>, TakeError>
         ensures takes { Takes number self.old result self.new }
         ensures own { IfOk result (λ domain. domain.id ≡ record { hub = self.old.hub; service = number }) }
@@ -73,10 +73,9 @@ impl<T: Copy, U: Copy, B: Drop, D: Drop> Services<T, U, B, D> {
         presence.take().ok_or(TakeError::DomainIsOut)
     }
 
-    /// Puts a domain back that was taken out: it is here again, as it was handed in. It takes no memory.
+    /// Puts back a domain that was taken out, as it is handed in. It takes no memory.
     ///
-    /// Refused with `DomainIsForeign`, with the domain handed back, unless a domain of its hub, of its service's number and of what is
-    /// agreed is out; then nothing has changed.
+    /// Refused with `DomainIsForeign`, the domain handed back, unless the domain is awaited (`awaits`); then nothing has changed.
     pub fn put(
         &mut self,
         domain: Domain<T, U, B, D>,
@@ -91,7 +90,7 @@ impl<T: Copy, U: Copy, B: Drop, D: Drop> Services<T, U, B, D> {
         Ok(())
     }
 
-    /// Whether a domain would be put back: it is of this hub, and under the number of its service one is out of which just this is agreed.
+    /// Whether `put` would accept this domain: it is of this hub, and the domain of its service's number is out with exactly its agreement.
     /// Example: `let is_awaited = services.awaits(&domain);`
     pub fn awaits(&self, domain: &Domain<T, U, B, D>) -> bool
         ensures { IsTrue result ↔ IsAwaited domain.now self.now }

@@ -1,4 +1,4 @@
-//! A table that isn't touched.
+//! A table that runs out of memory before the first access.
 ghost use Rattle.std.specs.Prelude.{◌≡◌, Option};
 ghost use Rattle.std.specs.Option.{unwrap_or};
 ghost use Rattle.iox_delivery_factories.specs.DescribeSettings.Agreement.{AreWithinLimits, HasNoRoomForHistory};
@@ -14,7 +14,7 @@ use iox_negotiate_base::{
 };
 use std::alloc::Global;
 
-// Stands for a table where no memory is found before the first access: a look answers that, and no call comes further.
+// A table that runs out of memory before the first access: a look answers that, and no call gets further.
 #[derive(Drop)]
 struct Untouched;
 
@@ -70,9 +70,9 @@ impl Storage for Untouched {
     }
 }
 
-/// The error of a call that creates, where no memory is found before the first access: settings that can't be are told all the same. It
-/// takes no memory.
-// It has a frame of its own, so that the caller's doesn't grow, below which the deepest calls are made.
+/// The error of a call that creates, if memory runs out before the first access; settings that are impossible are still reported. It takes
+/// no memory.
+// It has a stack frame of its own, so that the caller's frame, below which the deepest calls are made, doesn't grow.
 #[inline(never)]
 pub(crate) fn lacking_create<P: Negotiated>(
     alloc: Global,

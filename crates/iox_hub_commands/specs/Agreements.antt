@@ -1,4 +1,4 @@
--- Each service has one agreement: its factories carry it, and its domain is for its settings.
+-- Each service has one agreement: its factories carry it, and its domain has its settings.
 use Rattle.std.specs.Prelude.{ℕ, ◌≡◌, List}
 use Rattle.std.specs.List.{AllByRecursion}
 use Rattle.iox_delivery.specs.DescribeSettings.Agreement.{Agreement}
@@ -11,29 +11,29 @@ use Rattle.iox_hub_commands.specs.ServicesTables.{FactoryTable, parts_of}
 use Rattle.iox_negotiate.specs.Agreements.{WasAgreed}
 use Rattle.iox_negotiate.specs.Histories.{IsReached}
 
--- the settings that a domain is for, be it here or out
+-- The settings of a domain, which is in the hub or out.
 abbrev pub agreed_in : {T U B D : Type 0} → Presence T U B D → StaticConfig
 agreed_in (Here domain) = domain.agreed
 agreed_in (Out agreed) = agreed
 
--- so it is with the service's number and the settings of each domain
+-- `P` holds of each service's number and the settings of its domain.
 abbrev pub HoldsOfDomains : {T U B D : Type 0} → (ℕ → StaticConfig → Type 0) → List (ℕ × Presence T U B D) → Type 0
 HoldsOfDomains P domains = AllByRecursion (λ service. P service.0 (agreed_in service.1)) domains
 
--- so it is with the service's number of each factory, and what the factory carries as agreed
+-- `P` holds of the number of each factory's service and the agreement that the factory carries.
 abbrev pub HoldsOfFactories : (ℕ → Agreement → Type 0) → FactoryTable → Type 0
 HoldsOfFactories P table = AllByRecursion
     (λ factory. P (parts_of factory.1).0.service.number (parts_of factory.1).0.service.description) table.entries
 
--- This is what the service of a number agreed on: it was published under the number, each factory of the service carries just this,
--- and its domain, where it has one, is for just these settings.
+-- This is the agreement of the service with this number: it was published under the number, each factory of the service carries exactly
+-- this agreement, and the service's domain, if it has one, has exactly its settings.
 pub record IsAgreement {T U B D : Type 0} (number : ℕ) (agreed : Agreement) (made : FactoryTable) (hub : Hub T U B D) : Type 0 where
   pub was : WasAgreed number agreed hub.table
   pub carried : HoldsOfFactories (λ other carries. other ≡ number → carries ≡ agreed) made
   pub served : HoldsOfDomains (λ other config. other ≡ number → agreed.settings ≡ PublishSubscribe config) hub.services.domains
 
--- What a factory carries is the agreement of its service, and what a domain is for are the settings of such; and the table of
--- services became what it is by accesses and foreign steps.
+-- Each factory carries the agreement of its service, and each domain has the settings of such an agreement. The table of services became
+-- what it is by accesses and actions of other nodes.
 pub record AreOfOneAgreement {T U B D : Type 0} (made : FactoryTable) (hub : Hub T U B D) : Type 0 where
   pub is_reached : IsReached hub.table
   pub of_factories : HoldsOfFactories (λ number agreed. IsAgreement number agreed made hub) made

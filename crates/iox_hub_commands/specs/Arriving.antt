@@ -1,4 +1,4 @@
--- What the commands do by which ports come.
+-- What the commands do that create ports.
 use Rattle.std.specs.Prelude.{ℕ, ◌≡◌, true, Option, Result}
 use Rattle.std.specs.Option.{unwrap_or}
 use Rattle.iox_command.specs.declared.reply.Reply.{Reply}
@@ -18,8 +18,8 @@ use Rattle.iox_hub_commands.specs.Making.{MakesRoomFirst, with_publisher, with_s
 use Rattle.iox_hub_commands.specs.declared.ports.made.Made.{Made}
 use Rattle.iox_hub_commands.specs.Replies.{publisher_reply, subscriber_reply}
 
--- A publisher of slices comes to a domain, with this config and these handlers, and gets the next number; it gets so many slots, or as many
--- as it needs in the worst case where none are named. A loan has a default user header at first.
+-- A publisher of slices is created in a domain, with this configuration and these handlers, and gets the next number. It has the named
+-- number of slots, or as many as it needs in the worst case if none is named. A loan starts with a default user header.
 abbrev pub PublisherStep : {T U H B : Type 0} → (DomainId → H → Option (ServicePorts T U)) → (DomainId → ServicePorts T U → H → H)
     → (DomainId → ℕ → B → H → H) → (B → DegradationCause → DegradationInfo → DegradationAction → Type 0) → (U → Type 0) → DomainId
     → PublisherConfig → Option ℕ → B → Made → H → Reply T → Made → H → Type 0
@@ -31,7 +31,7 @@ PublisherStep {T} {U} ports_of with_ports keeping degrades is_default domain con
     made_after new
     × (answer ≡ publisher_reply came)
 
--- A subscriber comes to a domain, with this config and this handler, and gets the next number.
+-- A subscriber is created in a domain, with this configuration and this handler, and gets the next number.
 abbrev pub SubscriberStep : {T U H D : Type 0} → (DomainId → H → Option (ServicePorts T U)) → (DomainId → ServicePorts T U → H → H)
     → (DomainId → ℕ → D → H → H) → (D → DegradationCause → DegradationInfo → DegradationAction → Type 0) → DomainId → SubscriberConfig
     → D → Made → H → Reply T → Made → H → Type 0

@@ -1,4 +1,4 @@
--- What is asked of a service by the options that are named.
+-- What a command asks of a service, by the options that it names.
 use Rattle.std.specs.Prelude.{ℕ, List, Option, None, Some, codes}
 use Rattle.std.specs.Option.{option_map}
 use Rattle.iox_command.specs.declared.service.EventOptions.{EventOptions}
@@ -13,7 +13,8 @@ use Rattle.iox_describe_verdict.specs.declared.requirement.event.Requirement.{Re
 use Rattle.iox_describe_verdict.specs.declared.requirement.publish_subscribe.Requirement.{Requirement as PublishSubscribeRequirement}
 use Rattle.iox_describe_verdict.specs.declared.requirement.request_response.Requirement.{Requirement as RequestResponseRequirement}
 
--- messages that carry slices of values of this name, size and alignment, with a user header of this name, size and alignment
+-- The types of messages that are slices of values with this name, size and alignment, and have a user header with this name, size and
+-- alignment.
 abbrev pub types_of : List ℕ → ℕ → ℕ → List ℕ → ℕ → ℕ → MessageTypeDetails
 types_of name size alignment header_name header_size header_alignment = record {
   header = record { variant = FixedSize; name = codes "Header"; size = 24; alignment = 8 };
@@ -21,12 +22,12 @@ types_of name size alignment header_name header_size header_alignment = record {
   payload = record { variant = Dynamic; name = name; size = size; alignment = alignment };
 }
 
--- what a setting that may be off is to be: a number, or none
+-- The value of a setting that can be off: a number, or none.
 abbrev pub set_to : NumberOrOff → Option ℕ
 set_to (Number number) = Some number
 set_to Off = None
 
--- what is asked of a publish-subscribe service: each setting that is named, and these attributes
+-- The requirement on a publish-subscribe service: each setting that is named, and these attributes.
 abbrev pub required_publish_subscribe : PublishSubscribeOptions → MessageTypeDetails → Required → PublishSubscribeRequirement
 required_publish_subscribe options types attributes = record {
   types = types;
@@ -41,7 +42,7 @@ required_publish_subscribe options types attributes = record {
   max_nodes = options.max_nodes;
 }
 
--- what is asked of an event service: each setting that is named, and these attributes
+-- The requirement on an event service: each setting that is named, and these attributes.
 abbrev pub required_event : EventOptions → Required → EventRequirement
 required_event options attributes = record {
   attributes = attributes;
@@ -55,8 +56,8 @@ required_event options attributes = record {
   max_nodes = options.max_nodes;
 }
 
--- what is asked of a request-response service: each setting that is named, and these attributes; requests and responses are of the same
--- types
+-- The requirement on a request-response service: each setting that is named, and these attributes. Requests and responses have the same
+-- types.
 abbrev pub required_request_response : RequestResponseOptions → MessageTypeDetails → Required → RequestResponseRequirement
 required_request_response options types attributes = record {
   request_types = types;

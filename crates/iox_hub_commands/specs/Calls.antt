@@ -1,5 +1,4 @@
--- What the calls of a port under a number do to their home. `ports_of` finds the ports of a domain in a home, `with_ports` puts others
--- there.
+-- What the calls of a numbered port do to their home. `ports_of` finds the ports of a domain in a home, `with_ports` replaces them.
 use Rattle.std.specs.Prelude.{ℕ, ◌≡◌, ◌&&◌, Bool, false, not, List, replicate, Option, None, Some, Result, IfOk, if◌then◌else◌}
 use Rattle.iox_delivery.specs.DomainValues.declared.backpressure.BackpressureDecision.{BackpressureDecision}
 use Rattle.iox_delivery.specs.DomainValues.declared.backpressure.BackpressureInfo.{BackpressureInfo}
@@ -20,41 +19,41 @@ use Rattle.iox_delivery.specs.Lent.{IsReady}
 use Rattle.iox_delivery.specs.declared.port_id.PortId.{PortId}
 use Rattle.iox_delivery.specs.Slices.{LendsFilled, SendsValues}
 
--- A call at the port that goes by a number: nothing happens where none does.
+-- A call at the port of a number; nothing happens if the number has none.
 abbrev pub AtPort : {H A : Type 0} → (PortId → H → Option A → H → Type 0) → Option PortId → H → Option A → H → Type 0
 AtPort call None old answer new = (answer ≡ None) × (new ≡ old)
 AtPort call (Some port) old answer new = call port old answer new
 
--- A call at the port that goes by a number, which tells whether something happened: nothing does where none goes by it.
+-- A call at the port of a number, which says whether something happened; nothing does if the number has no port.
 abbrev pub AtPortIf : {H : Type 0} → (PortId → H → Bool → H → Type 0) → Option PortId → H → Bool → H → Type 0
 AtPortIf call None old answer new = (answer ≡ false) × (new ≡ old)
 AtPortIf call (Some port) old answer new = call port old answer new
 
--- A publisher lends a slot for so many elements.
+-- A publisher loans a slot for so many elements.
 abbrev pub Lends : {T U H : Type 0} → (DomainId → H → Option (ServicePorts T U)) → (DomainId → ServicePorts T U → H → H) → ℕ → PortId
     → H → Option (Result ℕ LoanError) → H → Type 0
 Lends ports_of with_ports elements port old answer new =
     AtDomain (λ after. with_ports port.domain after old) (steps.LoansBy port.number elements elements) (ports_of port.domain old) old
     answer new
 
--- whether a publisher may lend: its domain is here, it didn't leave, and no send of it waits
+-- Whether a publisher may loan: its domain is in the hub, it is open, and no send of it is blocked.
 abbrev pub may_lend : {T U H : Type 0} → (DomainId → H → Option (ServicePorts T U)) → PortId → H → Bool
 may_lend ports_of port home = publisher_stands port.number (ports_of port.domain home)
     && not (publisher_blocked port.number (ports_of port.domain home))
 
--- the port of a publisher, if it may lend
+-- The port of a publisher, if it may loan.
 abbrev pub ready : {T U H : Type 0} → (DomainId → H → Option (ServicePorts T U)) → Option PortId → H → Option PortId
 ready ports_of None home = None
 ready ports_of (Some port) home = if may_lend ports_of port home then Some port else None
 
--- A publisher lends a slot for so many elements, each of which is written: all the same. What was lent has just these values then.
+-- A publisher loans a slot for so many elements, and each element is written with the same value. The loan has exactly these values then.
 abbrev pub LendsWritten : {T U H : Type 0} → (DomainId → H → Option (ServicePorts T U)) → (DomainId → ServicePorts T U → H → H) → ℕ → T
     → PortId → H → Option (Result ℕ LoanError) → H → Type 0
 LendsWritten ports_of with_ports elements value port old answer new =
     (lent : Result ℕ LoanError) × LendsFilled ports_of with_ports port elements value old lent new
     × IfOk lent (λ slot. IsReady port.number (replicate elements value) elements slot (ports_of port.domain new)) × (answer ≡ Some lent)
 
--- Values are lent of a publisher, written and sent.
+-- A publisher loans a slot for these values, writes and sends them.
 abbrev pub Puts : {T U H : Type 0} → (DomainId → H → Option (ServicePorts T U)) → (DomainId → ServicePorts T U → H → H)
     → (DomainId → ℕ → H → DegradationInfo → DegradationAction → Type 0)
     → (DomainId → ℕ → H → BackpressureInfo → BackpressureDecision → Type 0) → List T → PortId → H → Option (Result Sent SendError) → H
@@ -79,20 +78,20 @@ Sends ports_of with_ports degrades decides slot port old answer new =
     (steps.SendsBy (degrades port.domain port.number old) (decides port.domain port.number old) port.number slot)
     (ports_of port.domain old) old answer new
 
--- The send of a publisher that waits is tried again.
+-- The blocked send of a publisher is tried again.
 abbrev pub Retries : {T U H : Type 0} → (DomainId → H → Option (ServicePorts T U)) → (DomainId → ServicePorts T U → H → H)
     → (DomainId → ℕ → H → BackpressureInfo → BackpressureDecision → Type 0) → ℕ → PortId → H → Option (Result Sent SendError) → H → Type 0
 Retries ports_of with_ports decides elapsed port old answer new =
     AtDomain (λ after. with_ports port.domain after old) (steps.RetriesBy (decides port.domain port.number old) port.number elapsed)
     (ports_of port.domain old) old answer new
 
--- The send of a publisher that waits ends.
+-- The blocked send of a publisher is given up.
 abbrev pub GivesUp : {T U H : Type 0} → (DomainId → H → Option (ServicePorts T U)) → (DomainId → ServicePorts T U → H → H) → PortId → H
     → Option ℕ → H → Type 0
 GivesUp ports_of with_ports port old answer new
     = AtDomain (λ after. with_ports port.domain after old) (steps.GivesUpBy port.number) (ports_of port.domain old) old answer new
 
--- A publisher leaves.
+-- A publisher is closed.
 abbrev pub PublisherGoes : {T U H : Type 0} → (DomainId → H → Option (ServicePorts T U)) → (DomainId → ServicePorts T U → H → H)
     → (DomainId → ℕ → H → H) → PortId → H → Bool → H → Type 0
 PublisherGoes ports_of with_ports without port old answer new =
@@ -107,7 +106,7 @@ FollowsPublishers ports_of with_ports degrades port old answer new =
     AtDomain (λ after. with_ports port.domain after old) (steps.FollowsBy (degrades port.domain port.number old) port.number)
     (ports_of port.domain old) old answer new
 
--- It is told whether some connection of a subscriber has data.
+-- The reply says whether some connection of the subscriber has data.
 abbrev pub Tells : {T U H : Type 0} → (DomainId → H → Option (ServicePorts T U)) → (DomainId → ServicePorts T U → H → H)
     → (DomainId → ℕ → H → DegradationInfo → DegradationAction → Type 0) → PortId → H → Option (Result Bool ConnectionFailure) → H → Type 0
 Tells ports_of with_ports degrades port old answer new =
@@ -122,7 +121,7 @@ Receives ports_of with_ports degrades port old answer new =
     AtDomain (λ after. with_ports port.domain after old) (steps.ReceivesBy (degrades port.domain port.number old) port.number)
     (ports_of port.domain old) old answer new
 
--- A subscriber leaves.
+-- A subscriber is closed.
 abbrev pub SubscriberGoes : {T U H : Type 0} → (DomainId → H → Option (ServicePorts T U)) → (DomainId → ServicePorts T U → H → H)
     → (DomainId → ℕ → H → H) → PortId → H → Bool → H → Type 0
 SubscriberGoes ports_of with_ports without port old answer new =

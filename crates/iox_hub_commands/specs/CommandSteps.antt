@@ -1,4 +1,4 @@
--- The machine: what each command does, and what it is replied.
+-- What each command does to a hub, and what the reply is.
 use Rattle.std.specs.Prelude.{ℕ, ◌≡◌, Result, Ok, Err}
 use Rattle.std.specs.declared.alloc.AllocError.{AllocError}
 use Rattle.iox_command.specs.declared.command.Command.{Command}
@@ -25,35 +25,35 @@ use Rattle.iox_hub_commands.specs.Services.{NodeMakes, Creates, Opens, OpensOrCr
 use Rattle.iox_hub_commands.specs.declared.numbered_hub.NumberedHub.{NumberedHub}
 use Rattle.iox_hub_commands.specs.Terms.{Terms}
 
--- A command that is always replied to.
+-- The command always has a reply, for which `does` holds.
 abbrev pub IsReplied : {T : Type 0} → (Reply T → Type 0) → Result (Reply T) AllocError → Type 0
 IsReplied does (Ok reply) = does reply
 IsReplied does (Err lacking) = ⊥
 
--- A command does this to a hub, and is replied so; or it is one of a port that there is, and nothing happens.
+-- A command does this to a hub, with this reply; or it is a command on a port, and nothing happens yet.
 abbrev pub StepsUnlessOfPort : {T H : Type 0} → (Command T → H → Result (Reply T) AllocError → H → Type 0) → Command T → H
     → Result (Reply T) (PortCommand T) → H → Type 0
 StepsUnlessOfPort steps asked old (Ok reply) new = steps asked old (Ok reply) new
 StepsUnlessOfPort steps asked old (Err of_port) new = (asked ≡ command_of of_port) × (new ≡ old)
 
 module _ {T U B D : Type 0} where
-  -- what may be answered where a connection of a publisher of a hub failed
+  -- What may be answered if a connection of a publisher of the hub failed.
   abbrev pub publisher_may_degrade : (B → DegradationCause → DegradationInfo → DegradationAction → Type 0) → DomainId → ℕ → Hub T U B D
       → DegradationInfo → DegradationAction → Type 0
   publisher_may_degrade degrades id number hub = kept_degrades degrades (publisher_handlers_in number (domain_at id hub.services))
 
-  -- what may be decided where a mailbox of a publisher of a hub is full
+  -- What may be decided if a mailbox of a publisher of the hub is full.
   abbrev pub publisher_may_decide : (B → BackpressureInfo → BackpressureDecision → Type 0) → DomainId → ℕ → Hub T U B D
       → BackpressureInfo → BackpressureDecision → Type 0
   publisher_may_decide decides id number hub = kept_decides decides (publisher_handlers_in number (domain_at id hub.services))
 
-  -- what may be answered where a connection of a subscriber of a hub failed
+  -- What may be answered if a connection of a subscriber of the hub failed.
   abbrev pub subscriber_may_degrade : (D → DegradationCause → DegradationInfo → DegradationAction → Type 0) → DomainId → ℕ → Hub T U B D
       → DegradationInfo → DegradationAction → Type 0
   subscriber_may_degrade degrades id number hub = kept_degrades degrades (subscriber_handler_in number (domain_at id hub.services))
 
-  -- What each command does to a hub of these terms, and what it is replied. `Err` is a command that isn't replied to: no memory was found
-  -- for a number, or for the values of the reply.
+  -- What each command does to a hub with these terms, and what its reply is. `Err` is a command without a reply: memory ran out for a
+  -- number, or for the values of the reply.
   abbrev pub Step : Terms T U B D → Command T → NumberedHub T U B D → Result (Reply T) AllocError → NumberedHub T U B D → Type 0
   Step terms command.Node old answer new =
       IsReplied (λ reply. NodeMakes old reply new) answer

@@ -1,4 +1,4 @@
--- A service is created as options ask, and its factory gets a number.
+-- How a service is created as options ask, and its factory gets a number.
 use Rattle.std.specs.Prelude.{ℕ, ◌≡◌, Bool, true, false, List, Option, None, Some, Result, Ok, Err}
 use Rattle.std.specs.declared.alloc.AllocError.{AllocError}
 use Rattle.iox_command.specs.declared.refusal.Refusal.{Refusal}
@@ -34,7 +34,7 @@ use Rattle.iox_hub_commands.specs.ServicesNumbering.{Prepares, GetsNumber, IsSki
 use Rattle.iox_hub_commands.specs.ServicesTables.{FactoryTable}
 use Rattle.iox_hub_commands.specs.declared.services.asked.ServiceAsked.{ServiceAsked}
 
--- a node creates the service of a hash, to be agreed as this; a failure is told as this error
+-- A node creates the service of this hash, with this agreement. A failure is reported by `error`.
 abbrev pub CreatesAgreed : {T U B D E : Type 0} → Detail → Detail → (CreateFailure → E) → ServiceHash → ℕ → Agreement
     → List (List ForeignStep) → Hub T U B D → Result Made E → Hub T U B D → Type 0
 CreatesAgreed payload user_header error hash node agreed lists old opened new =
@@ -43,8 +43,8 @@ CreatesAgreed payload user_header error hash node agreed lists old opened new =
     (HasNoRoomForHistory agreed.settings) error before came after)
     lists old opened new
 
--- a service is created as these options ask, with these attributes, and its factory gets a number; a failure is told as the error
--- of the pattern
+-- A service is created as these options ask, with these attributes, and its factory gets a number. A failure is reported as the error of
+-- the pattern.
 abbrev pub CreatesAs : {T U B D : Type 0} → ServiceOptions → Detail → Detail → MessageTypeDetails → ℕ → List ℕ → List Attribute
     → List (List ForeignStep) → FactoryTable → Hub T U B D → Result ℕ Refusal → FactoryTable → Hub T U B D → Type 0
 CreatesAs (options.PublishSubscribe named) payload user_header types node name attributes lists table old answer after new =
@@ -60,13 +60,13 @@ CreatesAs (options.RequestResponse named) payload user_header types node name at
     (CreatesAgreed payload user_header request_response.create_error (hash_of name (options.RequestResponse named)) node
     (agreed_of name (options.RequestResponse named) types attributes) lists) table old answer after new
 
--- the refusal where no memory was found before the first access
+-- The refusal if memory runs out before the first access.
 abbrev pub create_lacking : ServiceOptions → Refusal
 create_lacking (options.PublishSubscribe named) = refusal.PublishSubscribeCreate publish_subscribe_error.OutOfMemory
 create_lacking (options.Event named) = refusal.EventCreate event_error.OutOfMemory
 create_lacking (options.RequestResponse named) = refusal.RequestResponseCreate request_response_error.OutOfMemory
 
--- what follows once there are lists of steps and room, or no memory was found for them
+-- What follows once the lists of actions and the capacity are made, or memory ran out for them.
 abbrev pub CreatesPrepared : {T U B D : Type 0} → Result (List (List ForeignStep)) AllocError → Detail → Detail → MessageTypeDetails
     → ServiceAsked → List Attribute → FactoryTable → Hub T U B D → Result ℕ Refusal → FactoryTable → Hub T U B D → Type 0
 CreatesPrepared (Err lacking) payload user_header types asked attributes table old answer after new
@@ -74,8 +74,9 @@ CreatesPrepared (Err lacking) payload user_header types asked attributes table o
 CreatesPrepared (Ok lists) payload user_header types asked attributes table old answer after new
     = CreatesAs asked.options payload user_header types asked.node asked.name attributes lists table old answer after new
 
--- what follows once it is told what can be told before any memory is asked for: that is refused first, and nothing else happens, whatever
--- memory there is; else the service is created with these steps of foreign nodes before the accesses, once there are lists of them and room
+-- What follows once it is known whether the creation is refused before anything is allocated. If it is, the refusal is the reply, and
+-- nothing else happens. Otherwise the service is created, with these actions of other nodes before the accesses, once their lists and the
+-- capacity are made.
 abbrev pub CreatesUnlessRefused : {T U B D : Type 0} → Option CreateFailure → Detail → Detail → MessageTypeDetails → ServiceAsked
     → List Attribute → List StepBefore → FactoryTable → Hub T U B D → Option (Result ℕ Refusal) → FactoryTable → Hub T U B D → Type 0
 CreatesUnlessRefused (Some failure) payload user_header types asked attributes steps table old answer after new
@@ -85,9 +86,9 @@ CreatesUnlessRefused None payload user_header types asked attributes steps table
     × Prepares asked.name types steps table prepared roomier
     × CreatesPrepared prepared payload user_header types asked attributes roomier old reply after new × (answer ≡ Some reply)
 
--- The service that is asked for is created with these attributes, with these steps of foreign nodes before the accesses, and its
--- factory gets a number. Before any memory is asked for it is refused where the settings can't be, and where they can be and the first look
--- finds that the service stands; it is so refused nowhere else. Nothing happens where the node isn't there.
+-- The service that is asked for is created with these attributes, with these actions of other nodes before the accesses, and its factory
+-- gets a number. The creation is refused before anything is allocated if the settings are impossible; or if they are possible and the first
+-- look finds that the service exists. It isn't refused this early otherwise. Nothing happens if the node wasn't made.
 abbrev pub CreatesNumbered : {T U B D : Type 0} → Bool → Detail → Detail → MessageTypeDetails → ServiceAsked → List Attribute
     → List StepBefore → FactoryTable → Hub T U B D → Option (Result ℕ Refusal) → FactoryTable → Hub T U B D → Type 0
 CreatesNumbered false payload user_header types asked attributes steps table old answer after new = IsSkipped table old answer after new

@@ -1,4 +1,4 @@
--- A service is opened or created as options ask, and its factory gets a number.
+-- How a service is opened or created as options ask, and its factory gets a number.
 use Rattle.std.specs.Prelude.{ℕ, ◌≡◌, Bool, true, false, List, Option, Some, Result, Ok, Err}
 use Rattle.std.specs.declared.alloc.AllocError.{AllocError}
 use Rattle.iox_command.specs.declared.refusal.Refusal.{Refusal}
@@ -41,7 +41,8 @@ use Rattle.iox_hub_commands.specs.ServicesNumbering.{Prepares, GetsNumber, IsSki
 use Rattle.iox_hub_commands.specs.ServicesTables.{FactoryTable}
 use Rattle.iox_hub_commands.specs.declared.services.asked.ServiceAsked.{ServiceAsked}
 
--- a node opens the service of a hash, if it meets what is asked, or creates it, to be agreed as this; a failure is told as this error
+-- A node opens the service of this hash, if its agreement passes the verdict, or creates it with this agreement. A failure is reported by
+-- `error`.
 abbrev pub EitherJudged : {T U B D V E : Type 0} → Detail → Detail → (OpenOrCreateFailure V → E) → ServiceHash → ℕ
     → (Agreement → Result (Unit {0}) V) → Agreement → List (List ForeignStep) → Hub T U B D → Result Made E → Hub T U B D → Type 0
 EitherJudged payload user_header error hash node verdict agreed lists old opened new =
@@ -50,8 +51,8 @@ EitherJudged payload user_header error hash node verdict agreed lists old opened
     (HasNoRoomForHistory agreed.settings) error before came after)
     lists old opened new
 
--- a service is opened if it is as these options ask and has these attributes, or created so, and its factory gets a number; a
--- failure is told as the error of the pattern
+-- A service is opened if it is as these options ask and has these attributes, or created so, and its factory gets a number. A failure is
+-- reported as the error of the pattern.
 abbrev pub EitherAs : {T U B D : Type 0} → ServiceOptions → Detail → Detail → MessageTypeDetails → ℕ → List ℕ → Required
     → List (List ForeignStep) → FactoryTable → Hub T U B D → Result ℕ Refusal → FactoryTable → Hub T U B D → Type 0
 EitherAs (options.PublishSubscribe named) payload user_header types node name attributes lists table old answer after new =
@@ -70,7 +71,7 @@ EitherAs (options.RequestResponse named) payload user_header types node name att
     (λ given. first_unmet (request_response_clauses.clauses (required_request_response named types attributes) given))
     (agreed_of name (options.RequestResponse named) types attributes.pairs) lists) table old answer after new
 
--- the refusal where no memory was found before the first access: as at the first look
+-- The refusal if memory runs out before the first access: the same as at the first look.
 abbrev pub either_lacking : ServiceOptions → Refusal
 either_lacking (options.PublishSubscribe named)
     = refusal.PublishSubscribeOpenOrCreate (publish_subscribe_either.PublishSubscribeOpenError publish_subscribe_unopened.OutOfMemory)
@@ -78,7 +79,7 @@ either_lacking (options.Event named) = refusal.EventOpenOrCreate (EventOpenError
 either_lacking (options.RequestResponse named)
     = refusal.RequestResponseOpenOrCreate (request_response_either.RequestResponseOpenError request_response_unopened.OutOfMemory)
 
--- what follows once there are lists of steps and room, or no memory was found for them
+-- What follows once the lists of actions and the capacity are made, or memory ran out for them.
 abbrev pub EitherPrepared : {T U B D : Type 0} → Result (List (List ForeignStep)) AllocError → Detail → Detail → MessageTypeDetails
     → ServiceAsked → Required → FactoryTable → Hub T U B D → Result ℕ Refusal → FactoryTable → Hub T U B D → Type 0
 EitherPrepared (Err lacking) payload user_header types asked attributes table old answer after new
@@ -86,8 +87,8 @@ EitherPrepared (Err lacking) payload user_header types asked attributes table ol
 EitherPrepared (Ok lists) payload user_header types asked attributes table old answer after new
     = EitherAs asked.options payload user_header types asked.node asked.name attributes lists table old answer after new
 
--- The service that is asked for is opened if it has these attributes, or created with the required pairs, with these steps of
--- foreign nodes before the accesses, and its factory gets a number. Nothing happens where the node isn't there.
+-- The service that is asked for is opened if it has these attributes, or created with the required pairs, with these actions of other nodes
+-- before the accesses, and its factory gets a number. Nothing happens if the node wasn't made.
 abbrev pub EitherNumbered : {T U B D : Type 0} → Bool → Detail → Detail → MessageTypeDetails → ServiceAsked → Required → List StepBefore
     → FactoryTable → Hub T U B D → Option (Result ℕ Refusal) → FactoryTable → Hub T U B D → Type 0
 EitherNumbered false payload user_header types asked attributes steps table old answer after new = IsSkipped table old answer after new

@@ -1,4 +1,4 @@
--- What the calls come to for the factories under numbers, in other words than theirs.
+-- Theorems about the numbers of factories: consequences of the contracts of the calls.
 use Rattle.std.specs.Prelude.{ℕ, ◌≡◌, ◌≢◌, Bool, List, Option, None, Some, option_map, Result, Ok, Err}
 use Rattle.iox_command.specs.Patterns.{pattern_of}
 use Rattle.iox_command.specs.declared.refusal.Refusal.{Refusal}
@@ -19,29 +19,30 @@ use Rattle.iox_hub_commands.specs.Opening.{OpensNumbered}
 use Rattle.iox_hub_commands.specs.ServicesTables.{FactoryTable, pattern_in}
 use Rattle.iox_hub_commands.specs.declared.services.asked.ServiceAsked.{ServiceAsked}
 
--- every number stands for what it stood for
+-- Every number names what it named.
 abbrev pub AllStay : FactoryTable → FactoryTable → Type 0
 AllStay old new = (number : ℕ) → value_at new number ≡ value_at old number
 
--- every number but this one stands for what it stood for
+-- Every number except this one names what it named.
 abbrev pub OthersStay : ℕ → FactoryTable → FactoryTable → Type 0
 OthersStay number old new = (other : ℕ) → other ≢ number → value_at new other ≡ value_at old other
 
--- A number that is answered stood for nothing, and stands for a factory of this pattern; with a refusal, or no answer, every
--- number stands for what it stood for.
+-- A number that is answered named nothing before, and names a factory of this pattern now. With a refusal, or without an answer, every
+-- number names what it named.
 abbrev pub IsFound : MessagingPattern → FactoryTable → Option (Result ℕ Refusal) → FactoryTable → Type 0
 IsFound pattern old (Some (Ok number)) new = (value_at old number ≡ None) × (option_map pattern_in (value_at new number) ≡ Some pattern)
     × OthersStay number old new
 IsFound pattern old (Some (Err refusal)) new = AllStay old new
 IsFound pattern old None new = AllStay old new
 
--- A factory that is still in use stays, as does all where nothing is answered; with any other answer its number stands for nothing.
+-- A factory that is still in use stays, and all stays if nothing is answered. With any other answer the factory's number names nothing any
+-- longer.
 abbrev pub IsGone : ℕ → FactoryTable → Option (Result (Unit {0}) CloseError) → FactoryTable → Type 0
 IsGone number old None new = AllStay old new
 IsGone number old (Some (Err StillInUse)) new = AllStay old new
 IsGone number old (Some other) new = (value_at new number ≡ None) × OthersStay number old new
 
--- Factories are found under the numbers that are answered, until they are closed.
+-- Factories are found under the numbers that were answered, until they are closed.
 pub record FoundUntilClosed (T U B D : Type 0) : Type 0 where
   pub created : (is_there : Bool) (payload user_header : Detail) (types : MessageTypeDetails) (asked : ServiceAsked)
       (attributes : List Attribute) (steps : List StepBefore)

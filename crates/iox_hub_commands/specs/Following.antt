@@ -1,4 +1,4 @@
--- What the commands of ports do that follow the list of the others, tell whether messages wait, and leave.
+-- What the commands do by which ports update, look for data, and are closed.
 use Rattle.std.specs.Prelude.{ℕ, ◌≡◌, Bool, Option, Result}
 use Rattle.iox_command.specs.declared.port.PortNumber.{PortNumber}
 use Rattle.iox_command.specs.declared.port.PortNumber.TheVariants as port
@@ -15,7 +15,7 @@ use Rattle.iox_hub_commands.specs.declared.ports.made.Made.{Made}
 use Rattle.iox_delivery.specs.Container.NumberTable.{value_at}
 use Rattle.iox_hub_commands.specs.Replies.{updated_reply, has_reply, done_reply}
 
--- A publisher or a subscriber follows the list of the others.
+-- A publisher or a subscriber updates its connections.
 abbrev pub UpdateStep : {T U H : Type 0} → (DomainId → H → Option (ServicePorts T U)) → (DomainId → ServicePorts T U → H → H)
     → (DomainId → ℕ → H → DegradationInfo → DegradationAction → Type 0)
     → (DomainId → ℕ → H → DegradationInfo → DegradationAction → Type 0) → PortNumber → Made → H → Reply T → H → Type 0
@@ -28,7 +28,7 @@ UpdateStep ports_of with_ports degrades subscriber_degrades (port.Subscriber num
     × AtPort (FollowsPublishers ports_of with_ports subscriber_degrades) (value_at made.subscribers number) old outcome new
     × (answer ≡ updated_reply outcome)
 
--- It is told whether some connection of a subscriber has data.
+-- The reply says whether some connection of the subscriber has data.
 abbrev pub HasStep : {T U H : Type 0} → (DomainId → H → Option (ServicePorts T U)) → (DomainId → ServicePorts T U → H → H)
     → (DomainId → ℕ → H → DegradationInfo → DegradationAction → Type 0) → ℕ → Made → H → Reply T → H → Type 0
 HasStep ports_of with_ports degrades subscriber made old answer new =
@@ -36,7 +36,7 @@ HasStep ports_of with_ports degrades subscriber made old answer new =
     × AtPort (Tells ports_of with_ports degrades) (value_at made.subscribers subscriber) old outcome new
     × (answer ≡ has_reply outcome)
 
--- A publisher or a subscriber leaves, and its number is spent.
+-- A publisher or a subscriber is closed, and its number names nothing any longer.
 abbrev pub LeaveStep : {T U H : Type 0} → (DomainId → H → Option (ServicePorts T U)) → (DomainId → ServicePorts T U → H → H)
     → (DomainId → ℕ → H → H) → (DomainId → ℕ → H → H) → PortNumber → Made → H → Reply T → Made → H → Type 0
 LeaveStep ports_of with_ports without without_reader (port.Publisher number) made old answer made_after new =

@@ -1,4 +1,4 @@
--- Nodes of others do the steps that a command names.
+-- The actions of other nodes that a command names.
 use Rattle.std.specs.Prelude.{ℕ, ◌≡◌, ◌⊎◌, List, [], Result, Err}
 use Rattle.std.specs.List.{AllByRecursion}
 use Rattle.iox_command.specs.declared.refusal.HubError.{HubError}
@@ -11,8 +11,8 @@ use Rattle.iox_hub_base.specs.Foreign.{ActsOn}
 use Rattle.iox_hub_base.specs.declared.hub.Hub.{Hub}
 use Rattle.iox_hub_commands.specs.Steps.{PublishesInForm, list_of}
 
--- The steps are done in turn on the service of this pattern and name, and what they publish has the form of a description; or steps are
--- named, and no memory is found for their list, and nothing happens.
+-- The actions are done one after the other on the service of this pattern and name, and what they publish has the form of a description. Or
+-- actions are named, memory runs out for their list, and nothing happens.
 abbrev pub ActsNamed : {T U B D : Type 0} → MessagingPattern → List ℕ → MessageTypeDetails → List Named → Hub T U B D
     → Result (Unit {0}) HubError → Hub T U B D → Type 0
 ActsNamed pattern name types steps old answer new =

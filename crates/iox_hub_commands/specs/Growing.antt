@@ -1,11 +1,11 @@
--- What calls come to that make room for one value more before they do anything else.
+-- Calls that make capacity for one value more before they do anything else.
 use Rattle.std.specs.Prelude.{◌≡◌, Result, Ok, Err}
 use Rattle.std.specs.declared.alloc.AllocError.{AllocError}
 use Rattle.iox_hub_commands.specs.Tables.{IsRoomier}
 use Rattle.iox_hub_commands.specs.declared.ports.made.Made.{Made}
 
--- A call is made once there is room, which changes nothing else. Nothing happens where no memory is found for it, and it is looked for only
--- where the table is full.
+-- A call is made once there is capacity, and making it changes nothing else. If memory runs out for it, nothing happens; capacity is only
+-- made if the table is full.
 abbrev pub GrowsFirst : {H A : Type 0} → Type 0 → (Made → H → A → Made → H → Type 0) → Made → H → Result A AllocError → Made → H → Type 0
 GrowsFirst is_full call made old (Err error) made_after new = is_full × (made_after ≡ made) × (new ≡ old)
 GrowsFirst is_full call made old (Ok answer) made_after new = (roomier : Made) × IsRoomier made roomier

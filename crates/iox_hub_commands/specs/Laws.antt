@@ -1,4 +1,4 @@
--- Laws of the calls by number, in other words than their steps.
+-- Theorems about the calls by number: consequences of their steps.
 use Rattle.std.specs.Prelude.{ℕ, ◌≡◌, false, List, is_some, Option, Result}
 use Rattle.iox_delivery.specs.DomainValues.declared.port_error.LoanError.{LoanError}
 use Rattle.iox_delivery.specs.Domain.declared.ports.service_ports.ServicePorts.{ServicePorts}
@@ -15,7 +15,7 @@ MisfitChangesNothing {T} {U} {H} ports_of with_ports =
     (values : List T) (loan : Option MadeLoan) (home : H) → is_filled ports_of values loan home ≡ false
     → changed_under ports_of with_ports (filled_in values) loan home ≡ home
 
--- A loan of a publisher is answered, or refused, just where it may lend; else nothing is answered.
+-- A loan of a publisher is answered, or refused, exactly if the publisher may loan; otherwise nothing is answered.
 abbrev pub AnswersWhereReady : {T U H : Type 0} → (DomainId → H → Option (ServicePorts T U)) → (DomainId → ServicePorts T U → H → H)
     → Type 0
 AnswersWhereReady {T} {U} {H} ports_of with_ports =

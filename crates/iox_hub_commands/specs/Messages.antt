@@ -1,5 +1,5 @@
--- What the commands on loans, sends and samples do: to the tables of what goes by numbers, and to the home of the ports. `ports_of` finds
--- the ports of a domain in a home, `with_ports` puts others there.
+-- What the commands on loans, sends and samples do to the tables of numbers, and to the home of the ports. `ports_of` finds the ports of a
+-- domain in a home, `with_ports` replaces them.
 use Rattle.std.specs.Prelude.{ℕ, ◌≡◌, ◌<◌, Bool, List, length, is_some, Option, None, Some, Result, Ok, Err, if◌then◌else◌}
 use Rattle.std.specs.Vec.{vec_items}
 use Rattle.std.specs.Global.{Vec}
@@ -24,7 +24,7 @@ use Rattle.iox_hub_commands.specs.declared.ports.made.Made.{Made}
 use Rattle.iox_delivery.specs.Container.NumberTable.{value_at}
 use Rattle.iox_hub_commands.specs.Replies.{sent_reply, given_up_reply, sequence_reply, done_reply}
 
--- One value of a written loan is written.
+-- One value of a written loan is replaced.
 abbrev pub SetStep : {T U H : Type 0} → (DomainId → H → Option (ServicePorts T U)) → (DomainId → ServicePorts T U → H → H) → ℕ → ℕ → T
     → Made → H → Reply T → H → Type 0
 SetStep ports_of with_ports loan place value made old answer new =
@@ -40,7 +40,7 @@ FillStep ports_of with_ports loan values made old answer new =
     × (new ≡ changed_under ports_of with_ports (filled_in values) (value_at made.loans loan) old)
     × (answer ≡ done_reply done)
 
--- A loan is given up.
+-- A loan is dropped.
 abbrev pub DropStep : {T U H : Type 0} → (DomainId → H → Option (ServicePorts T U)) → (DomainId → ServicePorts T U → H → H) → ℕ → Made
     → H → Reply T → Made → H → Type 0
 DropStep ports_of with_ports loan made old answer made_after new =
@@ -56,7 +56,7 @@ SendStep ports_of with_ports degrades decides loan made old answer made_after ne
     (sent : Option (Result Sent SendError)) × SendsUnder ports_of with_ports degrades decides (value_at made.loans loan) old sent new
     × (made_after ≡ removed_if (is_some sent) (without_loan loan) made) × (answer ≡ sent_reply sent)
 
--- A send that waits is tried again.
+-- A blocked send is tried again.
 abbrev pub RetryStep : {T U H : Type 0} → (DomainId → H → Option (ServicePorts T U)) → (DomainId → ServicePorts T U → H → H)
     → (DomainId → ℕ → H → BackpressureInfo → BackpressureDecision → Type 0) → ℕ → ℕ → Made → H → Reply T → H → Type 0
 RetryStep ports_of with_ports decides publisher elapsed made old answer new =
@@ -64,29 +64,29 @@ RetryStep ports_of with_ports decides publisher elapsed made old answer new =
     × AtPort (Retries ports_of with_ports decides elapsed) (port_under (value_at made.publishers publisher)) old sent new
     × (answer ≡ sent_reply sent)
 
--- A send that waits ends.
+-- A blocked send is given up.
 abbrev pub GiveUpStep : {T U H : Type 0} → (DomainId → H → Option (ServicePorts T U)) → (DomainId → ServicePorts T U → H → H) → ℕ → Made
     → H → Reply T → H → Type 0
 GiveUpStep ports_of with_ports publisher made old answer new =
     (count : Option ℕ) × AtPort (GivesUp ports_of with_ports) (port_under (value_at made.publishers publisher)) old count new
     × (answer ≡ given_up_reply count)
 
--- what a sample that is read is replied as: its values
+-- The reply to a read of a sample: its values.
 abbrev pub IsReadReply : {T : Type 0} → Option (List T) → Reply T → Type 0
 IsReadReply None answer = answer ≡ reply.Skipped
 IsReadReply {T} (Some found) answer = (values : Vec T) × (vec_items values ≡ found) × (answer ≡ reply.Values values)
 
--- a message with some values
+-- The message has at least one value.
 abbrev pub SomeValues : {T : Type 0} → Option (List T) → Type 0
 SomeValues None = ⊥
 SomeValues (Some values) = 0 < length values
 
--- A sample is read; it isn't replied to only where it has values, and no memory is found for them.
+-- A sample is read. The command has no reply only if the sample has values and memory runs out for them.
 abbrev pub ReadStep : {T U H : Type 0} → (DomainId → H → Option (ServicePorts T U)) → ℕ → Made → H → Result (Reply T) AllocError → Type 0
 ReadStep ports_of sample made old (Ok answer) = IsReadReply (values_under ports_of (value_at made.samples sample) old) answer
 ReadStep ports_of sample made old (Err lacking) = SomeValues (values_under ports_of (value_at made.samples sample) old)
 
--- The sequence number of a sample's message is told.
+-- The sequence number of a sample's message is reported.
 abbrev pub SequenceStep : {T U H : Type 0} → (DomainId → H → Option (ServicePorts T U)) → ℕ → Made → H → Reply T → Type 0
 SequenceStep ports_of sample made old answer = answer ≡ sequence_reply (sequence_under ports_of (value_at made.samples sample) old)
 

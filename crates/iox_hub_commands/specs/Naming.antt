@@ -1,4 +1,4 @@
--- What a command names of a port, with the defaults for what it doesn't name.
+-- What a command names for a port, with the defaults of what it doesn't name.
 use Rattle.std.specs.Prelude.{ℕ, Option}
 use Rattle.std.specs.Option.{unwrap_or}
 use Rattle.iox_command.specs.declared.port.PublisherOptions.{PublisherOptions}
@@ -13,12 +13,12 @@ use Rattle.iox_command.specs.DomainValues.declared.degradation.DegradationAction
 use Rattle.iox_command.specs.DomainValues.declared.port_owner.PortOwner.{PortOwner}
 use Rattle.iox_hub_commands.specs.declared.handlers.NamedSlots.{NamedSlots}
 
--- how many loans may be out at once of a publisher that is named so
+-- How many loans of a publisher with these options may be out at once.
 abbrev pub most_loans : PublisherOptions → ℕ
 most_loans options = unwrap_or options.max_loaned_samples publisher_defaults.max_loaned_samples
 
--- what a publisher of slices is made with: a value is an element, a slot holds as many as a loan may have at first, and its first message
--- has the number that is the default
+-- The configuration of a publisher of slices with these options: a value is an element, and a slot holds as many as a loan may have at
+-- first. Its first message has the default number.
 abbrev pub publisher_config : PortOwner → PublisherOptions → PublisherConfig
 publisher_config owner options = record {
   owner = owner;
@@ -29,21 +29,22 @@ publisher_config owner options = record {
   first_sequence = publisher_defaults.first_sequence;
 }
 
--- who decides for a publisher: without a strategy a send waits, and without an action a failed connection is passed over with a warning
+-- The handlers of a publisher with these options: without a strategy a send is blocked at a full mailbox, and without an action a failed
+-- connection is skipped with a warning.
 abbrev pub publisher_handlers : {B : Type 0} → (BackpressureStrategy → Option BackpressureAction → DegradationAction → B)
     → PublisherOptions → B
 publisher_handlers fixed options =
     fixed (unwrap_or options.backpressure_strategy publisher_defaults.strategy) options.backpressure_handler
     (unwrap_or options.degradation_handler Warn)
 
--- how many slots a publisher gets
+-- The number of slots that is named for a publisher.
 abbrev pub named_slots : PublisherOptions → NamedSlots
 named_slots options = record { slots = options.preallocated_samples }
 
--- what a subscriber is made with
+-- The configuration of a subscriber with these options.
 abbrev pub subscriber_config : PortOwner → SubscriberOptions → SubscriberConfig
 subscriber_config owner options = record { owner = owner; buffer_size = options.buffer_size }
 
--- who decides for a subscriber: without an action a failed connection is passed over with a warning
+-- The handler of a subscriber with these options: without an action a failed connection is skipped with a warning.
 abbrev pub subscriber_handler : {D : Type 0} → (DegradationAction → D) → SubscriberOptions → D
 subscriber_handler fixed options = fixed (unwrap_or options.degradation_handler Warn)

@@ -1,10 +1,10 @@
--- How many numbers were given out.
+-- How many numbers were given.
 use Rattle.std.specs.Prelude.{ℕ, ◌≡◌, ◌+◌, []}
 use Rattle.iox_hub_base.specs.declared.hub.HubConfig.{HubConfig}
 use Rattle.iox_hub_commands.specs.declared.numbered_hub.NumberedHub.{NumberedHub}
 
--- A hub in which nothing was made: no node, no factory, nothing in its table of services, no domain, no port, no loan and no sample. The
--- first number of each kind will be 1, and there may be room for numbers of ports, loans and samples.
+-- A hub in which nothing was made: no node, no factory, no entry in its table of services, no domain, no port, no loan and no sample. The
+-- first number of each kind will be 1, and there may be capacity for numbers of ports, loans and samples.
 pub record IsNew {T U B D : Type 0} (config : HubConfig) (hub : NumberedHub T U B D) : Type 0 where
   pub expired_connection_buffer : hub.hub.expired_connection_buffer ≡ config.expired_connection_buffer
   pub nodes : hub.hub.nodes ≡ 0
@@ -18,7 +18,7 @@ pub record IsNew {T U B D : Type 0} (config : HubConfig) (hub : NumberedHub T U 
   pub loans : (hub.made.loans.entries ≡ []) × (hub.made.loans.next ≡ 1)
   pub samples : (hub.made.samples.entries ≡ []) × (hub.made.samples.next ≡ 1)
 
--- the numbers that come next, of each kind but nodes, all together: each command adds one at most
+-- The sum of the next numbers of all kinds except nodes; each command adds at most one.
 abbrev pub numbers_used : {T U B D : Type 0} → NumberedHub T U B D → ℕ
 numbers_used hub = hub.factories.made.next +
     (hub.made.publishers.next + (hub.made.subscribers.next + (hub.made.loans.next + hub.made.samples.next)))

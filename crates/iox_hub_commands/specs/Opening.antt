@@ -1,4 +1,4 @@
--- A service is opened as options ask, and its factory gets a number.
+-- How a service is opened as options ask, and its factory gets a number.
 use Rattle.std.specs.Prelude.{ℕ, ◌≡◌, Bool, true, false, List, Option, Some, Result, Ok, Err}
 use Rattle.std.specs.declared.alloc.AllocError.{AllocError}
 use Rattle.iox_command.specs.declared.refusal.Refusal.{Refusal}
@@ -31,8 +31,8 @@ use Rattle.iox_hub_commands.specs.ServicesNumbering.{Prepares, GetsNumber, IsSki
 use Rattle.iox_hub_commands.specs.ServicesTables.{FactoryTable}
 use Rattle.iox_hub_commands.specs.declared.services.asked.ServiceAsked.{ServiceAsked}
 
--- a service is opened if it is as these options ask and has these attributes, and its factory gets a number; a failure is told as
--- the error of the pattern
+-- A service is opened if it is as these options ask and has these attributes, and its factory gets a number. A failure is reported as the
+-- error of the pattern.
 abbrev pub OpensAs : {T U B D : Type 0} → ServiceOptions → Detail → Detail → MessageTypeDetails → ℕ → List ℕ → Required
     → List (List ForeignStep) → FactoryTable → Hub T U B D → Result ℕ Refusal → FactoryTable → Hub T U B D → Type 0
 OpensAs (options.PublishSubscribe named) payload user_header types node name attributes lists table old answer after new =
@@ -50,13 +50,13 @@ OpensAs (options.RequestResponse named) payload user_header types node name attr
     (λ given. first_unmet (request_response_clauses.clauses (required_request_response named types attributes) given)) lists) table
     old answer after new
 
--- the refusal where no memory was found before the first access
+-- The refusal if memory runs out before the first access.
 abbrev pub open_lacking : ServiceOptions → Refusal
 open_lacking (options.PublishSubscribe named) = refusal.PublishSubscribeOpen publish_subscribe_error.OutOfMemory
 open_lacking (options.Event named) = refusal.EventOpen event_error.OutOfMemory
 open_lacking (options.RequestResponse named) = refusal.RequestResponseOpen request_response_error.OutOfMemory
 
--- what follows once there are lists of steps and room, or no memory was found for them
+-- What follows once the lists of actions and the capacity are made, or memory ran out for them.
 abbrev pub OpensPrepared : {T U B D : Type 0} → Result (List (List ForeignStep)) AllocError → Detail → Detail → MessageTypeDetails
     → ServiceAsked → Required → FactoryTable → Hub T U B D → Result ℕ Refusal → FactoryTable → Hub T U B D → Type 0
 OpensPrepared (Err lacking) payload user_header types asked attributes table old answer after new
@@ -64,8 +64,8 @@ OpensPrepared (Err lacking) payload user_header types asked attributes table old
 OpensPrepared (Ok lists) payload user_header types asked attributes table old answer after new
     = OpensAs asked.options payload user_header types asked.node asked.name attributes lists table old answer after new
 
--- The service that is asked for is opened if it has these attributes, with these steps of foreign nodes before the accesses, and
--- its factory gets a number. Nothing happens where the node isn't there.
+-- The service that is asked for is opened if it has these attributes, with these actions of other nodes before the accesses, and its
+-- factory gets a number. Nothing happens if the node wasn't made.
 abbrev pub OpensNumbered : {T U B D : Type 0} → Bool → Detail → Detail → MessageTypeDetails → ServiceAsked → Required → List StepBefore
     → FactoryTable → Hub T U B D → Option (Result ℕ Refusal) → FactoryTable → Hub T U B D → Type 0
 OpensNumbered false payload user_header types asked attributes steps table old answer after new = IsSkipped table old answer after new

@@ -1,4 +1,4 @@
--- What the calls that create and open services have in common: their first look, and all that follows where it tells no refusal.
+-- What the calls that create and open services have in common: their first look, and what follows if it isn't a refusal.
 use Rattle.std.specs.Prelude.{ℕ, ◌≡◌, Bool, List, Option, Some, Result}
 use Rattle.std.specs.declared.alloc.AllocError.{AllocError}
 use Rattle.iox_command.specs.NegotiateBase.declared.failure.CreateFailure.{CreateFailure}
@@ -23,13 +23,13 @@ use Rattle.iox_hub_commands.specs.declared.services.asked.ServiceAsked.{ServiceA
 use Rattle.iox_hub_commands.specs.declared.services.opening_call.OpeningCall.{OpeningCall}
 use Rattle.iox_hub_commands.specs.declared.services.opening_call.OpeningCall.TheVariants as opening
 
--- what is so by the call: the first of its attributes where it creates, the second where it opens, the third where it does either
+-- Which statement applies to the call and its attributes: `creates`, `opens`, or `either` for `open_or_create`.
 abbrev pub ByCall : OpeningCall → (List Attribute → Type 0) → (Required → Type 0) → (Required → Type 0) → Type 0
 ByCall (opening.Create attributes) creates opens either = creates attributes.now
 ByCall (opening.Open attributes) creates opens either = opens attributes
 ByCall (opening.OpenOrCreate attributes) creates opens either = either attributes
 
--- a call opens a service as these options ask, and its factory gets a number
+-- The call opens a service as these options ask, and its factory gets a number.
 abbrev pub OpensByCall : {T U B D : Type 0} → OpeningCall → ServiceOptions → Detail → Detail → MessageTypeDetails → ℕ → List ℕ
     → List (List ForeignStep) → FactoryTable → Hub T U B D → Result ℕ Refusal → FactoryTable → Hub T U B D → Type 0
 OpensByCall call named payload user_header types node name lists table old answer after new = ByCall call
@@ -37,13 +37,13 @@ OpensByCall call named payload user_header types node name lists table old answe
     (λ attributes. OpensAs named payload user_header types node name attributes lists table old answer after new)
     (λ attributes. EitherAs named payload user_header types node name attributes lists table old answer after new)
 
--- the refusal of a call where no memory was found before the first access
+-- The refusal of the call if memory runs out before the first access.
 abbrev pub lacking_of : OpeningCall → ServiceOptions → Refusal
 lacking_of (opening.Create attributes) named = create_lacking named
 lacking_of (opening.Open attributes) named = open_lacking named
 lacking_of (opening.OpenOrCreate attributes) named = either_lacking named
 
--- a call opens the service that is asked for, once there are lists of the steps and room; or no memory was found for them
+-- The call opens the service that is asked for, once the lists of actions and the capacity are made; or memory ran out for them.
 abbrev pub OpensUnlessLacking : {T U B D : Type 0} → OpeningCall → Detail → Detail → MessageTypeDetails → ServiceAsked → List StepBefore
     → FactoryTable → Hub T U B D → Option (Result ℕ Refusal) → FactoryTable → Hub T U B D → Type 0
 OpensUnlessLacking call payload user_header types asked steps table old answer after new =
@@ -55,8 +55,8 @@ OpensUnlessLacking call payload user_header types asked steps table old answer a
     (λ attributes. EitherPrepared prepared payload user_header types asked attributes roomier old reply after new)
     × (answer ≡ Some reply)
 
--- A call is told this with no memory, why it comes to nothing, or nothing: of the settings, where it may create, and of what its first
--- look finds.
+-- What the call reports before anything is allocated: why it fails, or nothing. This follows from the settings, if the call may create, and
+-- from what its first look finds.
 abbrev pub IsToldFirst : OpeningCall → MessageTypeDetails → ServiceOptions → Option HashState → Option Refusal → Type 0
 IsToldFirst (opening.Create attributes) types named found told =
     (refused : Option CreateFailure) × IsUncreated (settings_of types named) refused × (told ≡ create_told named refused found)
@@ -64,7 +64,7 @@ IsToldFirst (opening.Open attributes) types named found told = told ≡ open_tol
 IsToldFirst (opening.OpenOrCreate attributes) types named found told =
     (refused : Option CreateFailure) × IsUncreated (settings_of types named) refused × (told ≡ either_told named refused found)
 
--- A call is made for the service that is asked for, and its factory gets a number. Nothing happens where the node isn't there.
+-- The call is made for the service that is asked for, and its factory gets a number. Nothing happens if the node wasn't made.
 abbrev pub CallsNumbered : {T U B D : Type 0} → OpeningCall → Bool → Detail → Detail → MessageTypeDetails → ServiceAsked → List StepBefore
     → FactoryTable → Hub T U B D → Option (Result ℕ Refusal) → FactoryTable → Hub T U B D → Type 0
 CallsNumbered call is_there payload user_header types asked steps table old answer after new = ByCall call

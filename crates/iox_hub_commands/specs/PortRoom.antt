@@ -1,5 +1,5 @@
--- Room that is made when ports come: no loan of a publisher that is there lacks memory for its number, and no sample that comes
--- to a subscriber.
+-- Capacity that is made when ports are created, so that memory never runs out for the number of a publisher's loan, or of a subscriber's
+-- sample.
 use Rattle.std.specs.Prelude.{ℕ, ◌≡◌, ◌+◌, ◌<◌, ◌≤◌, ◌⊎◌, [], length, Option, None, Some, IsSome}
 use Rattle.iox_command.specs.declared.command.Command.{Command}
 use Rattle.iox_command.specs.declared.command.Command.TheVariants as command
@@ -16,75 +16,74 @@ use Rattle.iox_hub_commands.specs.Grown.{HaveGrown}
 use Rattle.iox_hub_commands.specs.Tables.{lender}
 use Rattle.iox_hub_commands.specs.declared.numbered_hub.NumberedHub.{NumberedHub}
 
--- This holds of a command by which a port comes; of others nothing is said.
+-- `Holds` is stated of a command that creates a port; nothing is stated of other commands.
 abbrev pub OfPorts : {T : Type 0} → Type 0 → Command T → Type 0
 OfPorts Holds (command.Publisher factory options) = Holds
 OfPorts Holds (command.Subscriber factory options) = Holds
 OfPorts Holds other = Unit {0}
 
--- This holds of a command by which no port comes; of the two others nothing is said.
+-- `Holds` is stated of a command that creates no port; nothing is stated of the two that do.
 abbrev pub OfOthers : {T : Type 0} → Type 0 → Command T → Type 0
 OfOthers Holds (command.Publisher factory options) = Unit {0}
 OfOthers Holds (command.Subscriber factory options) = Unit {0}
 OfOthers Holds other = Holds
 
--- There is room in a table for what stands there, for so much more, and for one beside that.
+-- The table has capacity for its entries, for so many more, and for one beside these.
 abbrev pub FitsBeside : {V : Type 0} → ℕ → NumberTable V → Type 0
 FitsBeside more table = length table.entries + more < table.room
 
--- What is pledged of a table is enough for what stands there and for so much more, and there is room for it, and for one beside.
+-- What is reserved of a table is enough for its entries and for so many more; the table has capacity for it, and for one beside.
 abbrev pub Pledges : {V : Type 0} → ℕ → ℕ → NumberTable V → Type 0
 Pledges more pledged table = (length table.entries + more ≤ pledged) × (pledged < table.room)
 
--- What is pledged of a table is enough for what stands there and for so much more; and where something stands in another table,
--- there is room for it, and for one beside.
+-- What is reserved of a table is enough for its entries and for so many more. If the table of ports has entries, there is capacity for what
+-- is reserved, and for one beside.
 abbrev pub IsPledged : {V W : Type 0} → NumberTable V → ℕ → ℕ → NumberTable W → Type 0
 IsPledged ports more pledged table = (length table.entries + more ≤ pledged) × ((ports.entries ≡ []) ⊎ (pledged < table.room))
 
--- how many samples a subscriber that comes to a service may hold at once, if that is here
+-- How many samples a new subscriber of the service may hold at once; 0 if the service's domain isn't in the hub.
 abbrev pub most_samples : {T U : Type 0} → Option (ServicePorts T U) → ℕ
 most_samples None = 0
 most_samples (Some ports) = held_by_one ports
 
--- how many samples of a publisher that comes to a service may be held at once, if that is here
+-- How many samples of a new publisher of the service may be held at once; 0 if the service's domain isn't in the hub.
 abbrev pub most_samples_of : {T U : Type 0} → Option (ServicePorts T U) → ℕ
 most_samples_of None = 0
 most_samples_of (Some ports) = held_of_one ports
 
 module _ {T U B D : Type 0} where
-  -- how many samples a subscriber that comes to a domain may hold at once
+  -- How many samples a new subscriber of this domain may hold at once.
   abbrev pub most_samples_at : DomainId → NumberedHub T U B D → ℕ
   most_samples_at domain hub = most_samples (hub_ports domain hub.hub)
 
-  -- how many of a publisher that comes to it may be held at once
+  -- How many samples of a new publisher of this domain may be held at once.
   abbrev pub most_samples_from : DomainId → NumberedHub T U B D → ℕ
   most_samples_from domain hub = most_samples_of (hub_ports domain hub.hub)
 
-  -- As many numbers are pledged as the loans that are out, and all that publishers may still make; and where publishers are there, there
-  -- is room for these, and for one more.
+  -- At least as many numbers are reserved as loans are out and publishers may still make. If there are publishers, there is capacity for
+  -- these, and for one more.
   abbrev pub HasLoanRoom : NumberedHub T U B D → Type 0
   HasLoanRoom hub = IsPledged hub.made.publishers (loans_left_in hub.hub.services.domains) hub.pledged.loans hub.made.loans
 
-  -- As many numbers are pledged as the samples that are held, and all that may still come; and where subscribers are there, there is
-  -- room for these, and for one more.
+  -- At least as many numbers are reserved as samples are held and may still be received. If there are subscribers, there is capacity for
+  -- these, and for one more.
   abbrev pub HasSampleRoom : NumberedHub T U B D → Type 0
   HasSampleRoom hub = IsPledged hub.made.subscribers (samples_left_in hub.hub.services.domains) hub.pledged.samples hub.made.samples
 
-  -- The ports that are there have room.
+  -- The existing ports have the capacity that they need.
   abbrev pub HasRoom : NumberedHub T U B D → Type 0
   HasRoom hub = HasLoanRoom hub × HasSampleRoom hub
 
-  -- Where the ports had room they have it still: for samples in a hub whose domains grew by calls of ports.
+  -- If the ports had that capacity they still have it; for samples, if the hub's domains have grown by calls of ports.
   abbrev pub KeepsRoom : NumberedHub T U B D → NumberedHub T U B D → Type 0
   KeepsRoom old new = (HasLoanRoom old → HasLoanRoom new) × (HaveGrown old.hub.services.domains → HasSampleRoom old → HasSampleRoom new)
 
-  -- A sample came that has values, and is held under the next number.
+  -- A sample with values was received, and is held under what was the next number.
   abbrev pub CameUnread : NumberedHub T U B D → NumberedHub T U B D → Type 0
   CameUnread old new = (new.made.samples.next ≡ old.made.samples.next + 1)
       × SomeValues (values_under hub_ports (value_at new.made.samples old.made.samples.next) new.hub)
 
-  -- The publisher that a command lends of may lend what it names, and the subscriber that one receives by is there; of other commands
-  -- nothing is said.
+  -- The publisher of a loan may loan what the command names, and the subscriber of a receive exists. Nothing is stated of other commands.
   abbrev pub FindsPort : Command T → NumberedHub T U B D → Type 0
   FindsPort (command.Loan publisher elements) hub
       = IsSome (ready hub_ports (lender elements (value_at hub.made.publishers publisher)) hub.hub)
@@ -92,8 +91,8 @@ module _ {T U B D : Type 0} where
   FindsPort (command.Receive subscriber) hub = IsSome (value_at hub.made.subscribers subscriber)
   FindsPort other hub = Unit {0}
 
-  -- What a command that isn't replied to lacked memory for, where the ports that are there have room: one that receives for the
-  -- values of the sample that came; one that reads for values. Each other command is replied to.
+  -- For what memory ran out at a command without a reply, if the ports have the capacity that they need: at a receive, for the values of
+  -- the sample that was received; at a read, for the values. Each other command has a reply.
   abbrev pub LacksInRoom : Command T → NumberedHub T U B D → NumberedHub T U B D → Type 0
   LacksInRoom (command.Receive subscriber) old new = CameUnread old new
   LacksInRoom (command.Read sample) old new = Unit {0}

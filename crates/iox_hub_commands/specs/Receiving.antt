@@ -20,38 +20,38 @@ use Rattle.iox_delivery.specs.Container.NumberTable.{value_at}
 use Rattle.iox_hub_commands.specs.Messages.{SomeValues}
 
 module _ {T : Type 0} where
-  -- the reply of a sample that came: its number, and the values that are read under it
+  -- The reply to a received sample: its number, and the values that are read under it.
   abbrev pub IsArrival : ℕ → Option (List T) → Reply T → Type 0
   IsArrival sample None answer = ⊥
   IsArrival sample (Some found) answer = (values : Vec T) × (vec_items values ≡ found) × (answer ≡ reply.Received sample values)
 
-  -- the reply of a receive, where `read` tells the values of a sample by its number
+  -- The reply to a receive, if `read` returns the values of a sample by its number.
   abbrev pub IsReceiveReply : (ℕ → Option (List T)) → Option (Result (Option ℕ) ReceiveError) → Reply T → Type 0
   IsReceiveReply read None answer = answer ≡ reply.Skipped
   IsReceiveReply read (Some (Err error)) answer = answer ≡ reply.Refused (refusal.Receive error)
   IsReceiveReply read (Some (Ok None)) answer = answer ≡ reply.NothingWaits
   IsReceiveReply read (Some (Ok (Some sample))) answer = IsArrival sample (read sample) answer
 
--- what is replied of a sample that came: nothing where it has values, and no memory was found for them
+-- The reply to a received sample; there is none if the sample has values and memory runs out for them.
 abbrev pub IsShown : {T : Type 0} → ℕ → Option (List T) → Result (Reply T) AllocError → Type 0
 IsShown sample found (Ok answer) = IsArrival sample found answer
 IsShown sample found (Err lacking) = SomeValues found
 
--- A sample with some values came.
+-- A sample with at least one value was received.
 abbrev pub HasCome : {T : Type 0} → (ℕ → Option (List T)) → Option (Result (Option ℕ) ReceiveError) → Type 0
 HasCome read None = ⊥
 HasCome read (Some (Err error)) = ⊥
 HasCome read (Some (Ok None)) = ⊥
 HasCome read (Some (Ok (Some sample))) = SomeValues (read sample)
 
--- what is replied: nothing where no memory was found for one more number, or for the values of a sample that came
+-- The reply to a receive; there is none if memory runs out for one more number, or for the values of a received sample.
 abbrev pub IsTold : {T : Type 0} → (ℕ → Option (List T)) → Result (Option (Result (Option ℕ) ReceiveError)) AllocError
     → Result (Reply T) AllocError → Type 0
 IsTold read (Err lacking) answer = answer ≡ Err lacking
 IsTold read (Ok received) (Ok told) = IsReceiveReply read received told
 IsTold read (Ok received) (Err lacking) = HasCome read received
 
--- A subscriber receives, and a sample that came gets the next number.
+-- A subscriber receives, and a received sample gets the next number.
 abbrev pub ReceiveStep : {T U H : Type 0} → (DomainId → H → Option (ServicePorts T U)) → (DomainId → ServicePorts T U → H → H)
     → (DomainId → ℕ → H → DegradationInfo → DegradationAction → Type 0) → ℕ → Made → H → Result (Reply T) AllocError → Made → H → Type 0
 ReceiveStep ports_of with_ports degrades subscriber made old answer made_after new =

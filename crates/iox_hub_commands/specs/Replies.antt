@@ -1,4 +1,4 @@
--- What the answers of calls are replied as. `None` is a command that was skipped.
+-- The replies to the answers of calls. `None` is a command that was skipped.
 use Rattle.std.specs.Prelude.{ℕ, Bool, true, false, Option, None, Some, Result, Ok, Err}
 use Rattle.iox_command.specs.declared.refusal.HubError.{HubError}
 use Rattle.iox_command.specs.declared.refusal.Refusal.{Refusal}
@@ -15,71 +15,71 @@ use Rattle.iox_command.specs.DomainValues.declared.port_error.SendError.{SendErr
 use Rattle.iox_command.specs.NegotiateBase.declared.errors.close.CloseError.{CloseError}
 
 module _ {T : Type 0} where
-  -- a service that was created or opened
+  -- The reply to the creation or opening of a service.
   abbrev pub factory_reply : Option (Result ℕ Refusal) → Reply T
   factory_reply None = reply.Skipped
   factory_reply (Some (Ok number)) = reply.FactoryMade number
   factory_reply (Some (Err why)) = reply.Refused why
 
-  -- foreign steps that were run
+  -- The reply to actions of other nodes.
   abbrev pub foreign_reply : Result (Unit {0}) HubError → Reply T
   foreign_reply (Ok done) = reply.Done
   foreign_reply (Err error) = reply.Refused (refusal.Hub error)
 
-  -- a factory that was closed
+  -- The reply to the closing of a factory.
   abbrev pub closed_reply : Option (Result (Unit {0}) CloseError) → Reply T
   closed_reply None = reply.Skipped
   closed_reply (Some (Ok done)) = reply.Done
   closed_reply (Some (Err error)) = reply.Refused (refusal.Close error)
 
-  -- a publisher that came
+  -- The reply to the creation of a publisher.
   abbrev pub publisher_reply : Option (Result ℕ PublisherCreateError) → Reply T
   publisher_reply None = reply.Skipped
   publisher_reply (Some (Ok number)) = reply.PublisherMade number
   publisher_reply (Some (Err error)) = reply.Refused (refusal.Publisher error)
 
-  -- a subscriber that came
+  -- The reply to the creation of a subscriber.
   abbrev pub subscriber_reply : Option (Result ℕ SubscriberCreateError) → Reply T
   subscriber_reply None = reply.Skipped
   subscriber_reply (Some (Ok number)) = reply.SubscriberMade number
   subscriber_reply (Some (Err error)) = reply.Refused (refusal.Subscriber error)
 
-  -- a loan that was made
+  -- The reply to a loan.
   abbrev pub loan_reply : Option (Result ℕ LoanError) → Reply T
   loan_reply None = reply.Skipped
   loan_reply (Some (Ok number)) = reply.LoanMade number
   loan_reply (Some (Err error)) = reply.Refused (refusal.Loan error)
 
-  -- a send: to how many it went, or that it waits
+  -- The reply to a send: how many mailboxes took the message, or that the send is blocked.
   abbrev pub sent_reply : Option (Result Sent SendError) → Reply T
   sent_reply None = reply.Skipped
   sent_reply (Some (Ok (sent.Delivered count))) = reply.Delivered count
   sent_reply (Some (Ok sent.Blocked)) = reply.Blocked
   sent_reply (Some (Err error)) = reply.Refused (refusal.Send error)
 
-  -- a send that was given up: to how many it went
+  -- The reply to a send that was given up: how many mailboxes took the message.
   abbrev pub given_up_reply : Option ℕ → Reply T
   given_up_reply None = reply.Skipped
   given_up_reply (Some count) = reply.Delivered count
 
-  -- a port that followed the list of the others
+  -- The reply to an update of a port.
   abbrev pub updated_reply : Option (Result (Unit {0}) ConnectionFailure) → Reply T
   updated_reply None = reply.Skipped
   updated_reply (Some (Ok done)) = reply.Done
   updated_reply (Some (Err error)) = reply.Refused (refusal.Connection error)
 
-  -- whether a subscriber has messages
+  -- The reply that says whether a subscriber has messages.
   abbrev pub has_reply : Option (Result Bool ConnectionFailure) → Reply T
   has_reply None = reply.Skipped
   has_reply (Some (Ok has)) = reply.Has has
   has_reply (Some (Err error)) = reply.Refused (refusal.Connection error)
 
-  -- the sequence number of a sample's message, if it has one
+  -- The reply with the sequence number of a sample's message, if the message has one.
   abbrev pub sequence_reply : Option (Option ℕ) → Reply T
   sequence_reply None = reply.Skipped
   sequence_reply (Some sequence) = reply.Sequence sequence
 
-  -- something that was done, or was not
+  -- The reply that something was done, or skipped.
   abbrev pub done_reply : Bool → Reply T
   done_reply true = reply.Done
   done_reply false = reply.Skipped

@@ -1,4 +1,4 @@
--- What the commands on nodes and services do to a hub whose things go by numbers.
+-- What the commands on nodes and services do to a numbered hub.
 use Rattle.std.specs.Prelude.{ℕ, ◌≡◌, List, Option, None, Some, Result}
 use Rattle.iox_command.specs.declared.port.PublisherOptions.{PublisherOptions}
 use Rattle.iox_command.specs.declared.port.SubscriberOptions.{SubscriberOptions}
@@ -37,11 +37,11 @@ use Rattle.iox_negotiate.specs.NegotiateBase.declared.errors.close.CloseError.{C
 use Rattle.iox_delivery.specs.Container.NumberTable.{value_at}
 use Rattle.iox_hub_commands.specs.declared.numbered_hub.NumberedHub.{NumberedHub}
 
--- the domain of a factory's service
+-- The id of the domain of the factory's service.
 abbrev pub domain_of_factory : Opened → DomainId
 domain_of_factory (member, owner) = record { hub = member.storage; service = member.service.number }
 
--- whose the ports of a factory are
+-- The owner of the factory's ports.
 abbrev pub owner_of_factory : Opened → PortOwner
 owner_of_factory (member, owner) = record { number = owner; node_id = member.node }
 
@@ -69,7 +69,7 @@ module _ {T U B D : Type 0} where
       made new.factories.made new.hub
       × (new.made ≡ old.made) × (answer ≡ factory_reply made)
 
-  -- A service is opened, or created where none stands, and its factory gets the next number.
+  -- A service is opened, or created if it doesn't exist, and its factory gets the next number.
   abbrev pub OpensOrCreates : Detail → Detail → MessageTypeDetails → ServiceAsked → Required → List StepBefore → NumberedHub T U B D
       → Reply T → NumberedHub T U B D → Type 0
   OpensOrCreates payload user_header types asked attributes steps old answer new =
@@ -78,7 +78,7 @@ module _ {T U B D : Type 0} where
       made new.factories.made new.hub
       × (new.made ≡ old.made) × (answer ≡ factory_reply made)
 
-  -- Nodes of others act on a service.
+  -- Other nodes do actions on a service.
   abbrev pub Acts : MessagingPattern → List ℕ → MessageTypeDetails → List ForeignStep → NumberedHub T U B D → Reply T
       → NumberedHub T U B D → Type 0
   Acts pattern name types steps old answer new =
@@ -92,7 +92,7 @@ module _ {T U B D : Type 0} where
       × ClosesNumbered factory (value_at old.factories.made factory) old.factories.made old.hub closed new.factories.made new.hub
       × (new.made ≡ old.made) × (answer ≡ closed_reply closed)
 
-  -- A publisher comes to a domain, with what is named, and these handlers decide for it.
+  -- A publisher is created in a domain, with what is named and with these handlers.
   abbrev pub PublisherArrives : (U → Type 0) → (B → DegradationCause → DegradationInfo → DegradationAction → Type 0) → DomainId
       → PortOwner → PublisherOptions → B → NumberedHub T U B D → Reply T → NumberedHub T U B D → Type 0
   PublisherArrives is_default degrades domain owner options handlers old answer new =
@@ -100,7 +100,7 @@ module _ {T U B D : Type 0} where
       options.preallocated_samples handlers old.made old.hub answer new.made new.hub
       × (new.factories ≡ old.factories)
 
-  -- A publisher of the service of a factory comes, if that is of publish-subscribe.
+  -- A publisher is created for the service of a factory, if the service is publish-subscribe.
   abbrev pub PublisherComes : (U → Type 0) → (BackpressureStrategy → Option BackpressureAction → DegradationAction → B)
       → (B → DegradationCause → DegradationInfo → DegradationAction → Type 0)
       → Option Opened → PublisherOptions → NumberedHub T U B D → Reply T → NumberedHub T U B D → Type 0
@@ -109,14 +109,14 @@ module _ {T U B D : Type 0} where
       PublisherArrives is_default degrades (domain_of_factory opened) (owner_of_factory opened) options
       (publisher_handlers fixed options) old answer new
 
-  -- A publisher of the service of the factory that goes by a number comes.
+  -- A publisher is created for the service of the factory with this number.
   abbrev pub MakesPublisher : (U → Type 0) → (BackpressureStrategy → Option BackpressureAction → DegradationAction → B)
       → (B → DegradationCause → DegradationInfo → DegradationAction → Type 0)
       → ℕ → PublisherOptions → NumberedHub T U B D → Reply T → NumberedHub T U B D → Type 0
   MakesPublisher is_default fixed degrades factory options old answer new
       = PublisherComes is_default fixed degrades (publish_subscribe_in (value_at old.factories.made factory)) options old answer new
 
-  -- A subscriber comes to a domain, with what is named, and this handler decides for it.
+  -- A subscriber is created in a domain, with what is named and with this handler.
   abbrev pub SubscriberArrives : (D → DegradationCause → DegradationInfo → DegradationAction → Type 0) → DomainId → PortOwner
       → SubscriberOptions → D → NumberedHub T U B D → Reply T → NumberedHub T U B D → Type 0
   SubscriberArrives degrades domain owner options handler old answer new =
@@ -124,7 +124,7 @@ module _ {T U B D : Type 0} where
       old.hub answer new.made new.hub
       × (new.factories ≡ old.factories)
 
-  -- A subscriber of the service of a factory comes, if that is of publish-subscribe.
+  -- A subscriber is created for the service of a factory, if the service is publish-subscribe.
   abbrev pub SubscriberComes : (DegradationAction → D) → (D → DegradationCause → DegradationInfo → DegradationAction → Type 0)
       → Option Opened → SubscriberOptions → NumberedHub T U B D → Reply T → NumberedHub T U B D → Type 0
   SubscriberComes fixed degrades None options old answer new = (answer ≡ reply.Skipped) × (new ≡ old)
@@ -132,7 +132,7 @@ module _ {T U B D : Type 0} where
       SubscriberArrives degrades (domain_of_factory opened) (owner_of_factory opened) options (subscriber_handler fixed options) old
       answer new
 
-  -- A subscriber of the service of the factory that goes by a number comes.
+  -- A subscriber is created for the service of the factory with this number.
   abbrev pub MakesSubscriber : (DegradationAction → D) → (D → DegradationCause → DegradationInfo → DegradationAction → Type 0) → ℕ
       → SubscriberOptions → NumberedHub T U B D → Reply T → NumberedHub T U B D → Type 0
   MakesSubscriber fixed degrades factory options old answer new

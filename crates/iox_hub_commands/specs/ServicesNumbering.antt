@@ -1,4 +1,4 @@
--- How a factory gets a number, and what is made ready before the first access.
+-- How a factory gets a number, and what is prepared before the first access.
 use Rattle.std.specs.Prelude.{ℕ, ◌≡◌, ◌<◌, ◌≤◌, ◌⊎◌, List, [], length, Option, None, Result, Ok, Err}
 use Rattle.std.specs.List.{AllByRecursion}
 use Rattle.std.specs.declared.alloc.AllocError.{AllocError}
@@ -14,21 +14,21 @@ use Rattle.iox_container.specs.NumberTable.{inserted}
 use Rattle.iox_hub_commands.specs.ServicesTables.{FactoryTable, SameNumbers, pattern_in, parts_of}
 use Rattle.iox_hub_commands.specs.declared.services.made.MadeFactory.{MadeFactory}
 
--- There is room for one factory more; or no memory was found for that, as there was no room.
+-- There is capacity for one factory more; or memory ran out for it, as there was none.
 abbrev pub MakesRoom : FactoryTable → Result (Unit {0}) AllocError → FactoryTable → Type 0
 MakesRoom old (Ok done) new = SameNumbers old new × (length new.entries < new.room)
 MakesRoom old (Err lacking) new = (new ≡ old) × (old.room ≤ length old.entries)
 
--- There is room for one factory more, or nothing was done for that, and the lists of steps are there, and what the steps publish has the
--- form of a description; or no memory was found for either, as steps are named or there was no room.
+-- There is capacity for one factory more, or nothing was done for that; the lists of actions are made, and what the actions publish has the
+-- form of a description. Or memory ran out for one of these, since actions are named or there was no capacity.
 abbrev pub Prepares : List ℕ → MessageTypeDetails → List StepBefore → FactoryTable → Result (List (List ForeignStep)) AllocError
     → FactoryTable → Type 0
 Prepares name types steps old (Ok lists) new = SameNumbers old new × (lists ≡ lists_of name types steps)
     × ((length new.entries < new.room) ⊎ (new ≡ old)) × AllByRecursion (AllByRecursion PublishesInForm) lists
 Prepares name types steps old (Err lacking) new = SameNumbers old new × (steps ≡ [] → old.room ≤ length old.entries)
 
--- A factory that was opened, of a service of this pattern, gets the next number, which is answered, and carries a description,
--- whatever its numbers; a refusal is told, and no factory gets one.
+-- A factory that was opened, of a service of this pattern, gets the next number, which is answered; the description that it carries has the
+-- form of a description. A refusal is reported, and no number is given.
 abbrev pub Numbers : {E : Type 0} → MessagingPattern → (E → Refusal) → Result Made E → FactoryTable → Result ℕ Refusal → FactoryTable
     → Type 0
 Numbers pattern refusal (Ok parts) old answer new =
@@ -43,10 +43,10 @@ abbrev pub GetsNumber : {H E : Type 0} → MessagingPattern → (E → Refusal) 
 GetsNumber {H} {E} pattern refusal opens table old answer after new = (opened : Result Made E) × opens old opened new
     × Numbers pattern refusal opened table answer after
 
--- nothing happens, and nothing is answered
+-- Nothing happens, and nothing is answered.
 abbrev pub IsSkipped : {H A : Type 0} → FactoryTable → H → Option A → FactoryTable → H → Type 0
 IsSkipped table old answer after new = (answer ≡ None) × (after ≡ table) × (new ≡ old)
 
--- a refusal is answered, and nothing else happens
+-- A refusal is answered, and nothing else happens.
 abbrev pub IsRefusedWith : {H : Type 0} → Refusal → FactoryTable → H → Result ℕ Refusal → FactoryTable → H → Type 0
 IsRefusedWith refusal table old answer after new = (answer ≡ Err refusal) × (after ≡ table) × (new ≡ old)

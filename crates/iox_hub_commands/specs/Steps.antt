@@ -1,4 +1,4 @@
--- The steps of foreign nodes that a command names.
+-- The actions of other nodes that a command names.
 use Rattle.std.specs.Prelude.{ℕ, zero, suc, ◌+◌, Bool, List, [], ◌∷◌, map, min, max, nat_eq}
 use Rattle.std.specs.List.{filter, list_any}
 use Rattle.iox_command.specs.declared.step.ForeignStep.{ForeignStep as Named}
@@ -10,7 +10,7 @@ use Rattle.iox_negotiate_table.specs.declared.step.ForeignStep.{ForeignStep}
 use Rattle.iox_negotiate_table.specs.declared.step.ForeignStep.TheVariants as step
 use Rattle.iox_hub_commands.specs.Asking.{agreed_of}
 
--- a step on the service of a name; a service that is published has these types
+-- The action on the service of this name; a service that it publishes has these types.
 abbrev pub step_of : List ℕ → MessageTypeDetails → Named → ForeignStep
 step_of name types (named.Lock node) = step.Lock node
 step_of name types (named.GiveUp node) = step.GiveUp node
@@ -20,35 +20,35 @@ step_of name types (named.Register node) = step.Register node
 step_of name types (named.Leave node) = step.Leave node
 step_of name types (named.Remove node) = step.Remove node
 
--- What a step publishes, if it does, has the form of a description: texts within their limits, a whole hash, numbers of 64 bits.
+-- What the action publishes, if it publishes, has the form of a description: texts within their limits, a whole hash, numbers of 64 bits.
 abbrev pub PublishesInForm : ForeignStep → Type 0
 PublishesInForm (step.Publish node agreed) = HasForm agreed
 PublishesInForm (step.PublishV1 node agreed) = HasForm agreed
 PublishesInForm other = Unit {0}
 
--- the steps in their order
+-- The actions in their order.
 abbrev pub list_of : List ℕ → MessageTypeDetails → List Named → List ForeignStep
 list_of name types steps = map (step_of name types) steps
 
--- the steps that are named before one access, in their order
+-- The actions that are named before one access, in their order.
 abbrev pub list_before : List ℕ → MessageTypeDetails → List StepBefore → ℕ → List ForeignStep
 list_before name types steps access = map (λ before. step_of name types before.step) (filter (λ before. nat_eq before.access access) steps)
 
--- the last access before which steps are named; 0 where none are
+-- The last access before which actions are named; 0 if none are.
 abbrev pub last_access : List StepBefore → ℕ
 last_access [] = 0
 last_access (before ∷ rest) = max before.access (last_access rest)
 
--- whether a step is named before the first access
+-- Whether an action is named before the first access.
 abbrev pub acts_first : List StepBefore → Bool
 acts_first steps = list_any (λ before. nat_eq before.access 1) steps
 
--- so many numbers from this one on
+-- So many numbers in sequence, from this one on.
 abbrev pub from : ℕ → ℕ → List ℕ
 from first zero = []
 from first (suc count) = first ∷ from (first + 1) count
 
--- A list of steps for each access, up to the last before which some are named; those before a seventeenth access don't count, as
--- no call makes so many.
+-- A list of actions for each access, up to the last before which some are named. Actions before a seventeenth access are left out, as no
+-- call makes so many accesses.
 abbrev pub lists_of : List ℕ → MessageTypeDetails → List StepBefore → List (List ForeignStep)
 lists_of name types steps = map (list_before name types steps) (from 1 (min (last_access steps) 16))

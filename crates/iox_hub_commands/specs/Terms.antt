@@ -1,4 +1,4 @@
--- What never changes while a hub goes on: what its values and user headers are, and who decides for its ports.
+-- What never changes while a hub runs: its payload and header types, and the handlers of its ports.
 use Rattle.std.specs.Prelude.{ℕ, List, Option}
 use Rattle.iox_command.specs.DomainValues.declared.backpressure.BackpressureAction.{BackpressureAction}
 use Rattle.iox_command.specs.DomainValues.declared.backpressure.BackpressureDecision.{BackpressureDecision}
@@ -12,31 +12,31 @@ use Rattle.iox_delivery.specs.DescribeBase.declared.message_type.MessageTypeDeta
 use Rattle.iox_delivery.specs.DescribeBase.declared.type_detail.TypeVariant.TheVariants.{FixedSize}
 use Rattle.iox_hub_commands.specs.Asked.{types_of}
 
--- The terms of a hub: what its values and user headers are, which of them are defaults, and who decides for its ports.
+-- The terms of a hub: its payload and header types, their default values, and the handlers of its ports.
 pub record Terms (T U B D : Type 0) : Type 1 where
-  -- what a value is in memory
+  -- The type of a value in memory.
   pub payload : Detail
-  -- what a user header is in memory
+  -- The type of a user header in memory.
   pub user_header : Detail
-  -- of what types the messages of a service are
+  -- The types of a service's messages.
   pub types : MessageTypeDetails
-  -- a value is a default
+  -- Whether a value is a default value.
   pub is_default : T → Type 0
-  -- a user header is a default
+  -- Whether a user header is a default one.
   pub is_default_header : U → Type 0
-  -- who decides for a publisher by this strategy and these actions
+  -- The handlers of a publisher with this strategy and these actions.
   pub fixed : BackpressureStrategy → Option BackpressureAction → DegradationAction → B
-  -- who decides for a publisher may answer so where a connection of it failed
+  -- Whether these handlers of a publisher may answer so at a failed connection.
   pub degrades : B → DegradationCause → DegradationInfo → DegradationAction → Type 0
-  -- who decides for a publisher may decide so where a mailbox is full
+  -- Whether these handlers of a publisher may decide so at a full mailbox.
   pub decides : B → BackpressureInfo → BackpressureDecision → Type 0
-  -- who decides for a subscriber by this action
+  -- The handler of a subscriber with this action.
   pub fixed_reader : DegradationAction → D
-  -- who decides for a subscriber may answer so where a connection of it failed
+  -- Whether this handler of a subscriber may answer so at a failed connection.
   pub reader_degrades : D → DegradationCause → DegradationInfo → DegradationAction → Type 0
 
--- The terms of a hub whose values, and then whose user headers, have this name, size and alignment, and these defaults. Messages carry
--- slices of such values.
+-- The terms of a hub whose values, and whose user headers, have this name, size, alignment and these default values. Messages are slices of
+-- such values.
 abbrev pub terms_of : {T U B D : Type 0} → List ℕ → ℕ → ℕ → (T → Type 0) → List ℕ → ℕ → ℕ → (U → Type 0)
     → (BackpressureStrategy → Option BackpressureAction → DegradationAction → B)
     → (B → DegradationCause → DegradationInfo → DegradationAction → Type 0) → (B → BackpressureInfo → BackpressureDecision → Type 0)

@@ -1,4 +1,4 @@
-//! The commands by which ports come, over the tables of what goes by numbers and any home.
+//! The commands that create ports, over the tables of numbers and any home.
 ghost use Rattle.iox_domain.specs.Homes as homes;
 ghost use Rattle.std.specs.Prelude.{◌+◌, ◌<◌, ◌^◌};
 ghost use Rattle.iox_hub_commands.specs.declared.ports.made.Made.{Made};
@@ -14,8 +14,8 @@ use iox_domain::{DomainId, Home};
 use iox_domain_values::PortOwner;
 use std::alloc::Global;
 
-/// A publisher of slices comes to a domain, with what is named, and gets the next number; `handlers` decide for it. Skipped where
-/// the domain isn't here; refused as `Made::make_publisher` refuses it.
+/// Creates a publisher of slices in a domain, with what the options name, and gives it the next number; `handlers` are its handlers.
+/// Skipped if the domain isn't in the home; refused as `Made::make_publisher` refuses it.
 pub fn publisher<T: Copy, U: Copy + Default, H: Home<T, U>>(
     alloc: Global,
     made: &mut Made,
@@ -41,8 +41,8 @@ pub fn publisher<T: Copy, U: Copy + Default, H: Home<T, U>>(
     publisher_reply(made.make_publisher(alloc, home, domain, parts))
 }
 
-/// What is replied of a publisher that doesn't come for want of memory: it is refused as `Made::make_publisher` refuses it, and
-/// skipped where the domain isn't here. Nothing changes.
+/// The reply if memory runs out for a publisher: it is refused as `Made::make_publisher` refuses it, and skipped if the domain isn't in the
+/// home. Nothing changes.
 pub fn publisher_refused<T: Copy, U: Copy + Default, H: Home<T, U>>(
     home: &H,
     domain: DomainId,
@@ -59,8 +59,8 @@ pub fn publisher_refused<T: Copy, U: Copy + Default, H: Home<T, U>>(
     publisher_reply(why_no_publisher(home, domain, &config))
 }
 
-/// A subscriber comes to a domain, with what is named, and gets the next number; `handler` decides for it. Skipped where the
-/// domain isn't here; refused as `Made::make_subscriber` refuses it.
+/// Creates a subscriber in a domain, with what the options name, and gives it the next number; `handler` is its handler. Skipped if the
+/// domain isn't in the home; refused as `Made::make_subscriber` refuses it.
 pub fn subscriber<T: Copy, U: Copy, H: Home<T, U>>(
     alloc: Global,
     made: &mut Made,
@@ -79,8 +79,8 @@ pub fn subscriber<T: Copy, U: Copy, H: Home<T, U>>(
     subscriber_reply(made.make_subscriber(alloc, home, domain, config, handler))
 }
 
-/// What is replied of a subscriber that doesn't come for want of memory: it is refused as `Made::make_subscriber` refuses it, and
-/// skipped where the domain isn't here. Nothing changes.
+/// The reply if memory runs out for a subscriber: it is refused as `Made::make_subscriber` refuses it, and skipped if the domain isn't in
+/// the home. Nothing changes.
 pub fn subscriber_refused<T: Copy, U: Copy, H: Home<T, U>>(
     home: &H,
     domain: DomainId,

@@ -1,4 +1,4 @@
-//! The commands by which ports follow the list of the others, say whether messages wait, and leave.
+//! The commands by which ports update their connections, look for data, and are closed.
 ghost use Rattle.iox_domain.specs.Homes as homes;
 ghost use Rattle.iox_hub_commands.specs.Following.{UpdateStep, HasStep, LeaveStep};
 
@@ -8,8 +8,8 @@ use iox_command::{PortNumber, Reply};
 use iox_domain::Home;
 use std::alloc::Global;
 
-/// A port follows the ports of the other kind. Skipped as `Made::update_publisher` or `update_subscriber` answers None, and
-/// refused as that is.
+/// Updates the connections of a port. Skipped if `Made::update_publisher` or `update_subscriber` answers None, and refused as they refuse
+/// it.
 /// Example: `let reply = update(alloc, &made, &mut home, PortNumber::Publisher(1));`
 pub fn update<T: Copy, U: Copy, H: Home<T, U>>(
     alloc: Global,
@@ -29,8 +29,7 @@ pub fn update<T: Copy, U: Copy, H: Home<T, U>>(
     }
 }
 
-/// Whether something waits for a subscriber, after it followed the publishers. Skipped as `Made::has_samples` answers None, and
-/// refused as that is.
+/// Whether a message waits for a subscriber, after an update. Skipped if `Made::has_samples` answers None, and refused as it refuses it.
 /// Example: `let reply = has(alloc, &made, &mut home, subscriber);`
 pub fn has<T: Copy, U: Copy, H: Home<T, U>>(
     alloc: Global,
@@ -44,7 +43,7 @@ pub fn has<T: Copy, U: Copy, H: Home<T, U>>(
     has_reply(made.has_samples(alloc, home, subscriber))
 }
 
-/// A port leaves. Skipped where `Made::leave_publisher` or `leave_subscriber` answers false.
+/// Closes a port. Skipped if `Made::leave_publisher` or `leave_subscriber` answers false.
 /// Example: `let reply = leave(&mut made, &mut home, PortNumber::Publisher(1));`
 pub fn leave<T: Copy, U: Copy, H: Home<T, U>>(
     made: &mut Made,

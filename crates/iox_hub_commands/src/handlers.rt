@@ -1,4 +1,4 @@
-//! Who decides for a port that a command made: what the command named.
+//! Handlers of ports that a command made: fixed actions, as the command named them.
 ghost use Rattle.std.specs.Prelude.{◌≡◌, ℕ, Option};
 ghost use Rattle.std.specs.Option.{option_map, unwrap_or};
 ghost use Rattle.iox_command.specs.DomainValues.Actions.{decision_of};
@@ -15,14 +15,14 @@ use iox_domain_values::{
     DegradationInfo, Degrades, Handlers, Overrides,
 };
 
-/// Who may decide for a publisher that a command made: it can be had of fixed actions.
+/// Handlers of a publisher that can be made of fixed actions, as a command names them.
 ///
-/// This port's own.
+/// Not in `iceoryx2`.
 pub trait PublisherHandlers: Decides + Degrades {
-    // who decides by this strategy and these actions
+    // the handlers with this strategy and these actions
     ghost fixed: { BackpressureStrategy → Option BackpressureAction → DegradationAction → Self };
 
-    /// Who decides by this strategy, by this action at a full mailbox, if one is named, and by this one where a connection failed.
+    /// The handlers with this strategy, with this action at a full mailbox, if one is named, and with this action at a failed connection.
     fn with_actions(
         strategy: BackpressureStrategy,
         backpressure: Option<BackpressureAction>,
@@ -31,14 +31,14 @@ pub trait PublisherHandlers: Decides + Degrades {
         ensures { result ≡ fixed strategy backpressure degradation };
 }
 
-/// Who may decide for a subscriber that a command made: it can be had of a fixed action.
+/// A handler of a subscriber that can be made of a fixed action, as a command names it.
 ///
-/// This port's own.
+/// Not in `iceoryx2`.
 pub trait SubscriberHandler: Degrades {
-    // who answers this action
+    // the handler with this action
     ghost fixed: { DegradationAction → Self };
 
-    /// Who answers this action where a connection failed.
+    /// The handler with this action at a failed connection.
     fn with_action(degradation: DegradationAction) -> Self
         ensures { result ≡ fixed degradation };
 }
@@ -75,16 +75,16 @@ impl SubscriberHandler for DegradationHandler {
     }
 }
 
-/// Who decides for a publisher by fixed actions alone. A hub whose ports only commands make needs no other, and no boxes.
+/// Handlers of a publisher that are fixed actions. A hub whose ports are made only by commands needs no other handlers, and no boxes.
 ///
-/// This port's own.
+/// Not in `iceoryx2`.
 #[derive(Clone, Copy)]
 pub struct FixedHandlers {
-    /// What is done at a full mailbox where no action says otherwise.
+    /// The strategy at a full mailbox, if no action is named.
     pub strategy: BackpressureStrategy,
-    /// The answer at a full mailbox, if one is named.
+    /// The action at a full mailbox, if one is named.
     pub backpressure: Option<BackpressureAction>,
-    /// The answer where a connection failed.
+    /// The action at a failed connection.
     pub degradation: DegradationAction,
 }
 
@@ -120,12 +120,12 @@ impl PublisherHandlers for FixedHandlers {
     }
 }
 
-/// Who answers one action where a connection of a subscriber failed.
+/// A handler of a subscriber that has one action at a failed connection.
 ///
-/// This port's own.
+/// Not in `iceoryx2`.
 #[derive(Clone, Copy)]
 pub struct FixedDegradation {
-    /// The answer.
+    /// The action.
     pub action: DegradationAction,
 }
 
@@ -147,12 +147,12 @@ impl SubscriberHandler for FixedDegradation {
     }
 }
 
-/// How many slots a publisher gets, where a command named that; else as many as it needs in the worst case.
+/// The number of slots of a publisher: the one that a command named, or else as many as the publisher needs in the worst case.
 ///
-/// This port's own.
+/// Not in `iceoryx2`.
 #[derive(Clone, Copy)]
 pub struct NamedSlots {
-    /// How many are named.
+    /// The number of slots, if one is named.
     pub slots: Option<u64>,
 }
 

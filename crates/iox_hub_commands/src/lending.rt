@@ -1,4 +1,4 @@
-//! The commands that lend, and the one that sends values at once, over the tables of what goes by numbers and any home.
+//! The commands that loan, and the one that sends values at once, over the tables of numbers and any home.
 ghost use Rattle.iox_domain.specs.Homes as homes;
 ghost use Rattle.std.specs.Prelude.{◌≡◌, ◌+◌, ◌<◌, ◌^◌, IsSome, None, Ok, OnErr};
 ghost use Rattle.iox_command.specs.declared.reply.Reply.TheVariants as reply;
@@ -13,10 +13,11 @@ use iox_command::Reply;
 use iox_domain::Home;
 use std::alloc::{AllocError, Global};
 
-/// A publisher lends so many elements, none of which is written. Skipped as `Made::loan_uninit` answers None, and refused as that is.
+/// Loans so many elements of a publisher, none of which is written. Skipped if `Made::loan_uninit` answers None, and refused as it refuses
+/// it.
 ///
-/// Fails only where the table of loans is full and no memory is found for one more number; then nothing has changed. It is skipped,
-/// whatever memory there is, where no publisher goes by the number, and where its messages are single values and not one element is asked
+/// Fails only if the table of loans is full and memory runs out for one more number; then nothing has changed. Whatever memory there is,
+/// the command is skipped if the number has no publisher, or if the publisher's messages are single values and not one element is asked
 /// for.
 /// Example: `let reply = loan_uninit(alloc, &mut made, &mut home, publisher, 4)?;`
 pub fn loan_uninit<T: Copy, U: Copy, H: Home<T, U>>(
@@ -38,9 +39,10 @@ pub fn loan_uninit<T: Copy, U: Copy, H: Home<T, U>>(
     }
 }
 
-/// A publisher lends so many elements, each of which is written: a default. Skipped as `Made::loan` answers None, and refused as that is.
+/// Loans so many elements of a publisher, each written with a default value. Skipped if `Made::loan` answers None, and refused as it
+/// refuses it.
 ///
-/// Fails only where the table of loans is full and no memory is found for one more number; then nothing has changed. It is skipped where
+/// Fails only if the table of loans is full and memory runs out for one more number; then nothing has changed. The command is skipped if
 /// `Made::loan` answers None, whatever memory there is.
 /// Example: `let reply = loan(alloc, &mut made, &mut home, publisher, 4)?;`
 pub fn loan<T: Copy + Default, U: Copy, H: Home<T, U>>(
@@ -64,7 +66,7 @@ pub fn loan<T: Copy + Default, U: Copy, H: Home<T, U>>(
     }
 }
 
-/// A publisher sends these values. Skipped as `Made::put` answers None, and refused as that is.
+/// Sends these values by a publisher. Skipped if `Made::put` answers None, and refused as it refuses it.
 pub fn put<T: Copy, U: Copy, H: Home<T, U>>(
     alloc: Global,
     made: &Made,

@@ -1,29 +1,29 @@
-//! Commands: what each does to the tables of what goes by numbers and to the hub, and what it is replied.
+//! Commands: what each does to the tables of numbers and to the hub, and what its reply is.
 //!
-//! Commands of ports are handed a home, which is anything that holds domains: one domain, or a hub.
+//! Commands of ports are handed a home, which is anything that contains domains: one domain, or a hub.
 //!
 //! | Module | What it has |
 //! |---|---|
-//! | `services` | services that a run of commands opened, under numbers, and what later commands do with them |
-//! | `ports` | ports, loans and samples under numbers |
-//! | `handlers` | who decides for a port that a command made |
-//! | `naming` | what a command names of a port |
-//! | `replies` | what the answers of calls are replied as |
-//! | `arriving` | ports come |
-//! | `lending` | publishers lend, and send values at once |
-//! | `messages` | loans are written, sent and given up; samples are read and released |
-//! | `receiving` | subscribers receive |
-//! | `following` | ports follow the list of the others, say whether messages wait, and leave |
-//! | `numbered_hub` | the hub with what was made in it |
+//! | `services` | numbered services that a run of commands opened, and what later commands do with them |
+//! | `ports` | numbered ports, loans and samples |
+//! | `handlers` | handlers of ports that a command made |
+//! | `naming` | what a command names for a port |
+//! | `replies` | the replies to the answers of calls |
+//! | `arriving` | how ports are created |
+//! | `lending` | how publishers loan, and send values at once |
+//! | `messages` | how loans are written, sent and dropped; how samples are read and released |
+//! | `receiving` | how subscribers receive |
+//! | `following` | how ports update their connections, look for data, and are closed |
+//! | `numbered_hub` | the hub with all that commands made in it |
 //! | `service_step` | the commands on nodes and services |
-//! | `room_arriving` | ports come, once the numbers of their loans and samples are pledged |
+//! | `room_arriving` | how ports are created, once the numbers of their loans and samples are reserved |
 //! | `step` | one command, and its reply |
 //! | `port_step` | one command of a port, and its reply |
-//! | `room` | numbers of loans and samples that are pledged to ports, and room for them |
+//! | `room` | numbers of loans and samples that are reserved for ports, and capacity for them |
 //! | `run` | a list of commands |
-//! | `laws` | what it comes to that each service has one agreement |
+//! | `laws` | what follows if each service has one agreement |
 //!
-//! First calls, where nothing was made. `NumberedHub` of `iox_hub_commands` makes the others.
+//! First calls, with nothing made yet. `NumberedHub` of `iox_hub_commands` makes the others.
 //!
 //! ```
 //! let mut made = Made::new(alloc);

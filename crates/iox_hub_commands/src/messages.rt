@@ -1,4 +1,4 @@
-//! The commands on loans, sends and samples, over the tables of what goes by numbers and any home.
+//! The commands on loans, sends and samples, over the tables of numbers and any home.
 ghost use Rattle.iox_domain.specs.Homes as homes;
 ghost use Rattle.std.specs.Prelude.{◌≡◌, ◌<◌, length, IfOk, OnErr};
 ghost use Rattle.iox_hub_commands.specs.Messages.{SetStep, FillStep, DropStep, SendStep, RetryStep, GiveUpStep, ReadStep, SequenceStep};
@@ -10,7 +10,7 @@ use iox_command::Reply;
 use iox_domain::Home;
 use std::alloc::{AllocError, Global};
 
-/// One value of a loan is written. Skipped where `Made::set` answers false.
+/// Writes one value of a loan. Skipped if `Made::set` answers false.
 /// Example: `let reply = set(&made, &mut home, loan, 0, 7);`
 pub fn set<T: Copy, U: Copy, H: Home<T, U>>(
     made: &Made,
@@ -24,7 +24,7 @@ pub fn set<T: Copy, U: Copy, H: Home<T, U>>(
     done_reply(made.set(home, loan, place as usize, value))
 }
 
-/// All values of a loan are written. Skipped where `Made::fill` answers false.
+/// Writes all values of a loan. Skipped if `Made::fill` answers false.
 /// Example: `let reply = fill(&made, &mut home, loan, &[7, 8]);`
 pub fn fill<T: Copy, U: Copy, H: Home<T, U>>(
     made: &Made,
@@ -37,7 +37,7 @@ pub fn fill<T: Copy, U: Copy, H: Home<T, U>>(
     done_reply(made.fill(home, loan, values))
 }
 
-/// A loan is given up. Skipped where `Made::drop_loan` answers false.
+/// Drops a loan. Skipped if `Made::drop_loan` answers false.
 /// Example: `let reply = drop_loan(&mut made, &mut home, loan);`
 pub fn drop_loan<T: Copy, U: Copy, H: Home<T, U>>(
     made: &mut Made,
@@ -49,7 +49,7 @@ pub fn drop_loan<T: Copy, U: Copy, H: Home<T, U>>(
     done_reply(made.drop_loan(home, loan))
 }
 
-/// A loan is sent. Skipped as `Made::send` answers None, and refused as that is.
+/// Sends a loan. Skipped if `Made::send` answers None, and refused as it refuses it.
 /// Example: `let reply = send(alloc, &mut made, &mut home, loan);`
 pub fn send<T: Copy, U: Copy, H: Home<T, U>>(
     alloc: Global,
@@ -64,7 +64,7 @@ pub fn send<T: Copy, U: Copy, H: Home<T, U>>(
     sent_reply(made.send(alloc, home, loan))
 }
 
-/// A send that waits is tried again, after so many nanoseconds. Skipped as `Made::retry` answers None, and refused as that is.
+/// Tries a blocked send again, with so many nanoseconds elapsed. Skipped if `Made::retry` answers None, and refused as it refuses it.
 /// Example: `let reply = retry(&made, &mut home, publisher, 1_000);`
 pub fn retry<T: Copy, U: Copy, H: Home<T, U>>(
     made: &Made,
@@ -79,7 +79,7 @@ pub fn retry<T: Copy, U: Copy, H: Home<T, U>>(
     sent_reply(made.retry(home, publisher, nanoseconds))
 }
 
-/// A send that waits ends. Skipped as `Made::give_up` answers None.
+/// Gives up a blocked send. Skipped if `Made::give_up` answers None.
 /// Example: `let reply = give_up(&made, &mut home, publisher);`
 pub fn give_up<T: Copy, U: Copy, H: Home<T, U>>(
     made: &Made,
@@ -91,7 +91,7 @@ pub fn give_up<T: Copy, U: Copy, H: Home<T, U>>(
     given_up_reply(made.give_up(home, publisher))
 }
 
-/// A sample is released. Skipped where `Made::release` answers false.
+/// Releases a sample. Skipped if `Made::release` answers false.
 /// Example: `let reply = release(&mut made, &mut home, sample);`
 pub fn release<T: Copy, U: Copy, H: Home<T, U>>(
     made: &mut Made,
@@ -103,8 +103,8 @@ pub fn release<T: Copy, U: Copy, H: Home<T, U>>(
     done_reply(made.release(home, sample))
 }
 
-/// The values of a sample. Skipped where `Made::read` answers None. Fails only where the sample has values and no memory is
-/// found for them; then nothing has changed.
+/// The values of a sample. Skipped if `Made::read` answers None. Fails only if the sample has values and memory runs out for them; then
+/// nothing has changed.
 /// Example: `let reply = read(alloc, &made, &home, sample)?;`
 pub fn read<T: Copy, U: Copy, H: Home<T, U>>(
     alloc: Global,
@@ -120,7 +120,7 @@ pub fn read<T: Copy, U: Copy, H: Home<T, U>>(
     }
 }
 
-/// The sequence number of a sample's message, or that it has none. Skipped where `Made::sequence` answers None.
+/// The sequence number of a sample's message, or that it has none. Skipped if `Made::sequence` answers None.
 /// Example: `let reply = sequence(&made, &home, sample);`
 pub fn sequence<T: Copy, U: Copy, H: Home<T, U>>(made: &Made, home: &H, sample: u64) -> Reply<T>
     ensures { SequenceStep (homes.ports_of H.domain_of) sample made.now home.now result }
@@ -128,7 +128,7 @@ pub fn sequence<T: Copy, U: Copy, H: Home<T, U>>(made: &Made, home: &H, sample: 
     sequence_reply(made.sequence(home, sample))
 }
 
-// A list of the same values; fails only where there are some, and no memory for them.
+// A list of the same values. Fails only if there are values and memory runs out for them.
 pub(crate) fn copied<T: Copy>(alloc: Global, values: &[T]) -> Result<Vec<T>, AllocError>
     ensures copy { IfOk result (λ copy. copy.items ≡ values.now) }
     ensures lacking { OnErr result (0 < length values.now) }

@@ -1,4 +1,4 @@
-//! What a command names of a port.
+//! What a command names for a port.
 ghost use Rattle.std.specs.Prelude.{◌≡◌};
 ghost use Rattle.std.specs.Option.{unwrap_or};
 ghost use Rattle.iox_hub_commands.specs.Naming.{most_loans, publisher_config, publisher_handlers, named_slots, subscriber_config};
@@ -26,7 +26,7 @@ pub fn domain_of(factory: &PortFactory<PublishSubscribe>) -> DomainId
     }
 }
 
-/// Whose a factory's ports are.
+/// The owner of a factory's ports.
 /// Example: `let owner = owner_of(&factory);`
 pub fn owner_of(factory: &PortFactory<PublishSubscribe>) -> PortOwner
     ensures { result ≡ owner_of_factory (factory.now.service.membership, factory.now.owner) }
@@ -37,7 +37,7 @@ pub fn owner_of(factory: &PortFactory<PublishSubscribe>) -> PortOwner
     }
 }
 
-/// How many loans may be out at once of a publisher that is named so.
+/// How many loans of a publisher with these options may be out at once.
 pub fn most_loans(options: &PublisherOptions) -> usize
     ensures { result ≡ most_loans options.now }
 {
@@ -45,7 +45,7 @@ pub fn most_loans(options: &PublisherOptions) -> usize
     length(options.max_loaned_samples, defaults.max_loaned_samples)
 }
 
-/// How many values a loan of a publisher that is named so may have at first.
+/// How many values a loan of a publisher with these options may have at first.
 /// Example: `let length = first_length(&options);`
 pub fn first_length(options: &PublisherOptions) -> usize
     ensures { result ≡ unwrap_or options.now.initial_max_slice_len publisher_defaults.initial_max_slice_len }
@@ -57,7 +57,7 @@ pub fn first_length(options: &PublisherOptions) -> usize
     )
 }
 
-/// What a publisher of slices is made with.
+/// The configuration of a publisher of slices with these options.
 /// Example: `let config = publisher_config(owner, &options);`
 pub fn publisher_config(owner: PortOwner, options: &PublisherOptions) -> PublisherConfig
     ensures { result ≡ publisher_config owner options.now }
@@ -73,8 +73,8 @@ pub fn publisher_config(owner: PortOwner, options: &PublisherOptions) -> Publish
     }
 }
 
-/// Who decides for a publisher that is named so: what its type makes of the strategy and of the actions that are named, and of
-/// the defaults.
+/// The handlers of a publisher with these options: those that its type makes of the strategy and the actions that are named, or of the
+/// defaults.
 pub fn publisher_handlers<B: PublisherHandlers>(options: &PublisherOptions) -> B
     ensures { result ≡ publisher_handlers B.fixed options.now }
 {
@@ -88,7 +88,7 @@ pub fn publisher_handlers<B: PublisherHandlers>(options: &PublisherOptions) -> B
     )
 }
 
-// How many slots a publisher gets.
+// The number of slots that a publisher gets.
 pub(crate) fn named_slots(options: &PublisherOptions) -> NamedSlots
     ensures { result ≡ named_slots options.now }
 {
@@ -97,7 +97,7 @@ pub(crate) fn named_slots(options: &PublisherOptions) -> NamedSlots
     }
 }
 
-/// What a subscriber is made with.
+/// The configuration of a subscriber with these options.
 /// Example: `let config = subscriber_config(owner, &options);`
 pub fn subscriber_config(owner: PortOwner, options: &SubscriberOptions) -> SubscriberConfig
     ensures { result ≡ subscriber_config owner options.now }
@@ -111,7 +111,7 @@ pub fn subscriber_config(owner: PortOwner, options: &SubscriberOptions) -> Subsc
     }
 }
 
-/// Who decides for a subscriber that is named so: what its type makes of the action that is named, or of the default.
+/// The handler of a subscriber with these options: the one that its type makes of the action that is named, or of the default.
 pub fn subscriber_handler<D: SubscriberHandler>(options: &SubscriberOptions) -> D
     ensures { result ≡ subscriber_handler D.fixed options.now }
 {

@@ -1,4 +1,4 @@
-//! A hub with what commands made in it.
+//! A hub with all that commands made in it.
 ghost use Rattle.std.specs.Prelude.{◌≡◌};
 ghost use Rattle.iox_hub_commands.specs.Agreements.{AreOfOneAgreement};
 ghost use Rattle.iox_hub_commands.specs.Grown.{HaveGrown};
@@ -11,22 +11,23 @@ use crate::services::{Factories, Hub, HubConfig};
 use crate::{FixedDegradation, FixedHandlers, Made};
 use std::alloc::Global;
 
-/// A hub, and what commands made in it, under numbers that are counted from 1 for each kind. A number is spent when what it stands for
-/// ends.
+/// A hub, and what commands made in it, by numbers that are counted from 1 for each kind. A number names nothing any longer once its
+/// factory, port, loan or sample has ended.
 ///
-/// `T` is the element of messages, `U` their user header; `B` decides for publishers, `D` for subscribers. This port's own.
+/// `T` is the element of messages, `U` their user header, `B` the handlers of a publisher, `D` the handler of a subscriber.
+/// Not in `iceoryx2`.
 pub struct NumberedHub<T, U, B = FixedHandlers, D = FixedDegradation> {
     /// The hub.
     pub hub: Hub<T, U, B, D>,
-    /// The factories that aren't closed.
+    /// The open factories.
     pub factories: Factories,
-    /// The ports that didn't leave, the loans that are out, the samples that are held.
+    /// The open ports, the loans that are out, and the samples that are held.
     pub made: Made,
-    /// How many numbers are pledged to ports.
+    /// How many numbers are reserved for ports.
     pub pledged: Pledged,
 }
 
-/// Said here once, so that no crate above proves it anew.
+/// The implementation is here once, so that no crate above proves it again.
 impl<T: Drop, U: Drop, B: Drop, D: Drop> Drop for NumberedHub<T, U, B, D> {
     fn drop(self) {
         let NumberedHub {

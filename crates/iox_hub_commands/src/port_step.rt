@@ -23,7 +23,7 @@ impl<
     B: PublisherHandlers,
     D: SubscriberHandler,
 > NumberedHub<T, U, B, D> {
-    /// Carries out one command of a port: the same as `step` for it among all commands, which are larger and cost more to hand on.
+    /// Carries out one command of a port: the same as `step` of all commands, which are larger values and cost more to pass on.
     /// Example: `let reply = hub.step_port(alloc, PortCommand::Receive { subscriber: 1 })?;`
     pub fn step_port(
         &mut self,
@@ -48,7 +48,7 @@ impl<
         self.carry_out_port(alloc, command)
     }
 
-    // A command of a port, without what it comes to in other words.
+    // Carries out a command of a port, with the step alone as contract, not its consequences.
     pub(crate) fn carry_out_port(
         &mut self,
         alloc: Global,

@@ -1,17 +1,17 @@
-//! Ports, loans and samples under numbers: what a run of commands made, and what later commands do with it.
+//! Numbered ports, loans and samples: those that a run of commands made, and what later commands do with them.
 //!
 //! | Module | What it has |
 //! |---|---|
-//! | `made` | the tables: which port, loan or sample goes by a number |
-//! | `making` | ports come, and get numbers |
-//! | `publishing` | publishers lend, put, wait, and leave |
-//! | `loans` | what is written into a loan; it is given up, or sent |
-//! | `subscribing` | subscribers follow, receive, and leave |
-//! | `samples` | a sample is read, and released |
-//! | `growing` | loans and samples that come where there may be no room for one more |
-//! | `laws` | what the calls come to, in other words |
+//! | `made` | the tables: which port, loan or sample has a number |
+//! | `making` | how ports are created, and get numbers |
+//! | `publishing` | how publishers loan, put, retry, and are closed |
+//! | `loans` | how loans are written, dropped and sent |
+//! | `subscribing` | how subscribers update, receive, and are closed |
+//! | `samples` | how samples are read and released |
+//! | `growing` | loans and receives that first make capacity for one more |
+//! | `laws` | theorems about the calls |
 //!
-//! First calls, where nothing was made. `arriving`, `lending`, `messages`, `receiving` and `following` make the others.
+//! First calls, with nothing made yet. `arriving`, `lending`, `messages`, `receiving` and `following` make the others.
 //!
 //! ```
 //! let made = Made::new(alloc);

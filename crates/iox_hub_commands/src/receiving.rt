@@ -1,4 +1,4 @@
-//! The command that receives, over the tables of what goes by numbers and any home.
+//! The command that receives, over the tables of numbers and any home.
 ghost use Rattle.iox_domain.specs.Homes as homes;
 ghost use Rattle.std.specs.Prelude.{◌≡◌, ◌+◌, ◌<◌, ◌^◌, IsSome, None, Ok, OnErr};
 ghost use Rattle.iox_command.specs.declared.reply.Reply.TheVariants as reply;
@@ -12,12 +12,12 @@ use iox_command::{Refusal, Reply};
 use iox_domain::Home;
 use std::alloc::{AllocError, Global};
 
-/// A subscriber receives, after an update; a sample that came gets the next number, and is replied with its values. Skipped as
-/// `Made::receive` answers None, and refused as that is.
+/// Receives by a subscriber, after an update; a received sample gets the next number, and the reply has its values. Skipped if
+/// `Made::receive` answers None, and refused as it refuses it.
 ///
-/// Fails where the table of samples is full and no memory is found for one more number, and then nothing has changed; and where no memory
-/// is found for the values of a sample that came, if it has any; it is held then under its number. It is skipped, whatever memory there is,
-/// where no subscriber goes by the number.
+/// Fails if the table of samples is full and memory runs out for one more number, and then nothing has changed; and if memory runs out for
+/// the values of a received sample that has some, which is then held under its number. Whatever memory there is, the command is skipped if
+/// the number has no subscriber.
 /// Example: `let reply = receive(alloc, &mut made, &mut home, subscriber)?;`
 pub fn receive<T: Copy, U: Copy, H: Home<T, U>>(
     alloc: Global,
@@ -42,7 +42,7 @@ pub fn receive<T: Copy, U: Copy, H: Home<T, U>>(
     }
 }
 
-// The reply of a sample that came, and is held: its number, and its values. Fails only where it has some and no memory is found for them.
+// The reply to a received sample that is held: its number, and its values. Fails only if it has values and memory runs out for them.
 fn arrival<T: Copy, U: Copy, H: Home<T, U>>(
     alloc: Global,
     made: &Made,

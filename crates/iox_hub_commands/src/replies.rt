@@ -1,4 +1,4 @@
-//! What the answers of calls are replied as: the one place where typed answers become replies.
+//! The replies to the answers of calls: the one place where typed answers become replies.
 ghost use Rattle.std.specs.Prelude.{◌≡◌};
 ghost use Rattle.iox_hub_commands.specs.Replies as replied;
 
@@ -9,7 +9,7 @@ use iox_domain_values::{
 };
 use iox_negotiate_base::errors::CloseError;
 
-/// The reply to a command that opens or creates a service: None is skipped.
+/// The reply to a command that opens or creates a service; None is skipped.
 /// Example: `factory_reply(Some(Ok(1)))`
 pub fn factory_reply<T>(answer: Option<Result<u64, Refusal>>) -> Reply<T>
     ensures { result ≡ replied.factory_reply answer }
@@ -21,7 +21,7 @@ pub fn factory_reply<T>(answer: Option<Result<u64, Refusal>>) -> Reply<T>
     }
 }
 
-/// The reply to steps of foreign nodes.
+/// The reply to actions of other nodes.
 /// Example: `foreign_reply(Ok(()))`
 pub fn foreign_reply<T>(answer: Result<(), HubError>) -> Reply<T>
     ensures { result ≡ replied.foreign_reply answer }
@@ -32,7 +32,7 @@ pub fn foreign_reply<T>(answer: Result<(), HubError>) -> Reply<T>
     }
 }
 
-/// The reply to a close: None is skipped.
+/// The reply to a close; None is skipped.
 /// Example: `closed_reply(Some(Ok(())))`
 pub fn closed_reply<T>(answer: Option<Result<(), CloseError>>) -> Reply<T>
     ensures { result ≡ replied.closed_reply answer }
@@ -44,7 +44,7 @@ pub fn closed_reply<T>(answer: Option<Result<(), CloseError>>) -> Reply<T>
     }
 }
 
-/// The reply to a publisher that comes: None is skipped.
+/// The reply to the creation of a publisher; None is skipped.
 /// Example: `publisher_reply(Some(Ok(1)))`
 pub fn publisher_reply<T>(answer: Option<Result<u64, PublisherCreateError>>) -> Reply<T>
     ensures { result ≡ replied.publisher_reply answer }
@@ -56,7 +56,7 @@ pub fn publisher_reply<T>(answer: Option<Result<u64, PublisherCreateError>>) -> 
     }
 }
 
-/// The reply to a subscriber that comes: None is skipped.
+/// The reply to the creation of a subscriber; None is skipped.
 /// Example: `subscriber_reply(Some(Ok(1)))`
 pub fn subscriber_reply<T>(answer: Option<Result<u64, SubscriberCreateError>>) -> Reply<T>
     ensures { result ≡ replied.subscriber_reply answer }
@@ -68,7 +68,7 @@ pub fn subscriber_reply<T>(answer: Option<Result<u64, SubscriberCreateError>>) -
     }
 }
 
-/// The reply to a loan: None is skipped.
+/// The reply to a loan; None is skipped.
 /// Example: `loan_reply(Some(Ok(1)))`
 pub fn loan_reply<T>(answer: Option<Result<u64, LoanError>>) -> Reply<T>
     ensures { result ≡ replied.loan_reply answer }
@@ -80,7 +80,7 @@ pub fn loan_reply<T>(answer: Option<Result<u64, LoanError>>) -> Reply<T>
     }
 }
 
-/// The reply to a send: None is skipped.
+/// The reply to a send; None is skipped.
 /// Example: `sent_reply(Some(Ok(Sent::Delivered(1))))`
 pub fn sent_reply<T>(answer: Option<Result<Sent, SendError>>) -> Reply<T>
     ensures { result ≡ replied.sent_reply answer }
@@ -93,7 +93,7 @@ pub fn sent_reply<T>(answer: Option<Result<Sent, SendError>>) -> Reply<T>
     }
 }
 
-/// The reply to a send that ends: None is skipped.
+/// The reply to a send that was given up; None is skipped.
 /// Example: `given_up_reply(Some(1))`
 pub fn given_up_reply<T>(answer: Option<usize>) -> Reply<T>
     ensures { result ≡ replied.given_up_reply answer }
@@ -104,7 +104,7 @@ pub fn given_up_reply<T>(answer: Option<usize>) -> Reply<T>
     }
 }
 
-/// The reply to an update: None is skipped.
+/// The reply to an update; None is skipped.
 /// Example: `updated_reply(Some(Ok(())))`
 pub fn updated_reply<T>(answer: Option<Result<(), ConnectionFailure>>) -> Reply<T>
     ensures { result ≡ replied.updated_reply answer }
@@ -116,7 +116,7 @@ pub fn updated_reply<T>(answer: Option<Result<(), ConnectionFailure>>) -> Reply<
     }
 }
 
-/// The reply to a look for what waits: None is skipped.
+/// The reply to a look for data; None is skipped.
 /// Example: `has_reply(Some(Ok(true)))`
 pub fn has_reply<T>(answer: Option<Result<bool, ConnectionFailure>>) -> Reply<T>
     ensures { result ≡ replied.has_reply answer }
@@ -128,7 +128,7 @@ pub fn has_reply<T>(answer: Option<Result<bool, ConnectionFailure>>) -> Reply<T>
     }
 }
 
-/// The reply to a question for the number of a sample's message: None is skipped.
+/// The reply to a question for the sequence number of a sample's message; None is skipped.
 /// Example: `sequence_reply(Some(Some(1)))`
 pub fn sequence_reply<T>(answer: Option<Option<u64>>) -> Reply<T>
     ensures { result ≡ replied.sequence_reply answer }

@@ -1,4 +1,4 @@
-//! Room for the numbers of loans and samples, which a port makes that comes.
+//! Capacity for the numbers of loans and samples, which is made when a port is created.
 ghost use Rattle.std.specs.Prelude.{◌≡◌, ◌+◌, ◌-◌, ◌^◌, ◌≤◌, ◌<◌, length, min, IfSome, IfOk, IsOk, OnOk, OnErr};
 ghost use Rattle.iox_hub_commands.specs.Tables.{SameNumbers};
 ghost use Rattle.iox_hub_base.specs.Room.{loans_left_in, samples_left_in, samples_at_most_in};
@@ -13,19 +13,19 @@ use iox_domain::{DomainId, calls};
 use iox_domain_values::{Decides, Degrades};
 use std::alloc::AllocError;
 
-/// How many numbers of loans and of samples are pledged: at least as many as are given, and as the ports that are there may still want.
-/// A port pledges what it may want when it comes; what one that left had pledged may be pledged still.
+/// How many numbers of loans and of samples are reserved: at least as many as are in use, and as the existing ports may still need. A port
+/// reserves what it may need when it is created; what a closed one had reserved may stay reserved.
 ///
-/// This port's own.
+/// Not in `iceoryx2`.
 #[derive(Clone, Copy)]
 pub struct Pledged {
-    /// Of loans.
+    /// The reserved numbers of loans.
     pub loans: u64,
-    /// Of samples.
+    /// The reserved numbers of samples.
     pub samples: u64,
 }
 
-// Makes room in a table for so many values more.
+// Makes capacity in a table for so many values more.
 fn room_for<V>(numbers: &mut Numbered<V>, more: usize) -> Result<(), AllocError>
     ensures same { SameNumbers numbers.old numbers.new }
     ensures room { OnOk result (FitsMore more numbers.new) }
@@ -39,8 +39,8 @@ fn room_for<V>(numbers: &mut Numbered<V>, more: usize) -> Result<(), AllocError>
     numbers.reserve(room)
 }
 
-// Makes room in a table for so many values more, and for one beside them: so it isn't full when they come, and none of them looks for room.
-// Fails only where there isn't as much already, and an allocation fails.
+// Makes capacity in a table for so many values more, and for one beside them: so the table isn't full when they are added, and none of them
+// needs an allocation. Fails only if there isn't as much already, and an allocation fails.
 fn room_beside<V>(numbers: &mut Numbered<V>, left: u64, more: u64) -> Result<(), AllocError>
     ensures same { SameNumbers numbers.old numbers.new }
     ensures room { OnOk result (FitsBeside (left + more) numbers.new) }
@@ -56,7 +56,7 @@ fn room_beside<V>(numbers: &mut Numbered<V>, left: u64, more: u64) -> Result<(),
     room_for(numbers, beside as usize)
 }
 
-// How many numbers of a table are pledged once so many more are; None where there is no room for these, and for one beside.
+// How many numbers of a table are reserved once so many more are; None if there is no capacity for these, and for one beside.
 fn pledged_more<V>(numbers: &Numbered<V>, pledged: u64, more: u64) -> Option<u64>
     ensures { IfSome result (λ all. (all ≡ pledged + more) × (all < numbers.now.room) × (all + 1 < 2 ^ 64)) }
 {
@@ -68,8 +68,8 @@ fn pledged_more<V>(numbers: &Numbered<V>, pledged: u64, more: u64) -> Option<u64
     }
 }
 
-// Pledges the numbers of a table anew: of what stands there, of so many values that may still come, and of so many more. Room is made
-// for these, and for one beside; where memory is found, for as many again, and for some more for each factory. So this is seldom needed.
+// Reserves the numbers of a table anew: those of its entries, of so many values that may still be added, and of so many more. Capacity is
+// made for these, and for one beside; if there is memory, for as many again, and for some more for each factory. So this is seldom needed.
 fn pledged_anew<V>(
     numbers: &mut Numbered<V>,
     left: u64,
@@ -92,10 +92,10 @@ fn pledged_anew<V>(
 }
 
 impl<T: Copy, U: Copy, B: Drop, D: Drop> NumberedHub<T, U, B, D> {
-    /// Pledges the numbers of so many loans more, beside those that are out, and all that the publishers may still make; and makes room for
-    /// them, and for one beside. Fails only where there isn't as much already, and an allocation fails.
+    /// Reserves the numbers of so many loans more, beside those that are out and all that the publishers may still make; and makes capacity
+    /// for them, and for one beside. Fails only if there isn't as much already, and an allocation fails.
     ///
-    /// It looks at all publishers only where there is no room for what is pledged so far, and for these.
+    /// It scans all publishers only if there is no capacity for what is reserved so far and for these.
     /// Example: `hub.pledge_loans(2)?;`
     pub fn pledge_loans(&mut self, more: u64) -> Result<(), AllocError>
         ensures same { OnlyRoomier self.old self.new }
@@ -115,10 +115,11 @@ impl<T: Copy, U: Copy, B: Drop, D: Drop> NumberedHub<T, U, B, D> {
         Ok(())
     }
 
-    /// Pledges the numbers of so many samples more, beside those that are held, and all that may still come; and makes room for them, and
-    /// for one beside. Fails only where there isn't room for as many as the subscribers may hold at once, and an allocation fails.
+    /// Reserves the numbers of so many samples more, beside those that are held and all that may still be received; and makes capacity for
+    /// them, and for one beside. Fails only if there isn't capacity for as many as the subscribers may hold at once, and an allocation
+    /// fails.
     ///
-    /// It looks at all subscribers only where there is no room for what is pledged so far, and for these.
+    /// It scans all subscribers only if there is no capacity for what is reserved so far and for these.
     /// Example: `hub.pledge_samples(2)?;`
     pub fn pledge_samples(&mut self, more: u64) -> Result<(), AllocError>
         ensures same { OnlyRoomier self.old self.new }
@@ -141,8 +142,8 @@ impl<T: Copy, U: Copy, B: Drop, D: Drop> NumberedHub<T, U, B, D> {
 }
 
 impl<T: Copy, U: Copy, B: Decides + Degrades, D: Degrades> NumberedHub<T, U, B, D> {
-    /// How many samples a subscriber that comes to a domain may hold at once, of the publishers that are there; none where it isn't
-    /// here. Past 2^64 - 1 it is that.
+    /// How many samples of the existing publishers a new subscriber of a domain may hold at once; 0 if the domain isn't in the hub. At most
+    /// 2^64 - 1.
     /// Example: `let most = hub.most_samples(domain);`
     pub fn most_samples(&self, domain: DomainId) -> u64
         ensures { result ≡ min (most_samples_at domain self.now) (2 ^ 64 - 1) }
@@ -153,8 +154,8 @@ impl<T: Copy, U: Copy, B: Decides + Degrades, D: Degrades> NumberedHub<T, U, B, 
         }
     }
 
-    /// How many samples of a publisher that comes to a domain may be held at once, by the subscribers that are there; none where it
-    /// isn't here. Past 2^64 - 1 it is that.
+    /// How many samples of a new publisher of a domain the existing subscribers may hold at once; 0 if the domain isn't in the hub. At most
+    /// 2^64 - 1.
     /// Example: `let most = hub.most_samples_of(domain);`
     pub fn most_samples_of(&self, domain: DomainId) -> u64
         ensures { result ≡ min (most_samples_from domain self.now) (2 ^ 64 - 1) }
@@ -165,8 +166,8 @@ impl<T: Copy, U: Copy, B: Decides + Degrades, D: Degrades> NumberedHub<T, U, B, 
         }
     }
 
-    /// Pledges the numbers of what a publisher that comes to a domain brings: so many loans, and the samples of it that may be held. Fails
-    /// as `pledge_loans` and `pledge_samples` do.
+    /// Reserves the numbers that a new publisher of a domain may need: those of so many loans, and of the samples of it that may be held.
+    /// Fails as `pledge_loans` and `pledge_samples` do.
     /// Example: `hub.pledge_for_publisher(domain, 2)?;`
     pub fn pledge_for_publisher(&mut self, domain: DomainId, loans: u64) -> Result<(), AllocError>
         ensures same { OnlyRoomier self.old self.new }

@@ -1,4 +1,4 @@
-//! Ports come, once there is room for the numbers of the loans and samples that they may have.
+//! How ports are created, once there is capacity for the numbers of the loans and samples that they may have.
 ghost use Rattle.std.specs.Prelude.{◌+◌, ◌<◌, ◌^◌};
 ghost use Rattle.iox_hub_commands.specs.PortRoom.{KeepsRoom};
 ghost use Rattle.iox_hub_commands.specs.Services.{PublisherArrives, SubscriberArrives};
@@ -11,9 +11,9 @@ use iox_domain_values::{Decides, Degrades, PortOwner};
 use std::alloc::Global;
 
 impl<T: Copy, U: Copy + Default, B: Decides + Degrades, D: Degrades> NumberedHub<T, U, B, D> {
-    /// A publisher of slices comes to a domain, with what is named, and gets the next number; `handlers` decide for it. Skipped
-    /// where the domain isn't here; else refused as `Made::make_publisher` refuses it, also where an allocation fails for the
-    /// room for its loans, or for the samples of it that may be held.
+    /// Creates a publisher of slices in a domain, with what the options name, and gives it the next number; `handlers` are its handlers.
+    /// Skipped if the domain isn't in the hub; otherwise refused as `Made::make_publisher` refuses it, also if an allocation fails for the
+    /// numbers of its loans, or of the samples of it that may be held.
     /// Example: `let reply = hub.publisher_with(alloc, domain, owner, &options, handlers);`
     pub fn publisher_with(
         &mut self,
@@ -47,8 +47,8 @@ impl<T: Copy, U: Copy + Default, B: Decides + Degrades, D: Degrades> NumberedHub
 }
 
 impl<T: Copy, U: Copy, B: Decides + Degrades, D: Degrades> NumberedHub<T, U, B, D> {
-    /// A subscriber comes to a domain, with what is named, and gets the next number; `handler` decides for it. Skipped where the
-    /// domain isn't here; else refused as `Made::make_subscriber` refuses it, also where an allocation fails for the room for its
+    /// Creates a subscriber in a domain, with what the options name, and gives it the next number; `handler` is its handler. Skipped if the
+    /// domain isn't in the hub; otherwise refused as `Made::make_subscriber` refuses it, also if an allocation fails for the numbers of its
     /// samples.
     /// Example: `let reply = hub.subscriber_with(alloc, domain, owner, &options, handler);`
     pub fn subscriber_with(

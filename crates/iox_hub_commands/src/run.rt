@@ -19,12 +19,12 @@ use std::alloc::Global;
 
 /// The replies to a list of commands.
 ///
-/// This port's own.
+/// Not in `iceoryx2`.
 #[derive(Drop)]
 pub struct RunReport<T> {
-    /// One for each command, in order, unless the run stopped.
+    /// One reply for each command, in order, unless the run stopped.
     pub replies: Vec<Reply<T>>,
-    /// Whether the run stopped before the last reply: no memory was found for the list of replies, or for the values of a reply.
+    /// Whether the run stopped before the last reply: memory ran out for the list of replies, or for the values of a reply.
     pub stopped: bool,
 }
 
@@ -34,11 +34,11 @@ impl<
     B: PublisherHandlers,
     D: SubscriberHandler,
 > NumberedHub<T, U, B, D> {
-    /// Carries out commands, one after another, once there is room for all replies.
+    /// Carries out commands, one after the other, once there is capacity for all replies.
     ///
-    /// It stops before the first command, where an allocation fails for that room, and then nothing has changed; or at a command
-    /// that receives or reads, where an allocation fails for the values of its reply, and those before it are replied to. It
-    /// makes no room for numbers: each port made that when it came.
+    /// It stops before the first command if an allocation fails for that capacity, and then nothing has changed; or at a command that
+    /// receives or reads, if an allocation fails for the values of its reply, and then those before it have their replies. It makes no
+    /// capacity for numbers: each port made that when it was created.
     /// Example: `let report = hub.run(alloc, commands);`
     pub fn run(&mut self, alloc: Global, commands: Vec<Command<T>>) -> RunReport<T>
         requires { numbers_used self.old + length commands.items < 2 ^ 64 }
@@ -58,7 +58,7 @@ impl<
         self.carry_out_all(alloc, commands)
     }
 
-    // The same, without what that comes to in other words.
+    // Carries out the commands, with the run alone as contract, not its consequences.
     fn carry_out_all(&mut self, alloc: Global, commands: Vec<Command<T>>) -> RunReport<T>
         requires { numbers_used self.old + length commands.items < 2 ^ 64 }
         ensures ran { IsRun (Step (terms_of T.name T.size T.alignment T.is_default U.name U.size U.alignment U.is_default B.fixed

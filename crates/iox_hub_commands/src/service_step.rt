@@ -27,8 +27,8 @@ use iox_domain_values::{Decides, Degrades, PortOwner};
 use iox_queues_base::Words;
 use std::alloc::Global;
 
-// What holds names, settings or descriptions by value stands in a frame of its own, so that each other command needs little stack. What a
-// command names is dropped there, too.
+// A function that holds names, settings or descriptions by value has a stack frame of its own, so that every other command needs little
+// stack. What a command names is dropped there, too.
 impl<T: Words + ZeroCopySend, U: Copy + ZeroCopySend, B: Drop, D: Drop> NumberedHub<T, U, B, D> {
     pub(crate) fn node(&mut self) -> Reply<T>
         ensures pledged { self.new.pledged ≡ self.old.pledged }
@@ -125,7 +125,7 @@ impl<T: Words + ZeroCopySend, U: Copy + ZeroCopySend, B: Drop, D: Drop> Numbered
 }
 
 impl<T, U, B, D> NumberedHub<T, U, B, D> {
-    /// The domain of the factory that goes by a number, and whose its ports are; None where none of publish-subscribe does.
+    /// The domain of the factory with this number, and the owner of its ports. None if the number has no publish-subscribe factory.
     /// Example: `let (domain, owner) = hub.place(factory)?;`
     pub fn place(&self, factory: u64) -> Option<(DomainId, PortOwner)>
         ensures { result ≡ option_map (λ opened. (domain_of_factory opened, owner_of_factory opened))

@@ -1,22 +1,22 @@
-//! Factories under numbers: the services that a run of commands opened, and what later commands do with them.
+//! Numbered factories: the services that a run of commands opened, and what later commands do with them.
 //!
 //! | Module | What it has |
 //! |---|---|
 //! | `requests` | what a command asks of negotiation |
 //! | `made` | a service that is open, whatever its pattern |
-//! | `kinds` | what options of each pattern ask, and how its errors are told |
-//! | `factories` | the table: which factory goes by a number |
+//! | `kinds` | what options of each pattern ask, and how its errors are reported |
+//! | `factories` | the table: which factory has a number |
 //! | `asked` | which service is asked for |
-//! | `refusing` | which services aren't created, whatever stands already |
-//! | `creating` | services are created |
-//! | `opening` | services are opened |
-//! | `either` | services are opened, or created |
+//! | `refusing` | which settings no service can be created with, and what the first look decides |
+//! | `creating` | how services are created |
+//! | `opening` | how services are opened |
+//! | `either` | how services are opened or created |
 //! | `opening_call` | what these three have in common |
-//! | `closing` | factories are closed |
-//! | `acting` | nodes of others act |
-//! | `laws` | what these calls come to for the factories, in other words than theirs |
+//! | `closing` | how factories are closed |
+//! | `acting` | actions of other nodes |
+//! | `laws` | a theorem about the numbers of factories |
 //!
-//! First calls, where nothing was opened. `NumberedHub` of `iox_hub_commands` makes the others.
+//! First calls, with nothing opened yet. `NumberedHub` of `iox_hub_commands` makes the others.
 //!
 //! ```
 //! let mut factories = Factories::new(alloc);

@@ -23,18 +23,18 @@ impl<
     B: PublisherHandlers,
     D: SubscriberHandler,
 > NumberedHub<T, U, B, D> {
-    /// Carries out one command, and answers the reply to it.
+    /// Carries out one command, and returns the reply to it.
     ///
-    /// A command is skipped, and nothing happens, where a number stands for nothing, where a port command names a factory of another
-    /// pattern than publish-subscribe, where a publisher waits with a send (or none waits, for `Retry` and `GiveUp`), where a loan isn't
-    /// written, or has other values or places than are named. A call that is refused is replied to with its error.
+    /// A command is skipped, and nothing happens, if a number names nothing, if a port command names a factory of another pattern than
+    /// publish-subscribe, if a send of the publisher is blocked (or none is, for `Retry` and `GiveUp`), or if a loan isn't written, or has
+    /// other values or places than are named. If a call is refused, the reply is its error.
     ///
-    /// A publisher comes once there is room for the numbers of all loans that it may make, and of the samples of it that may be held.
-    /// A subscriber comes once there is room for those of all samples that it may hold. So no loan and no sample lacks memory
-    /// for its number. Where an allocation fails for that room the port is refused.
+    /// A publisher is created once there is capacity for the numbers of all loans that it may make, and of the samples of it that may be
+    /// held. A subscriber is created once there is capacity for those of all samples that it may hold. So memory never runs out for the
+    /// number of a loan or a sample. If an allocation fails for that capacity, the port is refused.
     ///
-    /// Fails only where an allocation fails for the values of the reply. Then nothing has changed but that a sample that came is
-    /// held. A command that is skipped looks for no memory.
+    /// Fails only if an allocation fails for the values of the reply. Then nothing has changed, except that a received sample is held. A
+    /// command that is skipped allocates nothing.
     /// Example: `let reply = hub.step(alloc, Command::Node)?;`
     pub fn step(&mut self, alloc: Global, command: Command<T>) -> Result<Reply<T>, AllocError>
         requires { numbers_used self.old + 1 < 2 ^ 64 }
@@ -55,7 +55,7 @@ impl<
         self.carry_out(alloc, command)
     }
 
-    // The same, without what that comes to in other words.
+    // Carries out one command, with the step alone as contract, not its consequences.
     fn carry_out(&mut self, alloc: Global, command: Command<T>) -> Result<Reply<T>, AllocError>
         requires { numbers_used self.old + 1 < 2 ^ 64 }
         ensures comes { OfPorts (KeepsRoom self.old self.new) command.entry }
@@ -71,7 +71,8 @@ impl<
         }
     }
 
-    // A command of nodes and services, or one by which a port comes. One of a port that there is is handed back, and nothing happens.
+    // Carries out a command on nodes and services, or one that creates a port. A command on an existing port is handed back, and nothing
+    // happens.
     fn carry_out_service<'a>(
         &mut self,
         alloc: Global,

@@ -1,4 +1,4 @@
--- What a hub does at a command by which a port comes is what the machine does.
+-- Theorems: at a command that creates a port, a hub does what the machine does.
 use Rattle.std.specs.Prelude.{ℕ, ◌+◌, ◌-◌, ◌^◌, ◌<◌, ◌≤◌, ◌≡◌, true, min, List, Option, Some}
 use Rattle.std.specs.Option.{unwrap_or}
 use Rattle.iox_command.specs.DomainValues.Actions.{decision_of}
@@ -28,14 +28,14 @@ use Rattle.iox_hub_commands.specs.Terms.{Terms}
 use Rattle.iox_hub_machine.specs.ServiceLaws.{FollowsIf}
 use Rattle.iox_machine.specs.Choices.{Choices}
 
--- Whoever is made of an action answers this where a connection failed.
+-- Handlers that are made of an action answer this action at a failed connection.
 abbrev pub AnswersAsFixed : {D : Type 0} → (DegradationAction → D)
     → (D → DegradationCause → DegradationInfo → DegradationAction → Type 0) → Type 0
 AnswersAsFixed fixed degrades = (named answered : DegradationAction) (info : DegradationInfo)
     → degrades (fixed named) FailedToEstablishConnection info answered → answered ≡ named
 
--- Whoever is made of a strategy and of actions decides by these at a full mailbox, and answers the one that is for that where a connection
--- failed.
+-- Handlers that are made of a strategy and of actions decide by these at a full mailbox, and answer the action for it at a failed
+-- connection.
 pub record DecidesAsFixed {B : Type 0} (fixed : BackpressureStrategy → Option BackpressureAction → DegradationAction → B)
     (degrades : B → DegradationCause → DegradationInfo → DegradationAction → Type 0)
     (decides : B → BackpressureInfo → BackpressureDecision → Type 0) : Type 0 where
@@ -46,15 +46,16 @@ pub record DecidesAsFixed {B : Type 0} (fixed : BackpressureStrategy → Option 
       (decision : BackpressureDecision)
       → decides (fixed strategy handler named) info decision → decision ≡ decision_of strategy handler
 
--- Whatever somebody may answer where a connection failed may be chosen for the subscriber of this number, that comes by these options.
+-- Whatever the handler `who` may answer at a failed connection may be chosen for the subscriber with this number, created with these
+-- options.
 abbrev pub AnswersAsChosen : {T D : Type 0} → Choices T → (D → DegradationCause → DegradationInfo → DegradationAction → Type 0) → D
     → (subscriber : ℕ) → SubscriberOptions → Type 0
 AnswersAsChosen choices degrades who subscriber options = (info : DegradationInfo) (action : DegradationAction)
     → degrades who FailedToEstablishConnection info action
     → choices.subscriber_acts subscriber (unwrap_or options.degradation_handler Warn) action
 
--- Whatever somebody may answer where a connection failed, and decide at a full mailbox, may be chosen for the publisher of this number,
--- that comes by these options: who decides is told as many retries, but 2^64 - 1 at most.
+-- Whatever the handlers `who` may answer at a failed connection, and decide at a full mailbox, may be chosen for the publisher with this
+-- number, created with these options. They are told as many retries, but at most 2^64 - 1.
 pub record DecidesAsChosen {T B : Type 0} (choices : Choices T)
     (degrades : B → DegradationCause → DegradationInfo → DegradationAction → Type 0)
     (decides : B → BackpressureInfo → BackpressureDecision → Type 0) (who : B) (publisher : ℕ) (options : PublisherOptions) : Type 0 where
@@ -65,7 +66,7 @@ pub record DecidesAsChosen {T B : Type 0} (choices : Choices T)
       → choices.publisher_decides publisher retries info.elapsed_time
       (decision_of (unwrap_or options.backpressure_strategy RetryUntilDelivered) options.backpressure_handler) decision
 
--- For each port that comes later what was named may be chosen.
+-- For each port that is created later, what was named may be chosen.
 abbrev pub MayBeNamedLater : {T U B D : Type 0} → Choices T → NumberedHub T U B D → Type 0
 MayBeNamedLater choices hub =
     ((publisher retries elapsed : ℕ) (named : BackpressureDecision) → hub.made.publishers.next ≤ publisher
@@ -74,28 +75,28 @@ MayBeNamedLater choices hub =
     × ((subscriber : ℕ) (named : DegradationAction) → hub.made.subscribers.next ≤ subscriber
     → choices.subscriber_acts subscriber named named)
 
--- One port more of a service can be counted, and one change more of each list of its ports.
+-- One port more of a service can be counted, and one change more of each of its port lists.
 abbrev pub CanBeCounted : {T U : Type 0} → ServicePorts T U → Type 0
 CanBeCounted ports = (ports.next_port + 1 < 2 ^ 64) × (may_change ports.publisher_list ≡ true) × (may_change ports.subscriber_list ≡ true)
 
--- A port may come in a hub: its domains came by calls of ports, each service has one agreement, and what comes can be counted.
+-- A port can be created in the hub: its domains have grown by calls of ports, each service has one agreement, and the port can be counted.
 pub record MayCome {T U B D : Type 0} (hub : NumberedHub T U B D) : Type 0 where
   pub grown : HaveGrown hub.hub.services.domains
   pub agreed : AreOfOneAgreement hub.factories.made hub.hub
   pub counted : (id : DomainId) (ports : ServicePorts T U) → hub_ports id hub.hub ≡ Some ports → CanBeCounted ports
 
--- The terms of the hub are given, and what may be chosen: the default values are those of the latter.
+-- The parameters: the terms of the hub, and the choices; the default values are those of the choices.
 module _ {T U B D : Type 0} (terms : Terms T U B D) (choices : Choices T) where
-  -- A subscriber of a factory's service comes, or is refused, or the command is skipped. Whatever may be answered by who decides for it may
-  -- be chosen for the subscriber of the number that it gets.
+  -- A subscriber of a factory's service is created, or refused, or the command is skipped. Whatever its handler may answer may be chosen
+  -- for the subscriber with the number that it gets.
   abbrev pub SubscriberComingIsFollowed : Type 0
   SubscriberComingIsFollowed = (names : List (List ℕ)) (factory : ℕ) (options : SubscriberOptions)
       → FollowsIf terms choices names (command.Subscriber factory options)
       (λ old answer. MayCome old × (answer ≡ reply.SubscriberMade old.made.subscribers.next
       → AnswersAsChosen choices terms.reader_degrades (subscriber_handler terms.fixed_reader options) old.made.subscribers.next options))
 
-  -- A publisher of a factory's service comes, or is refused, or the command is skipped. Whatever may be answered and decided by who decides
-  -- for it may be chosen for the publisher of the number that it gets.
+  -- A publisher of a factory's service is created, or refused, or the command is skipped. Whatever its handlers may answer and decide may
+  -- be chosen for the publisher with the number that it gets.
   abbrev pub PublisherComingIsFollowed : Type 0
   PublisherComingIsFollowed = (names : List (List ℕ)) (factory : ℕ) (options : PublisherOptions)
       → FollowsIf terms choices names (command.Publisher factory options)

@@ -1,4 +1,4 @@
--- What a hub does where a factory is closed is what the machine does.
+-- A theorem: when a factory is closed, a hub does what the machine does.
 use Rattle.std.specs.Prelude.{ℕ, List, Ok}
 use Rattle.iox_command.specs.NegotiateBase.DescribeBase.declared.message_type.MessageTypeDetails.{MessageTypeDetails}
 use Rattle.iox_command.specs.NegotiateBase.DescribeBase.declared.pattern.MessagingPattern.{MessagingPattern}
@@ -20,19 +20,19 @@ use Rattle.iox_machine.specs.Run.{Runs}
 use Rattle.iox_machine.specs.State.{State, new_state}
 use Rattle.iox_negotiate_machine.specs.Laws.{HaveOwnHashes}
 
--- A run of a new machine leads to a state.
+-- A run of a new machine reaches this state.
 abbrev pub IsCome : {T : Type 0} → MessageTypeDetails → Choices T → ℕ → State T → Type 0
 IsCome {T} types choices buffer state =
     (asked : List (Command T)) × (answers : List (Reply T)) × Runs types choices buffer asked new_state answers state
 
--- No number is that of two services of a hub, nor are the factories of a service counted twice.
+-- No two services of the hub have the same number, and the factories of a service are counted once.
 abbrev pub HasEachOnce : {T U B D : Type 0} → Hub T U B D → Type 0
 HasEachOnce hub = ComesOnce hub.services.domains × ComesOnce hub.factory_counts
 
--- The terms of the hub are given, and what may be chosen: the default values are those of the latter.
+-- The parameters: the terms of the hub, and the choices; the default values are those of the choices.
 module _ {T U B D : Type 0} (terms : Terms T U B D) (choices : Choices T) where
-  -- A factory is closed, or stays as it is in use. Each service of the hub has one agreement, no number stands twice, and a run of a new
-  -- machine led to what the hub stands for.
+  -- A factory is closed, or stays because it is in use. Each service of the hub has one agreement, no number occurs twice, and a run of a
+  -- new machine reached the state that the hub represents.
   abbrev pub ClosingMatches : Type 0
   ClosingMatches = (names : List (List ℕ)) (factory : ℕ) (taken : MessagingPattern → List ℕ → List ℕ) (naming : ℕ → Naming)
       (order : List (ℕ × ServicePorts T U)) (old new : NumberedHub T U B D) (state : State T) (answer : Reply T)

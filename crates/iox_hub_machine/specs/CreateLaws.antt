@@ -1,4 +1,4 @@
--- What a hub does that creates a service is what the machine does.
+-- A theorem: when a service is created, a hub does what the machine does.
 use Rattle.std.specs.Prelude.{ℕ, ◌+◌, List, length}
 use Rattle.std.specs.List.{IsAmong}
 use Rattle.iox_command.specs.NegotiateBase.DescribeBase.declared.attribute.Attribute.{Attribute}
@@ -11,11 +11,11 @@ use Rattle.iox_negotiate_machine.specs.Laws.{HaveOwnHashes}
 use Rattle.iox_machine.specs.Choices.{Choices}
 use Rattle.iox_hub_commands.specs.Terms.{Terms}
 
--- The terms of the hub are given, and what may be chosen: the default values are those of the latter.
+-- The parameters: the terms of the hub, and the choices; the default values are those of the choices.
 module _ {T U B D : Type 0} (terms : Terms T U B D) (choices : Choices T) where
-  -- A node creates a service under a name that is asked for, as options ask and with these attributes, while nodes outside the hub do
-  -- steps. No two services of the names that are asked for share a hash, and there are numbers left: for the factory, for as many locks as
-  -- these nodes may take, and for its own.
+  -- A node creates a service under a name that is asked for, as options ask and with these attributes, while other nodes act. No two
+  -- services of the names that are asked for share a hash, and there are numbers left: for the factory, for as many locks as these nodes
+  -- may take, and for its own lock.
   abbrev pub CreateMatches : Type 0
   CreateMatches = (names : List (List ℕ)) (node : ℕ) (name : List ℕ) (options : ServiceOptions) (attributes : List Attribute)
       (steps : List StepBefore) → IsAmong names name → HaveOwnHashes names

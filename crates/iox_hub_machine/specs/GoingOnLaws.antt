@@ -1,4 +1,4 @@
--- What a hub stands for after a run, whatever it stood for before.
+-- Theorems about the state that a hub represents after a run, from whichever state it represented before.
 use Rattle.std.specs.Prelude.{ℕ, ◌+◌, ◌-◌, ◌^◌, ◌<◌, ◌≡◌, ◌⊎◌, Bool, true, false, List, ◌∷◌, ◌++◌, length, map, Option, Some, Result, Ok}
 use Rattle.std.specs.List.{AllByRecursion}
 use Rattle.std.specs.declared.alloc.AllocError.{AllocError}
@@ -33,12 +33,12 @@ use Rattle.iox_machine.specs.Run as machine
 use Rattle.iox_machine.specs.State.{State, new_state}
 use Rattle.iox_negotiate_machine.specs.Laws.{HaveOwnHashes}
 
--- The values of the sample that came last fit in a vector, if it is held: they can be told.
+-- The values of the newest sample fit in a vector, if the sample is held, so they can be returned.
 abbrev pub NewestFits : {T U B D : Type 0} → NumberedHub T U B D → Type 0
 NewestFits {T} hub = (values : List T)
     → values_under hub_ports (value_at hub.made.samples (hub.made.samples.next - 1)) hub.hub ≡ Some values → length values < 2 ^ 63
 
--- A new hub stands for a new machine, after no command, whatever names are asked for.
+-- A new hub represents a new machine, after no command, whatever names are asked for.
 abbrev pub NewHubBegins : (U : Type 0) → {T B D : Type 0} → MessageTypeDetails → Choices T
     → (B → DegradationCause → DegradationInfo → DegradationAction → Type 0)
     → (B → BackpressureInfo → BackpressureDecision → Type 0) → (D → DegradationCause → DegradationInfo → DegradationAction → Type 0)
@@ -47,38 +47,38 @@ NewHubBegins U {T} {B} {D} types choices degrades decides reader_degrades = (nam
     (hub : NumberedHub T U B D) → IsNew config hub
     → StandsAfter types choices degrades decides reader_degrades names 0 hub new_state
 
--- A command, and who decides for a port that comes by it, made of the strategy and the actions that it names: or somebody who is handed in.
+-- A command, and the handlers of a port that it creates: made of the strategy and the actions that the command names, or handed in.
 pub record Decided (T B D : Type 0) : Type 0 where
   pub asked : Command T
   pub fixed : BackpressureStrategy → Option BackpressureAction → DegradationAction → B
   pub fixed_reader : DegradationAction → D
 
--- the commands alone
+-- The commands without handlers.
 abbrev pub asked_of : {T B D : Type 0} → List (Decided T B D) → List (Command T)
 asked_of commands = map (λ command. command.asked) commands
 
--- The types are those of the messages; then what may be chosen, and what anybody who decides may answer.
+-- The parameters: the types of the messages, the choices, and what handlers may answer.
 module _ {T U B D : Type 0} (types : MessageTypeDetails) (choices : Choices T)
     (degrades : B → DegradationCause → DegradationInfo → DegradationAction → Type 0)
     (decides : B → BackpressureInfo → BackpressureDecision → Type 0)
     (reader_degrades : D → DegradationCause → DegradationInfo → DegradationAction → Type 0) where
-  -- The machine may answer so to this command, and the hub stands for what it is then.
+  -- The machine may give this reply to this command, and the hub represents the machine's state afterwards.
   pub record IsOneOn (names : List (List ℕ)) (most buffer : ℕ) (asked : Command T) (state : State T) (answer : Reply T)
       (hub : NumberedHub T U B D) : Type 0 where
     pub after : State T
     pub step : machine.Step types choices buffer asked state answer after
     pub stands : StandsAfter types choices degrades decides reader_degrades names (most + (1 + steps_named asked)) hub after
 
-  -- The machine may answer so to all these commands, and the hub stands for what it is then.
+  -- The machine may give these replies to all these commands, and the hub represents the machine's state afterwards.
   pub record AreAllOn (names : List (List ℕ)) (most buffer : ℕ) (commands : List (Command T)) (state : State T)
       (replies : List (Reply T)) (hub : NumberedHub T U B D) : Type 0 where
     pub after : State T
     pub runs : machine.Runs types choices buffer commands state replies after
     pub stands : StandsAfter types choices degrades decides reader_degrades names (most + all_asked commands) hub after
 
-  -- Some command is the first that isn't replied to. The machine may answer so to those before it, and the hub stands for what it is then;
-  -- or that command receives, and the hub stands for what the machine is after it, to which it may answer something: so it is where the
-  -- values of the sample that came last fit in a vector.
+  -- Some command is the first without a reply. The machine may give these replies to those before it, and the hub represents the machine's
+  -- state before that command. Or that command receives, the machine may give some reply to it, and the hub represents the machine's state
+  -- after it; this holds if the values of the newest sample fit in a vector.
   pub record IsOnUntil (names : List (List ℕ)) (most buffer : ℕ) (commands : List (Command T)) (state : State T)
       (replies : List (Reply T)) (hub : NumberedHub T U B D) : Type 0 where
     pub first : List (Command T)
@@ -91,13 +91,13 @@ module _ {T U B D : Type 0} (types : MessageTypeDetails) (choices : Choices T)
         ⊎ ((subscriber : ℕ) × (asked ≡ command.Receive subscriber)
         × (NewestFits hub → (answer : Reply T) × IsOneOn names (most + all_asked first) buffer asked after answer hub))
 
-  -- What a run comes to, as it stopped or didn't.
+  -- The state of the hub after a run, which stopped or didn't.
   abbrev pub RunGoesOn : List (List ℕ) → ℕ → ℕ → List (Command T) → State T → List (Reply T) → Bool → NumberedHub T U B D → Type 0
   RunGoesOn names most buffer commands state replies false hub = AreAllOn names most buffer commands state replies hub
   RunGoesOn names most buffer commands state replies true hub = IsOnUntil names most buffer commands state replies hub
 
-  -- Where a port comes by a command, and gets the next number, whatever may be decided and answered by who decides for it may be chosen for
-  -- the port of this number.
+  -- If the command creates a port, which gets the next number, whatever its handlers may decide and answer may be chosen for the port with
+  -- this number.
   abbrev pub ComesAsChosen : Command T → (BackpressureStrategy → Option BackpressureAction → DegradationAction → B)
       → (DegradationAction → D) → NumberedHub T U B D → Reply T → Type 0
   ComesAsChosen (command.Publisher factory options) fixed fixed_reader old answer = answer ≡ reply.PublisherMade old.made.publishers.next
@@ -106,7 +106,7 @@ module _ {T U B D : Type 0} (types : MessageTypeDetails) (choices : Choices T)
       → AnswersAsChosen choices reader_degrades (subscriber_handler fixed_reader options) old.made.subscribers.next options
   ComesAsChosen other fixed fixed_reader old answer = Unit {0}
 
-  -- the terms on which a command is carried out, where these decide for a port that comes by it
+  -- The terms on which a command is carried out, if a port that it creates gets these handlers.
   abbrev pub decided_terms : Detail → Detail → (U → Type 0) → (BackpressureStrategy → Option BackpressureAction → DegradationAction → B)
       → (DegradationAction → D) → Terms T U B D
   decided_terms payload user_header is_default_header fixed fixed_reader = record {
@@ -122,18 +122,18 @@ module _ {T U B D : Type 0} (types : MessageTypeDetails) (choices : Choices T)
     reader_degrades = reader_degrades;
   }
 
-  -- What each command does, with who decides for a port that comes by it, and what it is replied. Whatever may be decided and answered by
-  -- that one may be chosen.
+  -- What a command does, with the handlers of a port that it creates, and what its reply is. Whatever these handlers may decide and answer
+  -- may be chosen.
   abbrev pub DecidedStep : Detail → Detail → (U → Type 0) → Decided T B D → NumberedHub T U B D → Result (Reply T) AllocError
       → NumberedHub T U B D → Type 0
   DecidedStep payload user_header is_default_header command old answer new =
       hub.Step (decided_terms payload user_header is_default_header command.fixed command.fixed_reader) command.asked old answer new
       × ((told : Reply T) → answer ≡ Ok told → ComesAsChosen command.asked command.fixed command.fixed_reader old told)
 
-  -- A hub that stands for a state goes on as the machine does from there, whoever decides for the ports that come, where whatever that one
-  -- may decide and answer may be chosen: what it replies to commands, from the first one on or until it stops, the machine may answer, and
-  -- the hub stands for what the machine is then, or for what it is after one command more. So it is where no two services of the names that
-  -- are asked for share a hash, and all commands and steps, with those before the run, are fewer than 2 ^ 56.
+  -- A hub that represents a state goes on as the machine does from there, whichever handlers new ports get, if whatever they may decide and
+  -- answer may be chosen. The machine may give the hub's replies to commands, from the first one on or until the run stops, and the hub
+  -- represents the machine's state then, or its state after one command more. This holds if no two services of the names that are asked for
+  -- share a hash, and all commands and actions of other nodes, with those before the run, are fewer than 2 ^ 56.
   abbrev pub DecidedRunsGoOn : Detail → Detail → (U → Type 0) → Type 0
   DecidedRunsGoOn payload user_header is_default_header = (names : List (List ℕ)) (most : ℕ) (commands : List (Decided T B D))
       (old new : NumberedHub T U B D) (state : State T) (replies : List (Reply T)) (stopped : Bool)
@@ -143,12 +143,13 @@ module _ {T U B D : Type 0} (types : MessageTypeDetails) (choices : Choices T)
       → IsRun (DecidedStep payload user_header is_default_header) commands old replies stopped new
       → RunGoesOn names most old.hub.expired_connection_buffer (asked_of commands) state replies stopped new
 
--- The terms of the hub are given, and what may be chosen: the default values are those of the latter.
+-- The parameters: the terms of the hub, and the choices; the default values are those of the choices.
 module _ {T U B D : Type 0} (terms : Terms T U B D) (choices : Choices T) where
-  -- A hub that stands for a state goes on as the machine does from there: what it replies to commands, from the first one on or until it
-  -- stops, the machine may answer, and the hub stands for what the machine is then, or for what it is after one command more. So it is
-  -- where no two services of the names that are asked for share a hash, all commands and steps, with those before the run, are fewer than
-  -- 2 ^ 56, whoever is made of fixed actions for a port decides by these, and for each port that comes later what was named may be chosen.
+  -- A hub that represents a state goes on as the machine does from there. The machine may give the hub's replies to commands, from the
+  -- first one on or until the run stops, and the hub represents the machine's state then, or its state after one command more. This holds
+  -- if no two services of the names that are asked for share a hash, all commands and actions of other nodes, with those before the run,
+  -- are fewer than 2 ^ 56, handlers that are made of fixed actions decide by these, and for each port that is created later what was named
+  -- may be chosen.
   abbrev pub RunsGoOn : Type 0
   RunsGoOn = (names : List (List ℕ)) (most : ℕ) (commands : List (Command T)) (old new : NumberedHub T U B D) (state : State T)
       (replies : List (Reply T)) (stopped : Bool)

@@ -1,4 +1,4 @@
--- What a hub does at a command on its ports is what the machine does.
+-- Theorems: at a command on its ports, a hub does what the machine does.
 use Rattle.std.specs.Prelude.{ℕ, ◌≡◌, List, Option, Ok}
 use Rattle.std.specs.Map.{keys_of}
 use Rattle.iox_command.specs.DomainValues.declared.backpressure.BackpressureAction.{BackpressureAction}
@@ -24,19 +24,20 @@ use Rattle.iox_machine.specs.Run as machine
 use Rattle.iox_machine.specs.Service.{Service}
 use Rattle.iox_machine.specs.State.{State, counted}
 
--- a machine that has these services after a command that was answered so; all else is as it was, but for what was made
+-- The machine's state after a command with this reply that left these services; all else is as it was, except the counts.
 abbrev pub answered_with : {T : Type 0} → Reply T → List (Service T) → State T → State T
 answered_with answer services state = record state { made = counted answer state.made; services = services }
 
--- What is a default value is given, and a default user header; and what anybody may answer who decides for a publisher, or for a
--- subscriber.
+-- The parameters: the choices, with the default values; which user headers are default ones; and what handlers of a publisher, and of a
+-- subscriber, may answer.
 module _ {T U B D : Type 0} (choices : Choices T) (is_default_header : U → Type 0)
     (degrades : B → DegradationCause → DegradationInfo → DegradationAction → Type 0)
     (decides : B → BackpressureInfo → BackpressureDecision → Type 0)
     (reader_degrades : D → DegradationCause → DegradationInfo → DegradationAction → Type 0) where
-  -- Where the ports of a hub stand for those of a machine, and it replies to this command, the machine may reply so, too, and the ports
-  -- stand for those that it has then. All else of the machine is as it was, and so is the order of its services. So it is whatever the
-  -- types of messages and user headers are, and whoever decides by fixed actions: that is looked at where services and ports come.
+  -- If the ports of a hub represent those of a machine, and the hub gives this reply to this command, the machine may give the reply, too,
+  -- and the ports represent those that the machine has then. All else of the machine is as it was, and so is the order of its services.
+  -- This holds for any types of messages and user headers, and for any handlers of fixed actions: these only matter where services and
+  -- ports are created.
   abbrev pub IsSimulatedFrom : NumberedHub T U B D → Command T → Type 0
   IsSimulatedFrom old asked = (payload user_header : Detail) (types : MessageTypeDetails)
       (fixed : BackpressureStrategy → Option BackpressureAction → DegradationAction → B) (fixed_reader : DegradationAction → D)
@@ -59,15 +60,15 @@ module _ {T U B D : Type 0} (choices : Choices T) (is_default_header : U → Typ
       × machine.Step types choices old.hub.expired_connection_buffer asked state answer (answered_with answer services state)
       × PortsStandFor choices degrades decides reader_degrades naming_then order_then new (answered_with answer services state)
 
-  -- So it is from any hub.
+  -- The command is simulated from any hub.
   abbrev pub IsSimulated : Command T → Type 0
   IsSimulated asked = (old : NumberedHub T U B D) → IsSimulatedFrom old asked
 
-  -- So it is from a hub whose domains came by calls of ports: those of each hub did, as `GrowsOn` says.
+  -- The command is simulated from a hub whose domains have grown by calls of ports, as those of each hub have (`GrowsOn`).
   abbrev pub IsSimulatedIfGrown : Command T → Type 0
   IsSimulatedIfGrown asked = (old : NumberedHub T U B D) → HaveGrown old.hub.services.domains → IsSimulatedFrom old asked
 
-  -- One value of a written loan is written.
+  -- One value of a written loan is replaced.
   abbrev pub SetIsSimulated : Type 0
   SetIsSimulated = (loan place : ℕ) (value : T) → IsSimulated (command.Set loan place value)
 
@@ -79,11 +80,11 @@ module _ {T U B D : Type 0} (choices : Choices T) (is_default_header : U → Typ
   abbrev pub ReadIsSimulated : Type 0
   ReadIsSimulated = (sample : ℕ) → IsSimulated (command.Read sample)
 
-  -- It is told which number the message of a sample has.
+  -- The sequence number of a sample's message is reported.
   abbrev pub SequenceIsSimulated : Type 0
   SequenceIsSimulated = (sample : ℕ) → IsSimulated (command.Sequence sample)
 
-  -- A loan is given up.
+  -- A loan is dropped.
   abbrev pub DropIsSimulated : Type 0
   DropIsSimulated = (loan : ℕ) → IsSimulatedIfGrown (command.Drop loan)
 
@@ -91,6 +92,6 @@ module _ {T U B D : Type 0} (choices : Choices T) (is_default_header : U → Typ
   abbrev pub ReleaseIsSimulated : Type 0
   ReleaseIsSimulated = (sample : ℕ) → IsSimulatedIfGrown (command.Release sample)
 
-  -- A send that waits is given up.
+  -- A blocked send is given up.
   abbrev pub GiveUpIsSimulated : Type 0
   GiveUpIsSimulated = (publisher : ℕ) → IsSimulated (command.GiveUp publisher)

@@ -1,4 +1,4 @@
--- What a hub does where a publisher or a subscriber leaves is what the machine does.
+-- Theorems: when a publisher or a subscriber is closed, a hub does what the machine does.
 use Rattle.std.specs.Prelude.{ℕ, ◌≡◌, true, Some}
 use Rattle.iox_command.specs.DomainValues.declared.backpressure.BackpressureDecision.{BackpressureDecision}
 use Rattle.iox_command.specs.DomainValues.declared.backpressure.BackpressureInfo.{BackpressureInfo}
@@ -19,27 +19,27 @@ use Rattle.iox_hub_commands.specs.declared.numbered_hub.NumberedHub.{NumberedHub
 use Rattle.iox_hub_machine.specs.Laws.{IsSimulatedFrom}
 use Rattle.iox_machine.specs.Choices.{Choices}
 
--- One change more can be counted of the list of publishers, and of that of subscribers, of each domain that is here.
+-- One change more can be counted of the two port lists of each domain in the hub.
 abbrev pub ListsCanChange : {T U B D : Type 0} → Hub T U B D → Type 0
 ListsCanChange {T} {U} hub = (id : DomainId) (ports : ServicePorts T U) → hub_ports id hub ≡ Some ports
     → (may_change ports.publisher_list ≡ true) × (may_change ports.subscriber_list ≡ true)
 
--- What is a default value is given, and a default user header; and what anybody may answer who decides for a publisher, or for a
--- subscriber.
+-- The parameters: the choices, with the default values; which user headers are default ones; and what handlers of a publisher, and of a
+-- subscriber, may answer.
 module _ {T U B D : Type 0} (choices : Choices T) (is_default_header : U → Type 0)
     (degrades : B → DegradationCause → DegradationInfo → DegradationAction → Type 0)
     (decides : B → BackpressureInfo → BackpressureDecision → Type 0)
     (reader_degrades : D → DegradationCause → DegradationInfo → DegradationAction → Type 0) where
-  -- So it is from a hub whose domains came by calls of ports, whose numbers rise from 1 on and stay below the one that comes next, as those
-  -- of each hub do, and of whose lists of ports each can change once more: one changes once at a command at most.
+  -- The command is simulated from a hub whose domains have grown by calls of ports, whose numbers rise from 1 and stay below the next one,
+  -- as those of each hub do, and whose port lists can each change once more. A command changes at most one list, and only once.
   abbrev pub IsSimulatedIfCounted : Command T → Type 0
   IsSimulatedIfCounted asked = (old : NumberedHub T U B D) → HaveGrown old.hub.services.domains → NumbersRise old
       → ListsCanChange old.hub → IsSimulatedFrom choices is_default_header degrades decides reader_degrades old asked
 
-  -- A publisher leaves.
+  -- A publisher is closed.
   abbrev pub PublisherLeaveIsSimulated : Type 0
   PublisherLeaveIsSimulated = (publisher : ℕ) → IsSimulatedIfCounted (command.Leave (port.Publisher publisher))
 
-  -- A subscriber leaves.
+  -- A subscriber is closed.
   abbrev pub SubscriberLeaveIsSimulated : Type 0
   SubscriberLeaveIsSimulated = (subscriber : ℕ) → IsSimulatedIfCounted (command.Leave (port.Subscriber subscriber))

@@ -1,4 +1,4 @@
--- What a hub does where a publisher lends is what the machine does.
+-- Theorems: when a publisher loans, a hub does what the machine does.
 use Rattle.std.specs.Prelude.{ℕ}
 use Rattle.iox_command.specs.DomainValues.declared.backpressure.BackpressureDecision.{BackpressureDecision}
 use Rattle.iox_command.specs.DomainValues.declared.backpressure.BackpressureInfo.{BackpressureInfo}
@@ -13,22 +13,22 @@ use Rattle.iox_hub_commands.specs.declared.numbered_hub.NumberedHub.{NumberedHub
 use Rattle.iox_hub_machine.specs.Laws.{IsSimulatedFrom}
 use Rattle.iox_machine.specs.Choices.{Choices}
 
--- What is a default value is given, and a default user header; and what anybody may answer who decides for a publisher, or for a
--- subscriber.
+-- The parameters: the choices, with the default values; which user headers are default ones; and what handlers of a publisher, and of a
+-- subscriber, may answer.
 module _ {T U B D : Type 0} (choices : Choices T) (is_default_header : U → Type 0)
     (degrades : B → DegradationCause → DegradationInfo → DegradationAction → Type 0)
     (decides : B → BackpressureInfo → BackpressureDecision → Type 0)
     (reader_degrades : D → DegradationCause → DegradationInfo → DegradationAction → Type 0) where
-  -- So it is from a hub whose domains came by calls of ports, and whose numbers rise from 1 on and stay below the one that comes next, as
-  -- `GrowsOn` and `NumbersGoOn` say of each hub.
+  -- The command is simulated from a hub whose domains have grown by calls of ports, and whose numbers rise from 1 and stay below the next
+  -- one, as `GrowsOn` and `NumbersGoOn` say of each hub.
   abbrev pub IsSimulatedIfNumbered : Command T → Type 0
   IsSimulatedIfNumbered asked = (old : NumberedHub T U B D) → HaveGrown old.hub.services.domains → NumbersRise old
       → IsSimulatedFrom choices is_default_header degrades decides reader_degrades old asked
 
-  -- A publisher lends so many values, none of which is written.
+  -- A publisher loans so many values, none of which is written.
   abbrev pub LendUninitIsSimulated : Type 0
   LendUninitIsSimulated = (publisher values : ℕ) → IsSimulatedIfNumbered (command.LoanUninit publisher values)
 
-  -- A publisher lends so many values, each of which is written: a default.
+  -- A publisher loans so many values, each of which is written with a default value.
   abbrev pub LendIsSimulated : Type 0
   LendIsSimulated = (publisher values : ℕ) → IsSimulatedIfNumbered (command.Loan publisher values)

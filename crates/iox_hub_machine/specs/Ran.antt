@@ -1,4 +1,4 @@
--- What a run keeps of its hub.
+-- What stays true of a hub during a run.
 use Rattle.std.specs.Prelude.{ℕ, ◌+◌, ◌-◌, ◌*◌, ◌<◌, ◌≤◌, List, [], ◌∷◌, Option, None, Some}
 use Rattle.std.specs.List.{AllByRecursion}
 use Rattle.iox_command.specs.DomainValues.declared.backpressure.BackpressureDecision.{BackpressureDecision}
@@ -22,17 +22,17 @@ use Rattle.iox_hub_machine.specs.Services.{HubStandsFor}
 use Rattle.iox_machine.specs.Choices.{Choices}
 use Rattle.iox_machine.specs.State.{State}
 
--- how many places list somebody
+-- How many places list a port.
 abbrev pub listed : {V : Type 0} → List (Option V) → ℕ
 listed [] = 0
 listed (None ∷ places) = listed places
 listed (Some it ∷ places) = 1 + listed places
 
--- how often a list changed, and how many it lists
+-- How often a list has changed, plus how many ports it lists.
 abbrev pub rolled : {V : Type 0} → RollState V → ℕ
 rolled roll = roll.changes + listed roll.places
 
--- how many ports of a service came, and what both lists of them count
+-- How many ports of a service were created, plus what is counted of both lists.
 abbrev pub port_count : {T U : Type 0} → ServicePorts T U → ℕ
 port_count ports = ports.next_port - 1 + rolled ports.publisher_list + rolled ports.subscriber_list
 
@@ -42,31 +42,31 @@ AreRising [] = Unit {0}
 AreRising (entry ∷ entries) = AllByRecursion (λ later. entry.0 < later.0) entries × AreRising entries
 
 module _ {T U B D : Type 0} where
-  -- A hub as it is after so many commands and steps of nodes outside it, or after fewer.
+  -- The hub after at most so many commands and actions of other nodes.
   pub record RanAtMost (most : ℕ) (hub : NumberedHub T U B D) : Type 0 where
-    -- its domains came by calls of ports, its numbers rise, and each service has one agreement
+    -- Its domains have grown by calls of ports, its numbers rise, and each service has one agreement.
     pub grown : HaveGrown hub.hub.services.domains
     pub rise : NumbersRise hub
     pub agreed : AreOfOneAgreement hub.factories.made hub.hub
-    -- its services, and the counts of their factories, stand by rising numbers
+    -- Its services, and the counts of their factories, are ordered by rising numbers.
     pub services : AreRising hub.hub.services.domains
     pub counts : AreRising hub.hub.factory_counts
-    -- for each of those at most one node was made, one number given, 17 locks taken, and six counted of ports that came, of changes of
-    -- their lists, and of what these list; a new hub has five numbers that come next
+    -- For each command or action, at most one node was made, one number given, 17 locks taken, and six counted of created ports, of changes
+    -- of their lists, and of what these list. A new hub has five next numbers.
     pub nodes : hub.hub.nodes ≤ most
     pub numbers : numbers_used hub ≤ 5 + most
     pub locks : hub.hub.table.next ≤ 1 + 17 * most
     pub ports : counted_in (λ ports. port_count ports) hub.hub.services.domains ≤ 6 * most
 
--- The types are those of the messages; then what is a default value, and what anybody who decides may answer.
+-- The parameters: the types of the messages, the choices, and what handlers may answer.
 module _ {T U B D : Type 0} (types : MessageTypeDetails) (choices : Choices T)
     (degrades : B → DegradationCause → DegradationInfo → DegradationAction → Type 0)
     (decides : B → BackpressureInfo → BackpressureDecision → Type 0)
     (reader_degrades : D → DegradationCause → DegradationInfo → DegradationAction → Type 0) where
-  -- A hub stands for a state, for the names that are asked for; a run of a new machine leads to this state, and the hub is as it is after
-  -- so many commands and steps of nodes outside it, or after fewer. A new hub is so, and a run keeps it so.
+  -- The hub represents a state, for the names that are asked for; a run of a new machine reaches this state, and the hub has had at most so
+  -- many commands and actions of other nodes. This holds of a new hub, and a run keeps it.
   pub record StandsAfter (names : List (List ℕ)) (most : ℕ) (hub : NumberedHub T U B D) (state : State T) : Type 0 where
-    -- which numbers were taken for the services of each name, how ports are named, and in which order the services were opened
+    -- The numbers that were taken for the services of each name, the names of ports, and the order in which the services were opened.
     pub taken : MessagingPattern → List ℕ → List ℕ
     pub naming : ℕ → Naming
     pub order : List (ℕ × ServicePorts T U)

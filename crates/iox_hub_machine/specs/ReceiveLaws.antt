@@ -1,4 +1,4 @@
--- What a hub does where its ports bring their connections up to date, and its subscribers receive, is what the machine does.
+-- Theorems: when ports update their connections, and subscribers receive, a hub does what the machine does.
 use Rattle.std.specs.Prelude.{ℕ, ◌<◌, ◌^◌}
 use Rattle.iox_command.specs.DomainValues.declared.backpressure.BackpressureDecision.{BackpressureDecision}
 use Rattle.iox_command.specs.DomainValues.declared.backpressure.BackpressureInfo.{BackpressureInfo}
@@ -13,28 +13,29 @@ use Rattle.iox_hub_commands.specs.declared.numbered_hub.NumberedHub.{NumberedHub
 use Rattle.iox_hub_machine.specs.Laws.{IsSimulatedFrom, IsSimulatedIfGrown}
 use Rattle.iox_machine.specs.Choices.{Choices}
 
--- What is a default value is given, and a default user header; and what anybody may answer who decides for a publisher, or for a
--- subscriber.
+-- The parameters: the choices, with the default values; which user headers are default ones; and what handlers of a publisher, and of a
+-- subscriber, may answer.
 module _ {T U B D : Type 0} (choices : Choices T) (is_default_header : U → Type 0)
     (degrades : B → DegradationCause → DegradationInfo → DegradationAction → Type 0)
     (decides : B → BackpressureInfo → BackpressureDecision → Type 0)
     (reader_degrades : D → DegradationCause → DegradationInfo → DegradationAction → Type 0) where
-  -- A publisher follows the list of subscribers.
+  -- A publisher updates its connections.
   abbrev pub PublisherUpdateIsSimulated : Type 0
   PublisherUpdateIsSimulated = (publisher : ℕ)
       → IsSimulatedIfGrown choices is_default_header degrades decides reader_degrades (command.Update (port.Publisher publisher))
 
-  -- A subscriber follows the list of publishers.
+  -- A subscriber updates its connections.
   abbrev pub SubscriberUpdateIsSimulated : Type 0
   SubscriberUpdateIsSimulated = (subscriber : ℕ)
       → IsSimulatedIfGrown choices is_default_header degrades decides reader_degrades (command.Update (port.Subscriber subscriber))
 
-  -- It is told whether some connection of a subscriber has data.
+  -- The reply says whether some connection of a subscriber has data.
   abbrev pub HasIsSimulated : Type 0
   HasIsSimulated = (subscriber : ℕ)
       → IsSimulatedIfGrown choices is_default_header degrades decides reader_degrades (command.Has subscriber)
 
-  -- A subscriber receives, and a sample that comes gets the next number, which nothing goes by yet. Fewer than 2 ^ 64 - 1 came so far.
+  -- A subscriber receives, and a received sample gets the next number, which names nothing yet. Fewer than 2 ^ 64 - 1 samples were received
+  -- so far.
   abbrev pub ReceiveIsSimulated : Type 0
   ReceiveIsSimulated = (subscriber : ℕ) (old : NumberedHub T U B D) → HaveGrown old.hub.services.domains → NumbersRise old
       → old.made.samples.next < 2 ^ 64

@@ -1,4 +1,4 @@
--- What a run of a new hub is replied is what a new machine may answer.
+-- Theorems: the replies of a run of a new hub are ones that a new machine may give.
 use Rattle.std.specs.Prelude.{ℕ, ◌+◌, ◌^◌, ◌<◌, ◌≡◌, Bool, true, List, [], ◌∷◌, length}
 use Rattle.std.specs.List.{IsAmong}
 use Rattle.iox_command.specs.declared.command.Command.{Command}
@@ -24,7 +24,7 @@ use Rattle.iox_machine.specs.State.{State, new_state}
 use Rattle.iox_negotiate_machine.specs.Laws.{HaveOwnHashes}
 
 module _ {T : Type 0} where
-  -- how many steps of nodes outside the hub a command names
+  -- How many actions of other nodes the command names.
   abbrev pub steps_named : Command T → ℕ
   steps_named (command.Create node name options attributes steps) = length steps
   steps_named (command.Open node name options required steps) = length steps
@@ -32,12 +32,12 @@ module _ {T : Type 0} where
   steps_named (command.Foreign pattern name steps) = length steps
   steps_named other = 0
 
-  -- how many commands there are, and steps of nodes outside the hub that they name, together
+  -- How many commands there are, plus the actions of other nodes that they name.
   abbrev pub all_asked : List (Command T) → ℕ
   all_asked [] = 0
   all_asked (asked ∷ more) = 1 + steps_named asked + all_asked more
 
-  -- the names of the services for which commands ask
+  -- The names of the services for which commands ask.
   abbrev pub names_in : List (Command T) → List (List ℕ)
   names_in [] = []
   names_in (command.Create node name options attributes steps ∷ more) = name ∷ names_in more
@@ -46,7 +46,7 @@ module _ {T : Type 0} where
   names_in (command.Foreign pattern name steps ∷ more) = name ∷ names_in more
   names_in (other ∷ more) = names_in more
 
-  -- The name of the service for which a command asks is among these, if it asks for one.
+  -- The name of the service for which the command asks is among these, if it asks for one.
   abbrev pub AsksAmong : List (List ℕ) → Command T → Type 0
   AsksAmong names (command.Create node name options attributes steps) = IsAmong names name
   AsksAmong names (command.Open node name options required steps) = IsAmong names name
@@ -54,18 +54,19 @@ module _ {T : Type 0} where
   AsksAmong names (command.Foreign pattern name steps) = IsAmong names name
   AsksAmong names other = Unit {0}
 
--- Where the ports of a hub have room for the numbers of loans and samples, and its domains came by calls of ports, a run that stopped never
--- began, or stopped at a command whose reply has values.
+-- If the ports of the hub have capacity for the numbers of loans and samples, and its domains have grown by calls of ports, a run that
+-- stopped never began, or stopped at a command whose reply has values.
 abbrev pub StopsIfRoomy : {T U B D : Type 0} → List (Command T) → NumberedHub T U B D → List (Reply T) → Bool → NumberedHub T U B D
     → Type 0
 StopsIfRoomy commands old replies stopped new = HasRoom old → HaveGrown old.hub.services.domains → stopped ≡ true
     → StopsInTime commands old (length replies) new
 
--- The terms of the hub are given.
+-- The parameters: the terms of the hub.
 module _ {T U B D : Type 0} (terms : Terms T U B D) where
-  -- What a hub replied to commands, from the first one on or until it stopped, is what a new machine may answer: to all of them, or, where
-  -- it stopped, to the first of them, where a run may stop. So it is where the hub was new, no two services of the names that are asked for
-  -- share a hash, commands and their steps are fewer than 2 ^ 56, and whoever is made of fixed actions for a port decides by these.
+  -- The replies of a hub to commands, from the first one on or until the run stopped, are ones that a new machine may give: to all
+  -- commands, or, if the run stopped, to those before a command at which a run may stop. This holds if the hub was new, no two services of
+  -- the names that are asked for share a hash, commands and actions of other nodes are fewer than 2 ^ 56, and handlers that are made of
+  -- fixed actions decide by these.
   abbrev pub AnswersAsMachine : HubConfig → List (Command T) → NumberedHub T U B D → List (Reply T) → Bool → Type 0
   AnswersAsMachine config commands old replies stopped =
       DecidesAsFixed terms.fixed terms.degrades terms.decides → AnswersAsFixed terms.fixed_reader terms.reader_degrades
@@ -73,7 +74,7 @@ module _ {T U B D : Type 0} (terms : Terms T U B D) where
       → all_asked commands < 2 ^ 56
       → machine.Answers terms.types (as_named terms.is_default) config.expired_connection_buffer commands stopped replies
 
-  -- So it is of each run that stops only where it may.
+  -- Each run that stops only where it may has such replies.
   abbrev pub RunAnswers : Type 0
   RunAnswers = (config : HubConfig) (commands : List (Command T)) (old new : NumberedHub T U B D) (replies : List (Reply T))
       (stopped : Bool)
@@ -81,7 +82,7 @@ module _ {T U B D : Type 0} (terms : Terms T U B D) where
       → StopsIfRoomy commands old replies stopped new
       → AnswersAsMachine config commands old replies stopped
 
-  -- What a hub that replied to commands stands for is a state to which a new machine comes with the same replies.
+  -- A hub that replied to commands represents a state that a new machine reaches with the same replies.
   abbrev pub StandsAsMachine : HubConfig → List (Command T) → NumberedHub T U B D → List (Reply T) → Type 0
   StandsAsMachine config commands new replies =
       (taken : MessagingPattern → List ℕ → List ℕ) × (naming : ℕ → Naming) × (order : List (ℕ × ServicePorts T U)) × (after : State T)
@@ -89,7 +90,7 @@ module _ {T U B D : Type 0} (terms : Terms T U B D) where
       × HubStandsFor (as_named terms.is_default) terms.degrades terms.decides terms.reader_degrades (names_in commands) taken naming order
       new after
 
-  -- So it is with each run to its end, by the same premises.
+  -- After each run to its end the hub represents such a state, under the same premises.
   abbrev pub RunStands : Type 0
   RunStands = (config : HubConfig) (commands : List (Command T)) (old new : NumberedHub T U B D) (replies : List (Reply T))
       → Runs (hub.Step terms) commands old replies new

@@ -5,21 +5,21 @@ use Rattle.iox_machine.specs.Phase.{Phase, Own, Published, same_pattern}
 use Rattle.iox_machine.specs.State.{Factory}
 use Rattle.iox_negotiate_machine.specs.Standing.{counts_of}
 
--- with how many factories a node of the hub is in a service, once for each time that it is in
+-- The number of factories of this node of the hub in the phase, once for each entry of the node.
 abbrev pub seats_in : ℕ → Phase → List ℕ
 seats_in node (Published life agreed nodes) = counts_of (Own node) nodes
 seats_in node other = []
 
--- whether a factory is one that a node has of the service of this pattern and name
+-- Whether a factory is one that this node has of the service of this pattern and name.
 abbrev pub is_factory_of_node : MessagingPattern → List ℕ → ℕ → Factory → Bool
 is_factory_of_node pattern name node factory =
     same_pattern factory.pattern pattern && (bytes_eq factory.name name && factory.node == node)
 
--- how many factories a node has of the service of this pattern and name
+-- How many factories this node has of the service of this pattern and name.
 abbrev pub factories_of_node : MessagingPattern → List ℕ → ℕ → List (ℕ × Factory) → ℕ
 factories_of_node pattern name node factories = length (filter (λ entry. is_factory_of_node pattern name node entry.1) factories)
 
--- A node that has so many factories of a service is in it once, with just these; one that has none isn't in it.
+-- The entries of a node that has so many factories of a service: one with this number, or none if it has no factory.
 abbrev pub seats_for : ℕ → List ℕ
 seats_for zero = []
 seats_for (suc more) = suc more ∷ []

@@ -1,4 +1,4 @@
--- What a hub does where its publishers send is what the machine does.
+-- Theorems: when its publishers send, a hub does what the machine does.
 use Rattle.std.specs.Prelude.{ℕ, List}
 use Rattle.iox_command.specs.DomainValues.declared.backpressure.BackpressureDecision.{BackpressureDecision}
 use Rattle.iox_command.specs.DomainValues.declared.backpressure.BackpressureInfo.{BackpressureInfo}
@@ -9,13 +9,13 @@ use Rattle.iox_command.specs.declared.command.Command.TheVariants as command
 use Rattle.iox_hub_machine.specs.Laws.{IsSimulatedIfGrown}
 use Rattle.iox_machine.specs.Choices.{Choices}
 
--- What is a default value is given, and a default user header; and what anybody may answer who decides for a publisher, or for a
--- subscriber.
+-- The parameters: the choices, with the default values; which user headers are default ones; and what handlers of a publisher, and of a
+-- subscriber, may answer.
 module _ {T U B D : Type 0} (choices : Choices T) (is_default_header : U → Type 0)
     (degrades : B → DegradationCause → DegradationInfo → DegradationAction → Type 0)
     (decides : B → BackpressureInfo → BackpressureDecision → Type 0)
     (reader_degrades : D → DegradationCause → DegradationInfo → DegradationAction → Type 0) where
-  -- A send that waits is tried again, after so many nanoseconds.
+  -- A blocked send is tried again, with so many nanoseconds elapsed.
   abbrev pub RetryIsSimulated : Type 0
   RetryIsSimulated = (publisher nanoseconds : ℕ)
       → IsSimulatedIfGrown choices is_default_header degrades decides reader_degrades (command.Retry publisher nanoseconds)
@@ -24,7 +24,7 @@ module _ {T U B D : Type 0} (choices : Choices T) (is_default_header : U → Typ
   abbrev pub SendIsSimulated : Type 0
   SendIsSimulated = (loan : ℕ) → IsSimulatedIfGrown choices is_default_header degrades decides reader_degrades (command.Send loan)
 
-  -- Values are lent, written and sent at once.
+  -- Values are loaned, written and sent at once.
   abbrev pub PutIsSimulated : Type 0
   PutIsSimulated = (publisher : ℕ) (values : List T)
       → IsSimulatedIfGrown choices is_default_header degrades decides reader_degrades (command.Put publisher values)

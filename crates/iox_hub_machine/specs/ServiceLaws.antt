@@ -1,4 +1,4 @@
--- What a hub does at a command on nodes and services is what the machine does.
+-- Theorems: at a command on nodes and services, a hub does what the machine does.
 use Rattle.std.specs.Prelude.{ℕ, ◌+◌, ◌^◌, ◌<◌, List, [], length, Ok}
 use Rattle.std.specs.List.{IsAmong}
 use Rattle.iox_command.specs.DomainValues.declared.backpressure.BackpressureDecision.{BackpressureDecision}
@@ -29,12 +29,12 @@ use Rattle.iox_machine.specs.State.{State, new_state}
 use Rattle.iox_negotiate_machine.specs.CallLaws.{AreListed}
 use Rattle.iox_negotiate_machine.specs.Laws.{HaveOwnHashes}
 
--- The lists of steps that a hub makes of those that a command names are those that the laws of calls over a table ask for.
+-- The lists of actions that a hub makes of those that a command names are the ones that the theorems about calls over a table require.
 abbrev pub ListsAreNamed : Type 0
 ListsAreNamed = (types : MessageTypeDetails) (name : List ℕ) (steps : List StepBefore)
     → AreListed types name steps (lists_of name types steps)
 
--- A command that creates, opens, does either, or closes a factory.
+-- The command creates, opens, opens or creates, or closes a factory.
 abbrev pub IsOnServices : {T : Type 0} → Command T → Type 0
 IsOnServices (command.Create node name options attributes steps) = Unit {0}
 IsOnServices (command.Open node name options required steps) = Unit {0}
@@ -42,7 +42,7 @@ IsOnServices (command.OpenOrCreate node name options required steps) = Unit {0}
 IsOnServices (command.Close factory) = Unit {0}
 IsOnServices other = ⊥
 
--- A new hub stands for a new machine, whatever names are asked for: no number was taken, and no port has a name.
+-- A new hub represents a new machine, whatever names are asked for: no number was taken, and no port has a name.
 abbrev pub NewHubStands : (T U : Type 0) → {B D : Type 0} → Choices T
     → (B → DegradationCause → DegradationInfo → DegradationAction → Type 0)
     → (B → BackpressureInfo → BackpressureDecision → Type 0) → (D → DegradationCause → DegradationInfo → DegradationAction → Type 0)
@@ -51,9 +51,9 @@ NewHubStands T U {B} {D} choices degrades decides reader_degrades = (names : Lis
     → IsNew config hub
     → HubStandsFor choices degrades decides reader_degrades names (λ pattern name. []) (λ service. nameless) [] hub new_state
 
--- The terms of the hub are given, and what may be chosen: the default values are those of the latter.
+-- The parameters: the terms of the hub, and the choices; the default values are those of the choices.
 module _ {T U B D : Type 0} (terms : Terms T U B D) (choices : Choices T) where
-  -- The machine may be answered so, too, at this command, and the hub stands for what it is then.
+  -- The machine may give this reply to this command, too, and the hub represents the machine's state afterwards.
   pub record IsFollowed (names : List (List ℕ)) (asked : Command T) (old new : NumberedHub T U B D) (state : State T) (answer : Reply T)
       : Type 0 where
     pub taken : MessagingPattern → List ℕ → List ℕ
@@ -63,8 +63,8 @@ module _ {T U B D : Type 0} (terms : Terms T U B D) (choices : Choices T) where
     pub step : machine.Step terms.types choices old.hub.expired_connection_buffer asked state answer after
     pub stands : HubStandsFor choices terms.degrades terms.decides terms.reader_degrades names taken naming order new after
 
-  -- Where a hub stands for a machine, it and its reply to this command are as is needed, and it does what the command says, the machine may
-  -- reply so, too, and the hub stands for what it is then.
+  -- If a hub represents a machine, the hub and its reply to this command satisfy `AreFit`, and the hub does what the command says, then the
+  -- machine may give this reply, too, and the hub represents the machine's state afterwards.
   abbrev pub FollowsIf : List (List ℕ) → Command T → (NumberedHub T U B D → Reply T → Type 0) → Type 0
   FollowsIf names asked AreFit = (taken : MessagingPattern → List ℕ → List ℕ) (naming : ℕ → Naming)
       (order : List (ℕ × ServicePorts T U)) (old new : NumberedHub T U B D) (state : State T) (answer : Reply T)
@@ -73,22 +73,22 @@ module _ {T U B D : Type 0} (terms : Terms T U B D) (choices : Choices T) where
       → hub.Step (record terms { is_default = choices.is_default }) asked old (Ok answer) new
       → IsFollowed names asked old new state answer
 
-  -- So it is whatever it replies, where the hub is as is needed.
+  -- The same holds for any reply, if the hub satisfies `IsFit`.
   abbrev pub Follows : List (List ℕ) → Command T → (NumberedHub T U B D → Type 0) → Type 0
   Follows names asked IsFit = FollowsIf names asked (λ old answer. IsFit old)
 
-  -- A node is made, where fewer than 2 ^ 64 - 1 were.
+  -- A node is made, if fewer than 2 ^ 64 - 1 were made.
   abbrev pub NodeMatches : Type 0
   NodeMatches = (names : List (List ℕ)) → Follows names command.Node (λ old. old.hub.nodes + 1 < 2 ^ 64)
 
-  -- Nodes outside the hub do steps under a name that is asked for. No two services of the names that are asked for share a hash, and there
-  -- are numbers left for as many locks.
+  -- Other nodes act under a name that is asked for. No two services of the names that are asked for share a hash, and there are numbers
+  -- left for as many locks.
   abbrev pub ForeignMatches : Type 0
   ForeignMatches = (names : List (List ℕ)) (pattern : MessagingPattern) (name : List ℕ) (steps : List ForeignStep) → IsAmong names name
       → HaveOwnHashes names
       → Follows names (command.Foreign pattern name steps) (λ old. old.hub.table.next + length steps < 2 ^ 64)
 
-  -- Where such a command is skipped the machine skips it, too, and the hub stands for what it stood for.
+  -- If the hub skips such a command, the machine skips it, too, and the hub represents the same state.
   abbrev pub SkippedMatches : Type 0
   SkippedMatches = (names : List (List ℕ)) (asked : Command T) (taken : MessagingPattern → List ℕ → List ℕ) (naming : ℕ → Naming)
       (order : List (ℕ × ServicePorts T U)) (old new : NumberedHub T U B D) (state : State T) → IsOnServices asked

@@ -1,4 +1,4 @@
--- Which machine a hub is: its nodes, the table of its services, its factories, and its open services with their ports.
+-- Which state of the machine a hub represents: its nodes, the table of its services, its factories, and its open services with their ports.
 use Rattle.std.specs.Prelude.{ℕ, ◌+◌, ◌≡◌, true, List, [], ◌∷◌, map, Some}
 use Rattle.std.specs.List.{IsAmong}
 use Rattle.iox_command.specs.DomainValues.declared.backpressure.BackpressureDecision.{BackpressureDecision}
@@ -30,20 +30,20 @@ use Rattle.iox_negotiate_machine.specs.CallLaws.{IsServiceIn}
 use Rattle.iox_negotiate_machine.specs.Standing.{TableStands}
 use Rattle.iox_negotiate_table.specs.Contents.{Contents}
 
--- a factory of a hub, as the machine has it: the pattern and name of its service, and its node
+-- A factory of a hub, as the machine has it: the pattern and name of its service, and its node.
 abbrev pub factory_as : MadeFactory → Factory
 factory_as made = record { pattern = pattern_in made; name = (carried_by made).name; node = (parts_of made).0.node }
 
--- the factories of a hub by their numbers, as the machine has them
+-- The factories of a hub by their numbers, as the machine has them.
 abbrev pub factories_as : FactoryTable → List (ℕ × Factory)
 factories_as table = map (λ entry. (entry.0, factory_as entry.1)) table.entries
 
--- the numbers of the services that factories are of, once for each factory
+-- The numbers of the factories' services, once for each factory.
 abbrev pub services_in : FactoryTable → List ℕ
 services_in table = map (λ entry. service_of entry.1) table.entries
 
--- A factory of a hub goes by its own number, and is of the table; it is of a service that its node is in, by a name that is asked for: what
--- is published there has the number that was taken last, and is what the factory carries.
+-- A factory of a hub has its own number, and is of the table. It is of a service, by a name that is asked for, that its node is in: the
+-- service is published under the number that was taken last, with the description that the factory carries.
 pub record FactoryStands {T : Type 0} (names : List (List ℕ)) (taken : MessagingPattern → List ℕ → List ℕ) (table : Contents)
     (state : State T) (number : ℕ) (made : MadeFactory) : Type 0 where
   pub asked : IsAmong names (carried_by made).name
@@ -54,8 +54,8 @@ pub record FactoryStands {T : Type 0} (names : List (List ℕ)) (taken : Messagi
       (parts_of made).0.service
 
 module _ {T U B D : Type 0} where
-  -- A domain of a hub and a service of the machine are of one service: some publish-subscribe factory of the hub is of this domain, and
-  -- carries the name and the settings of this service; the domain is for the same settings.
+  -- A domain of a hub and a service of the machine are of the same service: some publish-subscribe factory of the hub is of this domain,
+  -- and carries the name and the settings of this service; the domain has the same settings.
   pub record IsServedBy (table : FactoryTable) (services : OpenServices T U B D) (number : ℕ) (service : Service T) : Type 0 where
     pub factory : ℕ
     pub made : MadeFactory
@@ -66,7 +66,7 @@ module _ {T U B D : Type 0} where
     pub carried : (carried_by made).settings ≡ settings.PublishSubscribe service.settings
     pub agreed : (domain : Domain T U B D) → domain_of number services.domains ≡ Some domain → domain.agreed ≡ service.settings
 
-  -- So it is of each domain, with the service in its place.
+  -- The domains are each of the same service as the machine's service at the same place of the list.
   abbrev pub AreServedInTurn : FactoryTable → OpenServices T U B D → List (ℕ × ServicePorts T U) → List (Service T) → Type 0
   AreServedInTurn table hub [] services = services ≡ []
   AreServedInTurn table hub (domain ∷ domains) [] = ⊥
@@ -76,26 +76,26 @@ module _ {T U B D : Type 0} where
   -- The factories of a hub are those of the machine.
   pub record FactoriesStandFor (names : List (List ℕ)) (taken : MessagingPattern → List ℕ → List ℕ) (hub : NumberedHub T U B D)
       (state : State T) : Type 0 where
-    -- as many were made, by the numbers of commands and by those of the hub
+    -- As many were made, by the numbers of commands and by those of the hub.
     pub numbers : hub.factories.made.next ≡ state.made.factories + 1
     pub owners : hub.hub.factories ≡ state.made.factories
-    -- the same go by numbers, each of a service that stands
+    -- The same factories have numbers, each of an existing service.
     pub same : state.factories ≡ factories_as hub.factories.made
     pub each : (number : ℕ) (made : MadeFactory) → value_at hub.factories.made number ≡ Some made
         → FactoryStands names taken hub.hub.table state number made
-    -- a node of the hub is in a service with just the factories that it has of it
+    -- A node of the hub is in a service with exactly the factories that it has of it.
     pub seats : (pattern : MessagingPattern) (name : List ℕ) (node : ℕ) → IsAmong names name
         → seats_in node (state.phases pattern name) ≡ seats_for (factories_of_node pattern name node state.factories)
-    -- how many factories a service has is counted
+    -- The hub counts how many factories each service has.
     pub counts : (service : ℕ) → factories_of service hub.hub.factory_counts ≡ how_often service (services_in hub.factories.made)
-    -- the service of a publish-subscribe factory is open
+    -- The service of a publish-subscribe factory is open.
     pub opened : (number : ℕ) (made : MadeFactory) → value_at hub.factories.made number ≡ Some made → pattern_in made ≡ PublishSubscribe
         → is_open (service_of made) hub.hub.services ≡ true
 
-  -- A hub stands for a machine, for the names that are asked for: the nodes, the phases of all services by these names, the factories, and
-  -- the open publish-subscribe services with their ports are the same. These numbers were taken for the services of each name; what anybody
-  -- may answer who decides for a port is given, under which names the machine has the ports of each service, and in which order it has the
-  -- services.
+  -- A hub represents a state of the machine, for the names that are asked for: the nodes, the phases of all services with these names, the
+  -- factories, and the open publish-subscribe services with their ports are the same. Given are the numbers that were taken for the
+  -- services of each name, what handlers of ports may answer, the names that the machine has for the ports of each service, and the order
+  -- of its services.
   pub record HubStandsFor (choices : Choices T) (degrades : B → DegradationCause → DegradationInfo → DegradationAction → Type 0)
       (decides : B → BackpressureInfo → BackpressureDecision → Type 0)
       (reader_degrades : D → DegradationCause → DegradationInfo → DegradationAction → Type 0)

@@ -27,15 +27,16 @@ use Rattle.iox_machine.specs.Choices.{as_named}
 use Rattle.iox_machine.specs.Message.{Sample}
 use Rattle.iox_machine.specs.State.{State}
 
--- The terms of the hub are given.
+-- The parameters: the terms of the hub.
 module _ {T U B D : Type 0} (terms : Terms T U B D) where
-  -- The user header of a loan is written; or it was last behind the reference that `user_header_mut` gave, when that ended.
+  -- The user header of a loan is written by a call; or it is the value that was last behind the reference of `user_header_mut`, when that
+  -- reference ended.
   abbrev pub ChangesUserHeader : PortId → ℕ → U → Hub T U B D → Hub T U B D → Type 0
   ChangesUserHeader lender slot written old new =
       WritesUserHeader hub_ports with_hub_ports lender slot written old new
       ⊎ (new ≡ loan_changed hub_ports with_hub_ports lender slot (write_user_header written) old)
 
-  -- Where a user header is written the hub stands for the state for which it stood, with what its program holds.
+  -- After a user header is written, the hub, with what its program holds, represents the same state as before.
   abbrev pub UserHeadersKeepStanding : Type 0
   UserHeadersKeepStanding = (slot : ℕ) (lender : PortId) (written : U) (old : NumberedHub T U B D) (hub : Hub T U B D)
       (names : List (List ℕ)) (most : ℕ) (state : State T)
@@ -44,7 +45,7 @@ module _ {T U B D : Type 0} (terms : Terms T U B D) where
       → StandsAfter terms.types (as_named terms.is_default) terms.degrades terms.decides terms.reader_degrades names most
       (hub_after_call old old.made hub) state
 
-  -- So what a program called of a new hub is the run of the machine that it was: it needs no command.
+  -- So the calls of a program are the same run of the machine as before: writing a user header needs no command.
   abbrev pub UserHeadersNeedNoCommand : Type 0
   UserHeadersNeedNoCommand = (slot : ℕ) (lender : PortId) (written : U) (old : NumberedHub T U B D) (hub : Hub T U B D)
       (names : List (List ℕ)) (asked : List (Command T)) (answers : List (Reply T))
@@ -52,8 +53,8 @@ module _ {T U B D : Type 0} (terms : Terms T U B D) where
       → HasCalled terms names asked answers old
       → HasCalled terms names asked answers (hub_after_call old old.made hub)
 
-  -- The header of a sample that goes by a number tells the sequence number of the machine's sample. Where a publisher of the sample's
-  -- domain goes by a number, and the header tells its id, that is the publisher of the machine's sample.
+  -- The header of a numbered sample reports the sequence number of the machine's sample. If a publisher of the sample's domain has a
+  -- number, and the header reports its id, it is the publisher of the machine's sample.
   abbrev pub HeaderNamesPublisher : Type 0
   HeaderNamesPublisher = (names : List (List ℕ)) (most : ℕ) (hub : NumberedHub T U B D) (state : State T) (number : ℕ) (made : MadeSample)
       (header : Header)
@@ -65,16 +66,17 @@ module _ {T U B D : Type 0} (terms : Terms T U B D) where
       × ((publisher : ℕ) (port : PortId) → port_under (value_at hub.made.publishers publisher) ≡ Some port
       → port.domain.service ≡ made.port.domain.service → port.number ≡ header.publisher_id → sample.publisher ≡ publisher)
 
-  -- The header of a sample is read: the sequence number that it tells is what the machine answers of the sample. Nothing changes.
+  -- Reading the header of a sample is a step: the sequence number that the header reports is the machine's answer for the sample. Nothing
+  -- changes.
   abbrev pub HeaderIsStep : Type 0
   HeaderIsStep = (number : ℕ) (made : MadeSample) (old : NumberedHub T U B D) (header : Header)
       → value_at old.made.samples number ≡ Some made
       → header_found made.taken (hub_ports made.port.domain old.hub) ≡ Some header
       → IsStepBy terms (command.Sequence number) old (reply.Sequence header.sequence) old
 
-  -- What a sample that goes by a number tells in its header and its user header was told as a send began, by its domain's own numbers: of a
-  -- message with the values and the sequence number of the machine's sample. Where a publisher of the sample's domain goes by a number,
-  -- and it was the one that sent, that is the publisher of the machine's sample.
+  -- What a numbered sample has in its header and its user header was recorded as a send began, by its domain's own numbers, with the values
+  -- and the sequence number of the machine's sample. If the publisher that sent it has a number, it is the publisher of the machine's
+  -- sample.
   abbrev pub HeaderReadAsSent : Type 0
   HeaderReadAsSent = (names : List (List ℕ)) (most : ℕ) (hub : NumberedHub T U B D) (state : State T) (number : ℕ) (made : MadeSample)
       (sent : List (SentHeader T U))

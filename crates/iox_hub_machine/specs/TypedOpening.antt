@@ -1,4 +1,4 @@
--- What a typed call is in the machine that creates a service, opens one, or does either, and by which nodes outside the hub act on one.
+-- What typed calls are in the machine that create a service, open one, or open or create it, and those by which other nodes act.
 use Rattle.std.specs.Prelude.{ℕ, ◌≡◌, true, List, Some, Result}
 use Rattle.std.specs.List.{AllByRecursion}
 use Rattle.iox_command.specs.NegotiateBase.DescribeBase.Attributes.{Required}
@@ -26,15 +26,14 @@ use Rattle.iox_hub_machine.specs.TypedServices.{NewNodeIsStep, SubscriberIsStep}
 use Rattle.iox_hub_machine.specs.TypedSteps.{IsStepBy, hub_after_call}
 
 module _ {T U B D : Type 0} where
-  -- a hub that a call left, and the factories that its program holds then; all else that it holds is as it was
+  -- The hub after a call, with the factories that its program holds then; all else that the program holds is as it was.
   abbrev pub opened_then : NumberedHub T U B D → FactoryTable → Hub T U B D → NumberedHub T U B D
   opened_then old table hub = record old { hub = hub; factories = record { made = table } }
 
--- A node of a hub asks for a service, as options ask, with lists of steps of nodes outside it before the accesses: those that the command
--- names, of which what is published has the form of a description. A factory that was made goes by the next number. The terms of the hub
--- are given.
+-- A node of a hub asks for a service, as options ask, with lists of actions of other nodes before the accesses: those that the command
+-- names, and what they publish has the form of a description. A new factory gets the next number. The parameters: the terms of the hub.
 module _ {T U B D : Type 0} (terms : Terms T U B D) where
-  -- The service is created, with these attributes.
+  -- The service is created with these attributes.
   abbrev pub CreateIsStep : Type 0
   CreateIsStep = (node : ℕ) (name : List ℕ) (named : ServiceOptions) (attributes : List Attribute) (steps : List StepBefore)
       (old : NumberedHub T U B D) (hub : Hub T U B D) (answer : Result ℕ Refusal) (table : FactoryTable)
@@ -44,7 +43,7 @@ module _ {T U B D : Type 0} (terms : Terms T U B D) where
       old.factories.made old.hub answer table hub
       → IsStepBy terms (command.Create node name named attributes steps) old (factory_reply (Some answer)) (opened_then old table hub)
 
-  -- The service is opened, if it has what is required of attributes.
+  -- The service is opened, if it has the required attributes.
   abbrev pub OpenIsStep : Type 0
   OpenIsStep = (node : ℕ) (name : List ℕ) (named : ServiceOptions) (required : Required) (steps : List StepBefore)
       (old : NumberedHub T U B D) (hub : Hub T U B D) (answer : Result ℕ Refusal) (table : FactoryTable)
@@ -54,7 +53,7 @@ module _ {T U B D : Type 0} (terms : Terms T U B D) where
       old.hub answer table hub
       → IsStepBy terms (command.Open node name named required steps) old (factory_reply (Some answer)) (opened_then old table hub)
 
-  -- The service is opened, or created with the required pairs where none stands.
+  -- The service is opened, or created with the required pairs if it doesn't exist.
   abbrev pub OpenOrCreateIsStep : Type 0
   OpenOrCreateIsStep = (node : ℕ) (name : List ℕ) (named : ServiceOptions) (required : Required) (steps : List StepBefore)
       (old : NumberedHub T U B D) (hub : Hub T U B D) (answer : Result ℕ Refusal) (table : FactoryTable)
@@ -64,8 +63,8 @@ module _ {T U B D : Type 0} (terms : Terms T U B D) where
       old.hub answer table hub
       → IsStepBy terms (command.OpenOrCreate node name named required steps) old (factory_reply (Some answer)) (opened_then old table hub)
 
-  -- Nodes outside the hub do steps on the service of a pattern and name: those that the command names, of which what is published has the
-  -- form of a description.
+  -- Other nodes act on the service of a pattern and name: the actions are those that the command names, and what they publish has the form
+  -- of a description.
   abbrev pub ForeignIsStep : Type 0
   ForeignIsStep = (kind : MessagingPattern) (name : List ℕ) (steps : List Named) (old : NumberedHub T U B D) (hub : Hub T U B D)
       (answer : Result (Unit {0}) HubError)
@@ -73,8 +72,8 @@ module _ {T U B D : Type 0} (terms : Terms T U B D) where
       → ActsOn (service_hash_of kind name) (list_of name terms.types steps) old.hub answer hub
       → IsStepBy terms (command.Foreign kind name steps) old (foreign_reply answer) (hub_after_call old old.made hub)
 
-  -- By the command that asks for the same, each of these is a step: a node is made, a service is created, opened, or either, nodes outside
-  -- the hub act on one, and a subscriber comes.
+  -- Each of these calls is a step, by the command that asks for the same: making a node; creating, opening, or opening or creating a
+  -- service; actions of other nodes; and creating a subscriber.
   pub record ServiceCallsAreSteps : Type 0 where
     pub node : NewNodeIsStep terms
     pub create : CreateIsStep

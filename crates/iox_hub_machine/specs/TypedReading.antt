@@ -1,4 +1,4 @@
--- What a program may do with what it holds, and what it reads of samples.
+-- What a program may do with the values that it holds, and what it reads of samples.
 use Rattle.std.specs.Prelude.{ℕ, ◌+◌, ◌^◌, ◌<◌, ◌≡◌, true, List, length, find, is_some, Some, Ok}
 use Rattle.std.specs.Global.{Vec}
 use Rattle.std.specs.Vec.{vec_items}
@@ -32,8 +32,8 @@ use Rattle.iox_machine.specs.Table.{at}
 use Rattle.iox_negotiate_machine.specs.Laws.{HaveOwnHashes}
 use Rattle.iox_machine.specs.Choices.{as_named}
 
--- What a program holds by numbers may be used: each port stands, each loan is out, and each sample is held, whether its subscriber left or
--- not.
+-- What a program holds by numbers can be used: each port is open, each loan is out, and each sample is held, even if its subscriber was
+-- closed.
 pub record MayBeUsed {T U B D : Type 0} (hub : NumberedHub T U B D) : Type 0 where
   pub publishers : (number : ℕ) (port : PortId) → port_under (value_at hub.made.publishers number) ≡ Some port
       → publisher_stands port.number (hub_ports port.domain hub.hub) ≡ true
@@ -44,16 +44,16 @@ pub record MayBeUsed {T U B D : Type 0} (hub : NumberedHub T U B D) : Type 0 whe
   pub samples : (number : ℕ) (made : MadeSample) → value_at hub.made.samples number ≡ Some made
       → holds_message made.port.number made.taken (hub_ports made.port.domain hub.hub) ≡ true
 
--- Where a hub stands for a state what its program holds may be used.
+-- If a hub represents a state, what its program holds can be used.
 abbrev pub HeldMayBeUsed : {T U B D : Type 0} → Terms T U B D → Type 0
 HeldMayBeUsed {T} {U} {B} {D} terms = (names : List (List ℕ)) (most : ℕ) (hub : NumberedHub T U B D) (state : State T)
     → StandsAfter terms.types (as_named terms.is_default) terms.degrades terms.decides terms.reader_degrades names most hub state
     → MayBeUsed hub
 
--- Samples are of one kind: single values, or slices. The terms of the hub are given.
+-- Samples are of one kind: single values, or slices. The parameters: the kind, and the terms of the hub.
 module _ {T U B D : Type 0} (K : Type 0) (terms : Terms T U B D) where
   -- The values that a subscriber received after a run of the machine were sent in that run, by a publisher of the subscriber's own service,
-  -- which was of it from that send on.
+  -- which has been of that service since that send.
   pub record WasSent (buffer : ℕ) (asked : List (Command T)) (answers : List (Reply T)) (state : State T)
       (run : Runs terms.types (as_named terms.is_default) buffer asked new_state answers state) (subscriber : ℕ) (values : List T) : Type 0
     where
@@ -64,8 +64,9 @@ module _ {T U B D : Type 0} (K : Type 0) (terms : Terms T U B D) where
       pub began : BeganIn terms.types (as_named terms.is_default) buffer publisher service.name service.settings values asked new_state
           answers state run
 
-  -- What the payload of a sample gives that just came was sent. The calls of the program were a run of the machine, with these commands and
-  -- answers, and the hub stands for what that led to; the values fit in a vector; the other premises are those of each step.
+  -- The values that the `payload` of a newly received sample returns were sent. The calls of the program were a run of the machine, with
+  -- these commands and answers, and the hub represents the state that it reached; the values fit in a vector; the other premises are those
+  -- of each step.
   abbrev pub PayloadWasSent : Type 0
   PayloadWasSent = (names : List (List ℕ)) (most : ℕ) (asked : List (Command T)) (answers : List (Reply T)) (state : State T)
       (old : NumberedHub T U B D) (hub : Hub T U B D)
@@ -79,8 +80,8 @@ module _ {T U B D : Type 0} (K : Type 0) (terms : Terms T U B D) where
       → payload_there sample hub ≡ Some values → length values < 2 ^ 63
       → WasSent old.hub.expired_connection_buffer asked answers state run subscriber values
 
-  -- A sample that was received is read later: its payload gives what it gave then. Between was a run of the machine, to a state for which
-  -- the hub stands at last; and the sample still goes by its number.
+  -- The `payload` of a sample returns later what it returned when the sample was received. Between the two was a run of the machine, to a
+  -- state that the hub represents at last; and the sample still has its number.
   abbrev pub PayloadStays : Type 0
   PayloadStays = (buffer : ℕ) (asked : List (Command T)) (answers : List (Reply T)) (old mid later : State T)
       → Runs terms.types (as_named terms.is_default) buffer asked new_state answers old

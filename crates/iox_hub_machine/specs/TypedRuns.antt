@@ -1,4 +1,4 @@
--- What a program called of a hub is a run of the machine.
+-- The calls of a program to a hub are a run of the machine.
 use Rattle.std.specs.Prelude.{ℕ, ◌+◌, ◌^◌, ◌<◌, List, [], ◌∷◌, ◌++◌}
 use Rattle.iox_command.specs.declared.command.Command.{Command}
 use Rattle.iox_command.specs.declared.reply.Reply.{Reply}
@@ -15,10 +15,10 @@ use Rattle.iox_machine.specs.State.{State, new_state}
 use Rattle.iox_negotiate_machine.specs.Laws.{HaveOwnHashes}
 use Rattle.iox_machine.specs.Choices.{as_named}
 
--- The terms of the hub are given.
+-- The parameters: the terms of the hub.
 module _ {T U B D : Type 0} (terms : Terms T U B D) where
-  -- A program called what these commands ask for, of a new hub, and was answered so: the machine may answer so to them, and the hub, with
-  -- what the program holds, stands for the state that they lead to.
+  -- A program made the calls of these commands to a new hub, and got these answers: the machine may give these answers to these commands,
+  -- and the hub, with what the program holds, represents the state that the machine reaches by them.
   pub record HasCalled (names : List (List ℕ)) (asked : List (Command T)) (answers : List (Reply T)) (hub : NumberedHub T U B D) : Type 0
     where
       pub state : State T
@@ -26,12 +26,12 @@ module _ {T U B D : Type 0} (terms : Terms T U B D) where
       pub stands : StandsAfter terms.types (as_named terms.is_default) terms.degrades terms.decides terms.reader_degrades names
           (all_asked asked) hub state
 
-  -- Nothing was called of a new hub.
+  -- A new hub has had no calls.
   abbrev pub CallsBegin : Type 0
   CallsBegin = (names : List (List ℕ)) (config : HubConfig) (hub : NumberedHub T U B D) → IsNew config hub → HasCalled names [] [] hub
 
-  -- One call more, which is a step, makes one command more. So it is where no two services of the names that are asked for share a hash,
-  -- all commands and steps are fewer than 2 ^ 56, and whoever is made of fixed actions for a port decides by these.
+  -- One call more, which is a step, adds one command. This holds if no two services of the names that are asked for share a hash, all
+  -- commands and actions of other nodes are fewer than 2 ^ 56, and handlers that are made of fixed actions decide by these.
   abbrev pub CallsGoOn : Type 0
   CallsGoOn = (names : List (List ℕ)) (asked : List (Command T)) (answers : List (Reply T)) (one : Command T) (answer : Reply T)
       (old new : NumberedHub T U B D)

@@ -1,4 +1,4 @@
--- What a typed call is in the machine by which a node or a port comes, or a factory is closed.
+-- What typed calls are in the machine that make a node, create a port, or close a factory.
 use Rattle.std.specs.Prelude.{ℕ, ◌≡◌, true, Option, None, Some, Result, Ok, Err}
 use Rattle.std.specs.Option.{unwrap_or}
 use Rattle.iox_command.specs.DomainValues.declared.create_error.PublisherCreateError.{PublisherCreateError}
@@ -33,44 +33,44 @@ use Rattle.iox_hub_commands.specs.declared.services.made.MadeFactory.{MadeFactor
 use Rattle.iox_hub_machine.specs.TypedSteps.{IsStepBy, hub_after_call}
 
 module _ {T : Type 0} where
-  -- how a node is told: by its number
+  -- The reply to making a node: the node's number.
   abbrev pub told_node : Result NodeHandle HubError → Reply T
   told_node (Ok node) = reply.NodeMade node.number
   told_node (Err why) = reply.Refused (refusal.Hub why)
 
-  -- how a publisher is told that came to a domain under a number there: by the number that it goes by
+  -- The reply to creating a publisher in a domain: the number that names it, or the refusal.
   abbrev pub told_publisher : Result ℕ PublisherCreateError → Made → Reply T
   told_publisher (Ok number) made = reply.PublisherMade made.publishers.next
   told_publisher (Err why) made = reply.Refused (refusal.Publisher why)
 
-  -- how a subscriber is told that came to a domain under a number there: by the number that it goes by
+  -- The reply to creating a subscriber in a domain: the number that names it, or the refusal.
   abbrev pub told_subscriber : Result ℕ SubscriberCreateError → Made → Reply T
   told_subscriber (Ok number) made = reply.SubscriberMade made.subscribers.next
   told_subscriber (Err why) made = reply.Refused (refusal.Subscriber why)
 
-  -- how a factory is told that was to be closed
+  -- The reply to closing a factory.
   abbrev pub told_closed : {F : Type 0} → Result (Unit {0}) (CloseError × Option F) → Reply T
   told_closed (Ok done) = reply.Done
   told_closed (Err (why, factory)) = reply.Refused (refusal.Close why)
 
--- What a program holds once it asked for a publisher: one that came to the domain goes by the next number. The machine's publishers lend as
--- many values as are asked for, and one of single values asks for one.
+-- What a program holds after it asked for a publisher: a new one gets the next number. The machine's publishers loan as many values as are
+-- asked for, and one of single values asks for one.
 abbrev pub having_publisher : DomainId → Result ℕ PublisherCreateError → Made → Made
 having_publisher domain (Ok number) made = with_publisher domain true number made
 having_publisher domain (Err why) made = made
 
--- What a program holds once it asked for a subscriber: one that came to the domain goes by the next number.
+-- What a program holds after it asked for a subscriber: a new one gets the next number.
 abbrev pub having_subscriber : DomainId → Result ℕ SubscriberCreateError → Made → Made
 having_subscriber domain (Ok number) made = with_subscriber domain number made
 having_subscriber domain (Err why) made = made
 
--- The factories that a program holds once one was to be closed: that is spent, unless it was handed back.
+-- The factories that a program holds after it closed one: that factory is spent, unless it was handed back.
 abbrev pub factories_then : {F : Type 0} → Result (Unit {0}) (CloseError × Option F) → ℕ → FactoryTable → FactoryTable
 factories_then (Ok done) number table = removed table number
 factories_then (Err (why, None)) number table = removed table number
 factories_then (Err (why, Some factory)) number table = table
 
--- The terms of the hub are given.
+-- The parameters: the terms of the hub.
 module _ {T U B D : Type 0} (terms : Terms T U B D) where
   -- A node is made.
   abbrev pub NewNodeIsStep : Type 0
@@ -79,8 +79,8 @@ module _ {T U B D : Type 0} (terms : Terms T U B D) where
       → hub ≡ record old.hub { nodes = one_more old.hub.nodes }
       → IsStepBy terms command.Node old (told_node answer) (hub_after_call old old.made hub)
 
-  -- A publisher comes by a factory of a publish-subscribe service, with what these options name, and whoever is made of the actions that
-  -- they name decides for it. Whoever is asked how many slots it gets answers what the options name, or as many as it needs.
+  -- A publisher is created for a publish-subscribe factory with these options, and its handlers are made of the actions that the options
+  -- name. The override of its number of slots answers what the options name, or as many as it needs.
   abbrev pub PublisherIsStep : (ℕ → ℕ → Type 0) → Type 0
   PublisherIsStep overrides = (factory : ℕ) (opened : Opened) (options : PublisherOptions) (header : U)
       (old : NumberedHub T U B D) (hub : Hub T U B D) (answer : Result ℕ PublisherCreateError)
@@ -96,8 +96,8 @@ module _ {T U B D : Type 0} (terms : Terms T U B D) where
       → IsStepBy terms (command.Publisher factory options) old (told_publisher answer old.made)
       (hub_after_call old (having_publisher (domain_of_factory opened) answer old.made) hub)
 
-  -- A subscriber comes by a factory of a publish-subscribe service, with what these options name, and whoever is made of the action that
-  -- they name decides for it.
+  -- A subscriber is created for a publish-subscribe factory with these options, and its handler is made of the action that the options
+  -- name.
   abbrev pub SubscriberIsStep : Type 0
   SubscriberIsStep = (factory : ℕ) (opened : Opened) (options : SubscriberOptions) (old : NumberedHub T U B D) (hub : Hub T U B D)
       (answer : Result ℕ SubscriberCreateError)
@@ -111,7 +111,7 @@ module _ {T U B D : Type 0} (terms : Terms T U B D) where
       → IsStepBy terms (command.Subscriber factory options) old (told_subscriber answer old.made)
       (hub_after_call old (having_subscriber (domain_of_factory opened) answer old.made) hub)
 
-  -- A factory, of this type by the pattern of its service, is closed, or handed back while it is in use.
+  -- A factory, whose type depends on the pattern of its service, is closed, or handed back while it is in use.
   abbrev pub CloseIsStep : Type 0 → Type 0
   CloseIsStep F = (number : ℕ) (made : MadeFactory) (factory : F) (old : NumberedHub T U B D) (hub : Hub T U B D)
       (answer : Result (Unit {0}) (CloseError × Option F))

@@ -1,5 +1,5 @@
 -- What a typed call is in the machine: a step, by the command that asks for the same. A program holds its factories, ports, loans and
--- samples as values; here they go by numbers, in the order in which they came, as what commands make does.
+-- samples as values; here these have numbers, in the order in which they were made, as what commands make has.
 use Rattle.std.specs.Prelude.{ℕ, ◌+◌, ◌^◌, ◌<◌, ◌≡◌, List, Option, None, Some, Result, Ok, Err, option_map}
 use Rattle.std.specs.Global.{Vec}
 use Rattle.std.specs.Vec.{vec_items}
@@ -30,36 +30,35 @@ use Rattle.iox_negotiate_machine.specs.Laws.{HaveOwnHashes}
 use Rattle.iox_machine.specs.Choices.{as_named}
 
 module _ {T U K S : Type 0} where
-  -- What a program holds once it asked for a loan: one that was made goes by the next number.
+  -- What a program holds after it asked for a loan: a new one gets the next number.
   abbrev pub having_lent : Result (Lent T U K S) LoanError → Made → Made
   having_lent (Ok loan) made = with_loan loan.port loan.slot made
   having_lent (Err why) made = made
 
-  -- how a loan is told: by its number, or why there is none
+  -- The reply to a loan: its number, or the refusal.
   abbrev pub told_loan : Result (Lent T U K S) LoanError → Made → Reply T
   told_loan (Ok loan) made = reply.LoanMade made.loans.next
   told_loan (Err why) made = reply.Refused (refusal.Loan why)
 
 module _ {T U : Type 0} where
-  -- how a send is told: to how many it went, that it waits, or why it was refused
+  -- The reply to a send: how many mailboxes took the message, that the send is blocked, or the refusal.
   abbrev pub told_sent : Result (Sent T U) SendError → Reply T
   told_sent (Ok (sent.Delivered count)) = reply.Delivered count
   told_sent (Ok (sent.Blocked blocked)) = reply.Blocked
   told_sent (Err why) = reply.Refused (refusal.Send why)
 
 module _ {T U K : Type 0} where
-  -- What a program holds once it received: a sample that came goes by the next number.
+  -- What a program holds after it received: a received sample gets the next number.
   abbrev pub having_received : Result (Option (Sample T U K)) ReceiveError → Made → Made
   having_received (Ok (Some sample)) made = with_sample sample.port sample.taken made
   having_received (Ok None) made = made
   having_received (Err why) made = made
 
-  -- the values of a sample that a hub holds: those that its `payload` gives
+  -- The values of a sample that a hub holds: those that its `payload` returns.
   abbrev pub payload_there : {B D : Type 0} → Sample T U K → Hub T U B D → Option (List T)
   payload_there sample hub = option_map (λ message. message.values) (message_found sample.taken (hub_ports sample.port.domain hub))
 
-  -- What was received is told so: a sample by its number, with the values that its `payload` gives then; that nothing waits; or why there
-  -- is none.
+  -- The reply to a receive: a sample by its number, with the values that its `payload` returns then; that nothing waits; or the refusal.
   abbrev pub IsToldReceived : {B D : Type 0} → Result (Option (Sample T U K)) ReceiveError → Made → Hub T U B D → Reply T → Type 0
   IsToldReceived (Ok (Some sample)) made hub told =
       (values : Vec T) × (payload_there sample hub ≡ Some (vec_items values)) × (told ≡ reply.Received made.samples.next values)
@@ -67,16 +66,16 @@ module _ {T U K : Type 0} where
   IsToldReceived (Err why) made hub told = told ≡ reply.Refused (refusal.Receive why)
 
 module _ {T U B D : Type 0} where
-  -- a hub that a call left, and what its program holds then of ports, loans and samples; factories are as they were
+  -- The hub after a call, with the ports, loans and samples that its program holds then; factories are as they were.
   abbrev pub hub_after_call : NumberedHub T U B D → Made → Hub T U B D → NumberedHub T U B D
   hub_after_call old made hub = record old { hub = hub; made = made }
 
--- The terms of the hub are given.
+-- The parameters: the terms of the hub.
 module _ {T U B D : Type 0} (terms : Terms T U B D) where
-  -- A call of a hub is a step of the machine by this command, with this answer. Where the hub, with what its program holds, stands for a
-  -- state, the machine may answer so from there, and the hub that the call leaves, with what the program holds then, stands for what the
-  -- machine is then. So it is where no two services of the names that are asked for share a hash, all commands and steps, with those
-  -- before, are fewer than 2 ^ 56, and whoever is made of fixed actions for a port decides by these.
+  -- A call of a hub is a step of the machine by this command, with this answer. If the hub, with what its program holds, represents a
+  -- state, the machine may give this answer from there; and the hub after the call, with what the program holds then, represents the
+  -- machine's state afterwards. This holds if no two services of the names that are asked for share a hash, all commands and actions of
+  -- other nodes, with those before, are fewer than 2 ^ 56, and handlers that are made of fixed actions decide by these.
   abbrev pub IsStepBy : Command T → NumberedHub T U B D → Reply T → NumberedHub T U B D → Type 0
   IsStepBy asked old answer new = (names : List (List ℕ)) (most : ℕ) (state : State T)
       → DecidesAsFixed terms.fixed terms.degrades terms.decides → AnswersAsFixed terms.fixed_reader terms.reader_degrades

@@ -24,10 +24,10 @@ use Rattle.iox_hub_commands.specs.declared.numbered_hub.NumberedHub.{NumberedHub
 use Rattle.iox_hub_commands.specs.declared.ports.made.MadeSample.{MadeSample}
 use Rattle.iox_hub_machine.specs.TypedSteps.{IsStepBy, IsToldReceived, having_received, hub_after_call}
 
--- Subscribers and samples are of one kind: single values, or slices. The terms of the hub are given. Each subscriber and each sample of
--- which a call is goes by a number.
+-- Subscribers and samples are of one kind: single values, or slices. The parameters: the kind, and the terms of the hub. The subscriber or
+-- sample of each call has a number.
 module _ {T U B D : Type 0} (K : Type 0) (terms : Terms T U B D) where
-  -- A subscriber receives. A sample that comes is told with the values that its `payload` gives then.
+  -- A subscriber receives; the reply to a received sample has the values that its `payload` returns then.
   abbrev pub ReceiveIsStep : Type 0
   ReceiveIsStep = (number : ℕ) (receiver : PortId) (old : NumberedHub T U B D) (hub : Hub T U B D)
       (answer : Result (Option (Sample T U K)) ReceiveError) (told : Reply T)
@@ -36,14 +36,14 @@ module _ {T U B D : Type 0} (K : Type 0) (terms : Terms T U B D) where
       → IsToldReceived answer old.made hub told
       → IsStepBy terms (command.Receive number) old told (hub_after_call old (having_received answer old.made) hub)
 
-  -- It is told whether some connection of a subscriber has data.
+  -- The reply says whether some connection of a subscriber has data.
   abbrev pub HasIsStep : Type 0
   HasIsStep = (number : ℕ) (receiver : PortId) (old : NumberedHub T U B D) (hub : Hub T U B D) (answer : Result Bool ConnectionFailure)
       → value_at old.made.subscribers number ≡ Some receiver
       → TellsSamples hub_ports with_hub_ports (subscriber_may_degrade terms.reader_degrades) receiver old.hub answer hub
       → IsStepBy terms (command.Has number) old (has_reply (Some answer)) (hub_after_call old old.made hub)
 
-  -- A subscriber follows the list of publishers.
+  -- A subscriber updates its connections.
   abbrev pub SubscriberUpdateIsStep : Type 0
   SubscriberUpdateIsStep = (number : ℕ) (follower : PortId) (old : NumberedHub T U B D) (hub : Hub T U B D)
       (answer : Result (Unit {0}) ConnectionFailure)
@@ -51,7 +51,8 @@ module _ {T U B D : Type 0} (K : Type 0) (terms : Terms T U B D) where
       → FollowsPublishers hub_ports with_hub_ports (subscriber_may_degrade terms.reader_degrades) follower old.hub answer hub
       → IsStepBy terms (command.Update (port.Subscriber number)) old (updated_reply (Some answer)) (hub_after_call old old.made hub)
 
-  -- A subscriber leaves, and is spent: so `leave` does, and `drop_with`, which hands it back where it can't.
+  -- A subscriber is closed, and is spent. `leave` does this, and so does `drop_with`, which hands the subscriber back if it can't be
+  -- closed.
   abbrev pub SubscriberLeaveIsStep : Type 0
   SubscriberLeaveIsStep = (number : ℕ) (leaver : PortId) (old : NumberedHub T U B D) (hub : Hub T U B D) (left : Bool)
       → value_at old.made.subscribers number ≡ Some leaver
@@ -59,14 +60,14 @@ module _ {T U B D : Type 0} (K : Type 0) (terms : Terms T U B D) where
       → IsStepBy terms (command.Leave (port.Subscriber number)) old (done_reply left)
       (hub_after_call old (removed_if left (without_subscriber number) old.made) hub)
 
-  -- A sample is read: these values are those that its `payload` gives. Nothing changes.
+  -- A sample is read: the values are those that its `payload` returns. Nothing changes.
   abbrev pub PayloadIsStep : Type 0
   PayloadIsStep = (number : ℕ) (made : MadeSample) (old : NumberedHub T U B D) (values : Vec T)
       → value_at old.made.samples number ≡ Some made
       → values_under hub_ports (Some made) old.hub ≡ Some (vec_items values)
       → IsStepBy terms (command.Read number) old (reply.Values values) old
 
-  -- A sample is released, and is spent: so `release` does, and `drop_with`.
+  -- A sample is released, and is spent. `release` does this, and so does `drop_with`.
   abbrev pub ReleaseIsStep : Type 0
   ReleaseIsStep = (number : ℕ) (made : MadeSample) (old : NumberedHub T U B D) (hub : Hub T U B D) (released : Bool)
       → value_at old.made.samples number ≡ Some made

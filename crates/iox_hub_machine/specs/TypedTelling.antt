@@ -1,4 +1,4 @@
--- What is told in the domains of a hub as sends begin.
+-- What is recorded in the domains of a hub as sends begin.
 use Rattle.std.specs.Prelude.{ℕ, ◌≡◌, ◌≢◌, List, [], ◌++◌, Some}
 use Rattle.iox_command.specs.DomainValues.declared.backpressure.BackpressureDecision.{BackpressureDecision}
 use Rattle.iox_command.specs.DomainValues.declared.backpressure.BackpressureInfo.{BackpressureInfo}
@@ -19,43 +19,43 @@ use Rattle.iox_hub_commands.specs.CommandSteps.{publisher_may_decide, publisher_
 use Rattle.iox_hub_commands.specs.Grown.{AnyDecision, AnySlots}
 
 module _ {T U B D : Type 0} where
-  -- Each message in use of a domain of a hub tells, by the domain's own numbers, what one told as its send began. Of a domain that isn't
-  -- here nothing is said.
+  -- The header of each message in use of a domain of a hub is, by the domain's own numbers, what was recorded as its send began. Nothing is
+  -- stated of a domain that isn't in the hub.
   abbrev pub TellInHub : List (SentHeader T U) → DomainId → Hub T U B D → Type 0
   TellInHub sent id hub = (ports : ServicePorts T U) → hub_ports id hub ≡ Some ports → TellAsSent own_numbers sent ports
 
-  -- Where a call of the ports of a domain puts what it leaves into the hub, that adds there what the call tells as it begins a send, if it
-  -- does; an override and handlers answer as they may.
+  -- If a call changes the ports of a domain in the hub, what it records as it begins a send, if it does, is added there; the override and
+  -- handlers answer as they may.
   abbrev pub AddsTold : (ℕ → ℕ → Type 0) → (DegradationInfo → DegradationAction → Type 0)
       → (BackpressureInfo → BackpressureDecision → Type 0) → DomainId → Hub T U B D → Type 0
   AddsTold overrides may decide id hub = (call : PortCall T U) (ports after : ServicePorts T U) (sent : List (SentHeader T U))
       → hub_ports id hub ≡ Some ports → Happens overrides may decide call ports after → TellInHub sent id hub
       → TellInHub (sent ++ headed_as_sent own_numbers call ports) id (with_hub_ports id after hub)
 
--- What is told in the domains of a hub. A typed call of a port, a loan or a sample is one call of the ports of its domain, or some, as its
--- contract says of the hub as its home. It may change, too, who decides for a port. What may be answered is that of an override, of who
--- decides for a publisher, and of who decides for a subscriber.
+-- What is recorded in the domains of a hub. A typed call of a port, a loan or a sample is one or more calls of the ports of its domain, as
+-- its contract says of the hub as its home. It may also change the handlers of a port. Given is what may be answered by an override, by
+-- handlers of a publisher, and by the handler of a subscriber.
 pub record HubTells (T U : Type 0) {O B D : Type 0} (overrides : O → ℕ → ℕ → Type 0)
     (degrades : B → DegradationCause → DegradationInfo → DegradationAction → Type 0)
     (decides : B → BackpressureInfo → BackpressureDecision → Type 0)
     (reader_degrades : D → DegradationCause → DegradationInfo → DegradationAction → Type 0) : Type 0 where
-  -- of ports before any came nothing is in use
+  -- Before any port was created nothing is in use.
   pub begins : (id : DomainId) (hub : Hub T U B D) (service : ℕ) (sizes : ServiceSizes)
       → hub_ports id hub ≡ Some (no_ports service sizes) → TellInHub [] id hub
-  -- what a publisher is asked adds what it tells, and so does what a subscriber is asked: who decides for the port answers
+  -- A call of a publisher adds what it records, and so does a call of a subscriber: the port's handlers answer.
   pub publishers : (id : DomainId) (number : ℕ) (hub : Hub T U B D)
       → AddsTold AnySlots (publisher_may_degrade degrades id number hub) (publisher_may_decide decides id number hub) id hub
   pub subscribers : (id : DomainId) (number : ℕ) (hub : Hub T U B D)
       → AddsTold AnySlots (subscriber_may_degrade reader_degrades id number hub) AnyDecision id hub
-  -- so it is where a port comes: who is to decide for it answers
+  -- The same holds when a port is created: its new handlers answer.
   pub publisher_comes : (overriding : O) (handlers : B) (id : DomainId) (hub : Hub T U B D)
       → AddsTold (overrides overriding) (degrades handlers FailedToEstablishConnection) AnyDecision id hub
   pub subscriber_comes : (handler : D) (id : DomainId) (hub : Hub T U B D)
       → AddsTold AnySlots (reader_degrades handler FailedToEstablishConnection) AnyDecision id hub
-  -- nothing is added in another domain
+  -- Nothing is added in another domain.
   pub others : (id other : DomainId) (after : ServicePorts T U) (hub : Hub T U B D) (sent : List (SentHeader T U)) → id ≢ other
       → TellInHub sent other hub → TellInHub sent other (with_hub_ports id after hub)
-  -- nor where only changes who decides for ports
+  -- Nothing is added if only the handlers of ports change.
   pub decided : (id other : DomainId) (change : DomainState T U B D → DomainState T U B D) (hub : Hub T U B D)
       (sent : List (SentHeader T U))
       → ((state : DomainState T U B D) → (change state).ports ≡ state.ports) → TellInHub sent other hub

@@ -1,4 +1,4 @@
--- The terms of a hub of which calls are typed.
+-- The terms of a hub with typed calls.
 use Rattle.iox_command.specs.NegotiateBase.DescribeBase.declared.type_detail.TypeVariant.{TypeVariant}
 use Rattle.iox_domain.specs.Fitting.{asked_types}
 use Rattle.iox_hub_commands.specs.Terms.{Terms}

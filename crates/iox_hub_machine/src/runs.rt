@@ -11,7 +11,7 @@ use iox_describe_base::ZeroCopySend;
 use iox_domain_values::{Decides, Degrades};
 use iox_hub_commands::{PublisherHandlers, SubscriberHandler};
 
-/// A new hub stands for a new machine, after no command, whatever names are asked for.
+/// A new hub represents a new machine, after no command, whatever names are asked for.
 pub fn new_hub_begins<
     T: ZeroCopySend + Default,
     U: ZeroCopySend,
@@ -25,15 +25,15 @@ pub fn new_hub_begins<
         (λ handlers. B.degrades handlers) (λ handlers. B.decides handlers) (λ handler. D.degrades handler) }
 {}
 
-/// A hub that stands for a state of the machine goes on as the machine does from there. What it is replied to commands, from the first one
-/// on or until it stops, the machine may answer. Where it doesn't stop it stands for what the machine is then; where it stops at a command,
-/// for what the machine is before that, or for what it is after that, if the values of the sample that came last fit in a vector.
+/// A hub that represents a state of the machine goes on as the machine does from there. The machine may give the hub's replies to commands,
+/// from the first one on or until the run stops. If the run doesn't stop, the hub represents the machine's state then; if it stops at a
+/// command, the machine's state before that command, or after it, if the values of the newest sample fit in a vector.
 ///
-/// `StandsAfter` says what is asked of the hub: a new hub is so after no command (`new_hub_begins`), and a run keeps it so; so two runs of
-/// a hub come to one. `IsRun` is what `NumberedHub::run` says of its replies. No two services of the names that are asked for may share a
-/// hash, all commands and steps, with those before the run, must be fewer than 2 ^ 56, and whoever is made of fixed actions for a port must
-/// decide by these, as `FixedHandlers` and `FixedDegradation` do. What was named may be chosen for each port that comes later: so it may
-/// where nobody is handed in for those, whoever decides for ports that came before.
+/// `StandsAfter` is the premise on the hub: it holds of a new hub after no command (`new_hub_begins`), and a run keeps it; so two runs of a
+/// hub make one. `IsRun` is what `NumberedHub::run` ensures of its replies. No two services of the names that are asked for may share a
+/// hash, all commands and actions of other nodes, with those before the run, must be fewer than 2 ^ 56, and handlers that are made of fixed
+/// actions must decide by these, as `FixedHandlers` and `FixedDegradation` do. What was named may be chosen for each port that is created
+/// later; this holds if no handlers are handed in for those, whatever the handlers of earlier ports are.
 pub fn runs_go_on<
     T: ZeroCopySend + Default,
     U: ZeroCopySend + Default,
@@ -45,9 +45,9 @@ pub fn runs_go_on<
         (chosen_by T.is_default (λ handlers. B.decides handlers) (λ handlers. B.degrades handlers) (λ handler. D.degrades handler) handed) }
 {}
 
-/// So it goes on whoever decides for the ports that come: who is made of actions, or who is handed in for one command. Whatever may be
-/// decided and answered by that one may be chosen for the port of the number that it gets: so it may where it is known by this number who
-/// was handed in (`chosen_by`).
+/// The hub goes on so with any handlers of new ports, made of actions or handed in for one command. Whatever these may decide and answer
+/// must be a choice for the port with the number that it gets; this holds if the choices name the handed-in handlers by this number
+/// (`chosen_by`).
 pub fn decided_runs_go_on<
     T: ZeroCopySend + Default,
     U: ZeroCopySend + Default,
@@ -60,11 +60,11 @@ pub fn decided_runs_go_on<
         (detail FixedSize T.name T.size T.alignment) (detail FixedSize U.name U.size U.alignment) U.is_default }
 {}
 
-/// What a new hub is replied to commands is what a new machine may answer: to all of them, or, where the run stopped, to the first of them,
-/// where a run may stop: a command is left, and either nothing was replied, or the next one receives or reads. `IsRun` and `StopsIfRoomy`
-/// are what `NumberedHub::run` says of its replies. No two services of the names that are asked for may share a hash, commands and steps
-/// must be fewer than 2 ^ 56, and whoever is made of fixed actions for a port must decide by these, as `FixedHandlers` and
-/// `FixedDegradation` do.
+/// The replies of a new hub to commands are ones that a new machine may give: to all of them, or, if the run stopped, to those before a
+/// command at which a run may stop: a command is left, and either there are no replies, or the next command receives or reads. `IsRun` and
+/// `StopsIfRoomy` are what `NumberedHub::run` ensures of its replies. No two services of the names that are asked for may share a hash,
+/// commands and actions of other nodes must be fewer than 2 ^ 56, and handlers that are made of fixed actions must decide by these, as
+/// `FixedHandlers` and `FixedDegradation` do.
 pub fn runs_answer<
     T: ZeroCopySend + Default,
     U: ZeroCopySend + Default,
@@ -75,8 +75,8 @@ pub fn runs_answer<
         (λ handlers. B.degrades handlers) (λ handlers. B.decides handlers) D.fixed (λ handler. D.degrades handler)) }
 {}
 
-/// What a hub that replied to all commands stands for is a state to which a new machine comes with the same replies, by the same premises:
-/// what is so of each state that a run of the machine leads to, is so of what such a hub stands for.
+/// A hub that replied to all commands represents a state that a new machine reaches with the same replies, under the same premises. So what
+/// holds of each state that a run of the machine reaches holds of the state that such a hub represents.
 pub fn runs_stand<
     T: ZeroCopySend + Default,
     U: ZeroCopySend + Default,

@@ -1,9 +1,9 @@
-//! Typed calls: what a program asks of a hub by its factories, ports, loans and samples as values.
+//! Typed calls: calls by which a program uses a hub, with its factories, ports, loans and samples as values.
 //!
-//! Most laws are of calls. `IsStepBy` says what a call is in the machine: where the hub, with what its program holds by numbers, stands for
-//! a state, the machine may answer so from there to the command that asks for the same, and what the call leaves stands for what the
-//! machine is then. So what a program calls, from a new hub on, is a run of the machine (`HasCalled`). Messages are values of one type, or
-//! slices of them.
+//! Most theorems are about single calls. `IsStepBy` says what a call is in the machine: if the hub, with what its program holds by numbers,
+//! represents a state, the machine may give this answer from there to the command that asks for the same, and the hub after the call
+//! represents the machine's state then. So the calls of a program, from a new hub on, are a run of the machine (`HasCalled`). Messages are
+//! values of one type, or slices of them.
 ghost use Rattle.iox_hub_base.specs.DescribeBase.declared.type_detail.TypeVariant.{TypeVariant};
 ghost use Rattle.iox_hub_commands.specs.Terms.{terms_of};
 ghost use Rattle.iox_hub_machine.specs.TypedHeaders.{HeaderIsStep, HeaderNamesPublisher, HeaderReadAsSent};
@@ -22,8 +22,8 @@ use iox_domain_values::Overrides;
 use iox_hub_commands::{PublisherHandlers, SubscriberHandler};
 use iox_machine::{received_was_sent, samples_read_the_same};
 
-/// What a program called of a hub, from a new one on, is a run of the machine: nothing was called of a new hub, and a call that is a step
-/// makes one command more. The hub, with what the program holds, stands for the state that the run leads to.
+/// The calls of a program to a hub, from a new one on, are a run of the machine: a new hub has had no calls, and a call that is a step adds
+/// one command. The hub, with what the program holds, represents the state that the run reaches.
 pub fn typed_calls_are_a_run<
     T: ZeroCopySend + Default,
     U: ZeroCopySend + Default,
@@ -38,9 +38,9 @@ pub fn typed_calls_are_a_run<
         (λ handler. D.degrades handler))) }
 {}
 
-/// Where a hub stands for a state of the machine, what its program holds by numbers may be used: ports stand, loans are out, and samples
-/// are held, also those whose subscriber left. These are the conditions of their calls, but for the values of a loan, for sends that
-/// wait, and for a sample of a single value, that it has one.
+/// If a hub represents a state of the machine, what its program holds by numbers can be used: ports are open, loans are out, and samples
+/// are held, even those whose subscriber was closed. These are the conditions of the calls on them, except those about the values of a
+/// loan, about blocked sends, and that a sample of a single value has one.
 pub fn what_is_held_may_be_used<
     T: ZeroCopySend + Default,
     U: ZeroCopySend + Default,
@@ -52,15 +52,15 @@ pub fn what_is_held_may_be_used<
         (λ handler. D.degrades handler))) }
 {}
 
-/// Each call by which a node is made, a service is created, opened or acted on, or a subscriber comes is a step.
+/// Each call that makes a node, creates, opens or acts on a service, or creates a subscriber is a step.
 ///
-/// - A node is made: `new_node`.
-/// - A node creates a service, opens it, or does either: `create_with_attributes_in`, `open_with_attributes_in` and
-///   `open_or_create_with_attributes_in` of a builder, with lists of steps of nodes outside the hub that are those that the command names.
-///   A factory that was made goes by the next number.
-/// - Nodes outside the hub act on a service: `foreign`, with the steps that the command names.
-/// - A subscriber comes by a factory of a publish-subscribe service: `create` and `create_slice` of its builder, with what the options of
-///   the command name.
+/// - Making a node: `new_node`.
+/// - Creating a service, opening it, or opening or creating it: `create_with_attributes_in`, `open_with_attributes_in` and
+///   `open_or_create_with_attributes_in` of a builder, with the lists of actions of other nodes that the command names.
+///   A new factory gets the next number.
+/// - Actions of other nodes on a service: `foreign`, with the actions that the command names.
+/// - Creating a subscriber by a publish-subscribe factory: `create` and `create_slice` of its builder, with what the options of the
+///   command name.
 pub fn typed_service_calls_are_steps<
     T: ZeroCopySend + Default,
     U: ZeroCopySend + Default,
@@ -72,9 +72,9 @@ pub fn typed_service_calls_are_steps<
         (λ handler. D.degrades handler))) }
 {}
 
-/// A publisher comes by a factory of a publish-subscribe service: `create` and `create_slice` of its builder, with what the options of the
-/// command name. One of single values is named as one with one value in a loan, whose room doesn't grow. Whoever is asked how many slots it
-/// gets answers what the options name.
+/// Creating a publisher by a publish-subscribe factory: `create` and `create_slice` of its builder, with what the options of the command
+/// name. A publisher of single values is named as one with one value in a loan, which never gets a larger segment. The override of its
+/// number of slots answers what the options name.
 pub fn typed_publishers_come_by_steps<
     T: ZeroCopySend + Default,
     U: ZeroCopySend + Default,
@@ -87,7 +87,7 @@ pub fn typed_publishers_come_by_steps<
         (λ handler. D.degrades handler))) (O.overrides _overriding.now) }
 {}
 
-/// A factory is closed, or handed back while it is in use: `close`.
+/// Closing a factory, or handing it back while it is in use: `close`.
 pub fn typed_closes_are_steps<
     T: ZeroCopySend + Default,
     U: ZeroCopySend + Default,
@@ -100,18 +100,17 @@ pub fn typed_closes_are_steps<
         (λ handler. D.degrades handler))) F }
 {}
 
-/// Each call of a publisher, of its loans and of its sends that wait is a step.
+/// Each call of a publisher, of its loans and of its blocked sends is a step.
 ///
-/// - A publisher lends values to be written: `loan_slice_uninit`, and `loan_uninit`, which lends one. A loan that was made goes by the next
-///   number.
-/// - A publisher of which no send waits lends values that are written: `loan_slice`, and `loan`, which lends one. Each is one default.
-/// - The values of a loan are written at once: `write_from_slice`, and `payload_write` and `write_payload` of one value. Where it hasn't as
-///   many the command is skipped, and nothing is written. So it is where as many are written one after the other: `write_from_fn`.
-/// - A value of a loan that is written changes at a place that the loan has: `payload_mut` and `value_mut`, as the reference ends.
-/// - Values are lent, written and sent at once: `send_slice`, and `send_copy` of one value. No send of the publisher waits.
-/// - A loan is sent, or given up: `send` and `drop_with` of a loan. It is spent.
-/// - A send that waits is tried again, or given up: `retry`, `give_up` and `drop_with` of a send that waits.
-/// - A publisher follows the list of subscribers, or leaves: `update_connections`, `leave` and `drop_with` of a publisher.
+/// - Loaning values to be written: `loan_slice_uninit`, and `loan_uninit` for one. A new loan gets the next number.
+/// - Loaning written values, by a publisher without a blocked send: `loan_slice`, and `loan` for one. All have one default value.
+/// - Writing the values of a loan at once: `write_from_slice`, and `payload_write` and `write_payload` for one value. If the loan has
+///   another number of values, the command is skipped, and nothing is written. Writing them one after the other: `write_from_fn`.
+/// - Changing a value of a written loan at a place that the loan has: `payload_mut` and `value_mut`, as the reference ends.
+/// - Loaning values, writing and sending them at once: `send_slice`, and `send_copy` for one value. No send of the publisher is blocked.
+/// - Sending or dropping a loan: `send` and `drop_with` of a loan. The loan is spent.
+/// - Trying a blocked send again, or giving it up: `retry`, `give_up` and `drop_with` of a blocked send.
+/// - Updating a publisher's connections, or closing it: `update_connections`, `leave` and `drop_with` of a publisher.
 pub fn typed_publisher_calls_are_steps<
     T: ZeroCopySend + Default,
     U: ZeroCopySend + Default,
@@ -126,12 +125,11 @@ pub fn typed_publisher_calls_are_steps<
 
 /// Each call of a subscriber and of its samples is a step.
 ///
-/// - A subscriber receives: `receive`. A sample that came goes by the next number, and what the machine answers of it are the values that
-///   its `payload` gives then.
-/// - A subscriber follows the list of publishers, is told whether messages wait, or leaves: `update_connections`, `has_samples`, `leave`
+/// - Receiving: `receive`. A received sample gets the next number, and the machine's answer has the values that its `payload` returns then.
+/// - Updating a subscriber's connections, looking for data, or closing it: `update_connections`, `has_samples`, `leave`
 ///   and `drop_with` of a subscriber.
-/// - A sample is read, or released: `payload`, `release` and `drop_with` of a sample. One that goes by a number is held, so that it is
-///   released in any case.
+/// - Reading or releasing a sample: `payload`, `release` and `drop_with` of a sample. A numbered sample is held, so it is released in any
+///   case.
 pub fn typed_subscriber_calls_are_steps<
     T: ZeroCopySend + Default,
     U: ZeroCopySend + Default,
@@ -144,8 +142,8 @@ pub fn typed_subscriber_calls_are_steps<
         (λ handler. D.degrades handler))) }
 {}
 
-/// The user header of a loan is written: `user_header_write`, and `user_header_mut` as the reference ends. The machine has none, so the hub
-/// stands for the state for which it stood, and what a program called is the run of the machine that it was.
+/// Writing the user header of a loan: `user_header_write`, and `user_header_mut` as the reference ends. The machine has no user headers, so
+/// the hub represents the same state as before, and the calls of the program are the same run of the machine.
 pub fn typed_user_headers_keep_standing<
     T: ZeroCopySend + Default,
     U: ZeroCopySend + Default,
@@ -160,8 +158,8 @@ pub fn typed_user_headers_keep_standing<
         D.fixed (λ handler. D.degrades handler))) }
 {}
 
-/// The header of a sample is read: `header`. The sequence number that it tells is what the machine answers of the sample. The publisher of
-/// which it tells the id is that of the machine's sample.
+/// Reading the header of a sample: `header`. The sequence number that it reports is the machine's answer for the sample. The publisher
+/// whose id it reports is that of the machine's sample.
 pub fn typed_headers_are_read_by_steps<
     T: ZeroCopySend + Default,
     U: ZeroCopySend + Default,
@@ -176,15 +174,15 @@ pub fn typed_headers_are_read_by_steps<
         (λ handler. D.degrades handler))) }
 {}
 
-/// What is told in the domains of a hub as sends begin: nothing before any port came, and by a call of the ports of a domain what that call
-/// tells, in this domain alone. So each typed call of a port, a loan or a sample adds what it tells.
+/// What is recorded in the domains of a hub as sends begin: nothing before any port was created, and by a call of the ports of a domain
+/// what that call records, in this domain alone. So each typed call of a port, a loan or a sample adds what it records.
 pub fn typed_calls_tell<T, U, O: Overrides, B: PublisherHandlers, D: SubscriberHandler>()
     ensures { HubTells T U (λ overriding. O.overrides overriding) (λ handlers. B.degrades handlers) (λ handlers. B.decides handlers)
         (λ handler. D.degrades handler) }
 {}
 
-/// What the `header` and the `user_header` of a sample tell was told as a send began in its domain, with the values and the sequence number
-/// of the machine's sample, and by the publisher that this one names. `typed_calls_tell` says what is told.
+/// What the `header` and the `user_header` of a sample report was recorded as a send began in its domain, with the values and the sequence
+/// number of the machine's sample, and by the publisher that the machine's sample names. `typed_calls_tell` says what is recorded.
 pub fn typed_headers_are_as_sent<
     T: ZeroCopySend + Default,
     U: ZeroCopySend + Default,
@@ -196,8 +194,8 @@ pub fn typed_headers_are_as_sent<
         (λ handler. D.degrades handler))) }
 {}
 
-/// What the `payload` of a sample gives, once a subscriber received it, are the values of a message whose send began before, in the run of
-/// the machine that the calls of the program are; its publisher is of the subscriber's own service, and has been so ever since.
+/// The values that the `payload` of a sample returns, once a subscriber received it, are those of a message whose send began before, in the
+/// run of the machine that the calls of the program are. Its publisher is of the subscriber's own service, and has been so since that send.
 pub fn payload_was_sent<
     T: ZeroCopySend + Default,
     U: ZeroCopySend + Default,
@@ -212,8 +210,8 @@ pub fn payload_was_sent<
     received_was_sent::<T, B, D>();
 }
 
-/// What the `payload` of a sample gives is what it gave when it was received, as long as the sample goes by its number, whatever was called
-/// meanwhile.
+/// The `payload` of a sample returns what it returned when the sample was received, as long as the sample has its number, whatever was
+/// called meanwhile.
 pub fn payload_stays<
     T: ZeroCopySend + Default,
     U: ZeroCopySend + Default,

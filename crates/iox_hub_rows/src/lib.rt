@@ -11,6 +11,7 @@
 //! - `clones`: what ports tell of themselves whose builders were copied.
 //! - `custom`: ports of a payload that only the description says.
 //! - `ports`: what must be so before a call of a port.
+//! - `making`: ports and domains are made, or say that they found no memory.
 //! - `handled`: handlers that commands name by their places.
 //! - `lanes`: a service of a hub goes by lanes, and by commands again.
 //! - `recorded`: a recorded hub, called as a program calls it.
@@ -30,6 +31,8 @@ mod custom;
 mod handled;
 #[cfg(test)]
 mod lanes;
+#[cfg(test)]
+mod making;
 #[cfg(test)]
 mod ports;
 #[cfg(test)]

@@ -1,4 +1,4 @@
-//! The container whose capacity its type fixes.
+//! A container whose capacity is part of its type.
 ghost use Rattle.std.specs.Prelude.{◌≡◌, ◌≤◌, ◌↔◌, ◌+◌, ℕ, List, Option, true, false, length, slice_get, not, nat_eq, IfOk, OnErr, IsErr};
 ghost use Rattle.iox_container.specs.declared.container.Member.{Member};
 ghost use Rattle.std.specs.Bool.{OnFalse};
@@ -16,8 +16,8 @@ use iox_container::{
 use std::alloc::{AllocError, Global};
 use std::marker::Model;
 
-/// `CAPACITY` places for members, each with its owner. New members get the lowest free index. A place takes memory once it
-/// had a member, or one behind it.
+/// A container of at most `CAPACITY` members, each with its owner. New members get the lowest free index. A place takes memory once it, or
+/// one behind it, had a member.
 ///
 /// Ported from `iceoryx2_bb_lock_free::mpmc::container::FixedSizeContainer`.
 #[derive(Drop)]
@@ -37,7 +37,7 @@ impl<T: Copy, const CAPACITY: usize> Model for FixedSizeContainer<T, CAPACITY> {
 }
 
 impl<T: Copy, const CAPACITY: usize> FixedSizeContainer<T, CAPACITY> {
-    /// A container without members, which the id distinguishes from others. Fails only where an allocation fails.
+    /// A container without members, which `id` distinguishes from other containers. It fails only where an allocation fails.
     pub fn new(alloc: Global, id: u64) -> Result<Self, AllocError>
         ensures { IfOk result (λ container. container ≡ empty_container id CAPACITY) }
     {
@@ -46,14 +46,14 @@ impl<T: Copy, const CAPACITY: usize> FixedSizeContainer<T, CAPACITY> {
         })
     }
 
-    /// Whether the members may change once more, which is so up to 2^64 - 2 changes: the condition of what changes them.
+    /// Whether the members may change once more: they may if they changed at most 2^64 - 2 times. Each call that changes them requires it.
     pub fn has_room(&self) -> bool
         ensures { result ≡ true ↔ HasRoom self.now }
     {
         self.container.has_room()
     }
 
-    /// Adds a member at the lowest free index, and answers its handle.
+    /// Adds a member at the lowest free index, and returns its handle.
     ///
     /// Refused with `IsLocked` if the container is locked, else with `OutOfSpace` if it is full.
     pub fn add(&mut self, value: T, owner: OwnerId) -> Result<ContainerHandle, ContainerAddFailure>
@@ -66,9 +66,9 @@ impl<T: Copy, const CAPACITY: usize> FixedSizeContainer<T, CAPACITY> {
         self.container.add(value, owner)
     }
 
-    /// Removes the member of the handle. With `LockIfLastIndex`, the container is then locked for good if it has no member.
+    /// Removes the member of the handle. With `LockIfLastIndex`, the container is then locked for good if it has no member left.
     ///
-    /// Refused with `ContainerHandleNotOwnedByContainer` if the handle is of another container, or its member is gone.
+    /// Refused with `ContainerHandleNotOwnedByContainer` if the handle is of another container, or if its member was removed.
     pub fn remove(
         &mut self,
         handle: ContainerHandle,
@@ -83,21 +83,21 @@ impl<T: Copy, const CAPACITY: usize> FixedSizeContainer<T, CAPACITY> {
         self.container.remove(handle, mode)
     }
 
-    /// The handle of the owner's first member, by rising index; `None` where it has none.
+    /// The handle of the owner's first member, by rising index; `None` if the owner has no member.
     pub fn first_of(&self, owner: OwnerId) -> Option<ContainerHandle>
         ensures { result ≡ first_handle (members_of owner self.now.id self.now.members) }
     {
         self.container.first_of(owner)
     }
 
-    /// The member at this index; `None` where there is none, and past the capacity.
+    /// The member at this index; `None` if the index has no member or isn't below the capacity.
     pub fn get(&self, index: usize) -> Option<Member<T>>
         ensures { result ≡ member_of (slice_get self.now.members index) }
     {
         self.container.get(index)
     }
 
-    /// The places up to the last that ever had a member: those behind them, up to the capacity, are empty.
+    /// The places up to the last one that ever had a member. The places behind them, up to the capacity, are empty.
     pub fn places(&self) -> &[Option<Member<T>>]
         ensures whole { padded (length self.now.members) result.now ≡ self.now.members }
         ensures bound { length result.now ≤ length self.now.members }
@@ -105,7 +105,7 @@ impl<T: Copy, const CAPACITY: usize> FixedSizeContainer<T, CAPACITY> {
         self.container.places()
     }
 
-    /// The handle of the member at this index; `None` where there is none, and past the capacity.
+    /// The handle of the member at this index; `None` if the index has no member or isn't below the capacity.
     pub fn handle(&self, index: usize) -> Option<ContainerHandle>
         ensures { result ≡ handle_at self.now.id index (member_of (slice_get self.now.members index)) }
     {
@@ -122,9 +122,9 @@ impl<T: Copy, const CAPACITY: usize> FixedSizeContainer<T, CAPACITY> {
         self.container.find(owner, callback);
     }
 
-    /// Asks `decide` about each member of the owner, by rising index, and removes those for which it answers true. With
-    /// `LockIfLastIndex`, the container is then locked for good if it has no member, also where none was removed. This
-    /// counts as one change.
+    /// Calls `decide` for each member of the owner, by rising index, and removes the members for which it returns true. With
+    /// `LockIfLastIndex`, the container is then locked for good if it has no member, even if this call removed none. The whole call counts
+    /// as one change.
     pub fn recover<F: FnMut(ContainerHandle, T) -> bool>(
         &mut self,
         owner: OwnerId,
@@ -143,21 +143,21 @@ impl<T: Copy, const CAPACITY: usize> FixedSizeContainer<T, CAPACITY> {
         self.container.recover(owner, mode, decide)
     }
 
-    /// A copy of the members as they are. Fails only where an allocation fails.
+    /// Copies the members as they are. It fails only where an allocation fails.
     pub fn get_state(&self, alloc: Global) -> Result<ContainerState<T>, AllocError>
         ensures { IfOk result (λ state. state ≡ copy_of self.now) }
     {
         self.container.get_state(alloc)
     }
 
-    /// Whether the copy has the id and the capacity of this container: the condition of `update_state`.
+    /// Whether the copy has the id and the capacity of this container, which `update_state` requires.
     pub fn is_state_of(&self, state: &ContainerState<T>) -> bool
         ensures { result ≡ may_update self.now state.now }
     {
         self.container.is_state_of(state)
     }
 
-    /// Brings a copy up to date, and answers whether the members changed since it was made; false leaves it as it was.
+    /// Updates a copy, and returns whether the members changed since it was made. If they didn't, the copy stays as it was.
     pub fn update_state(&self, state: &mut ContainerState<T>) -> bool
         requires { may_update self.now state.old ≡ true }
         ensures answer { result ≡ not (nat_eq state.old.changes self.now.changes) }
@@ -190,7 +190,7 @@ impl<T: Copy, const CAPACITY: usize> FixedSizeContainer<T, CAPACITY> {
         self.container.len()
     }
 
-    /// How many members fit, which is `CAPACITY`.
+    /// The maximum number of members, which is `CAPACITY`.
     pub fn capacity(&self) -> usize
         ensures { result ≡ CAPACITY }
     {

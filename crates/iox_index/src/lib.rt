@@ -1,13 +1,13 @@
-//! Who holds which place: sets of indices with holders, and a container of members, with capacities chosen at run time
-//! or fixed by their type.
+//! Index sets that know which indices are held, and containers of members, with a capacity that is chosen at run time or is part of the
+//! type.
 //!
 //! | Module | What it has |
 //! |---|---|
-//! | `unique` | `FixedSizeUniqueIndexSet`, which hands out the last released index first |
-//! | `robust` | `StaticRobustUniqueIndexSet`, which knows its holders |
+//! | `unique` | `FixedSizeUniqueIndexSet`, which hands out the index released last first |
+//! | `robust` | `StaticRobustUniqueIndexSet`, which knows the owner of each held index |
 //! | `container` | `FixedSizeContainer`, members at indices |
 //!
-//! All else comes from `iox_container`.
+//! Everything else is re-exported from `iox_container`.
 //!
 //! A first call:
 //!

@@ -1,4 +1,4 @@
-//! The set of indices whose capacity its type bounds, and which knows its holders.
+//! An index set whose type bounds its capacity, and which knows the owner of each held index.
 ghost use Rattle.std.specs.Prelude.{◌≡◌, ◌≤◌, ℕ, List, Option, Some, length, slice_set, true, false, IfOk, OnErr};
 ghost use Rattle.std.specs.List.{FoldsTo};
 ghost use Rattle.iox_container.specs.Release.{state_of};
@@ -11,7 +11,7 @@ use iox_container::{
 use std::alloc::{AllocError, Global};
 use std::marker::Model;
 
-/// A set of at most `CAPACITY` indices, which are handed out lowest first and know their holders.
+/// A set of at most `CAPACITY` indices, which hands out the lowest free index and knows the owner of each held index.
 ///
 /// Ported from `iceoryx2_bb_lock_free::mpmc::robust_unique_index_set::StaticRobustUniqueIndexSet`.
 #[derive(Drop)]
@@ -31,14 +31,14 @@ impl<const CAPACITY: usize> Model for StaticRobustUniqueIndexSet<CAPACITY> {
 }
 
 impl<const CAPACITY: usize> StaticRobustUniqueIndexSet<CAPACITY> {
-    /// A set of the indices below `CAPACITY`, of which none is held. Fails only where an allocation fails.
+    /// A set of the indices below `CAPACITY`, none of which is held. It fails only where an allocation fails.
     pub fn new(alloc: Global) -> Result<Self, AllocError>
         ensures { IfOk result (λ set. set ≡ new_robust_set CAPACITY) }
     {
         StaticRobustUniqueIndexSet::new_with_reduced_capacity(alloc, CAPACITY)
     }
 
-    /// A set of the indices below `capacity`, which is at most `CAPACITY`. Fails only where an allocation fails.
+    /// A set of the indices below `capacity`, which must be at most `CAPACITY`. It fails only where an allocation fails.
     pub fn new_with_reduced_capacity(alloc: Global, capacity: usize) -> Result<Self, AllocError>
         requires { capacity ≤ CAPACITY }
         ensures { IfOk result (λ set. set ≡ new_robust_set capacity) }
@@ -48,9 +48,9 @@ impl<const CAPACITY: usize> StaticRobustUniqueIndexSet<CAPACITY> {
         })
     }
 
-    /// Hands the lowest free index to the owner.
+    /// Hands the lowest free index to the owner, and returns it.
     ///
-    /// Refused with `IsLocked` if the set is locked, else with `OutOfIndices` if each index is held.
+    /// Refused with `IsLocked` if the set is locked, else with `OutOfIndices` if every index is held.
     pub fn acquire(&mut self, owner: OwnerId) -> Result<usize, UniqueIndexSetAcquireFailure>
         ensures answer { result ≡ answer_of self.old.locked (lowest_free self.old) }
         ensures ok { IfOk result (λ index. self.new ≡ record self.old { holders = slice_set self.old.holders index (Some owner) }) }
@@ -59,14 +59,14 @@ impl<const CAPACITY: usize> StaticRobustUniqueIndexSet<CAPACITY> {
         self.set.acquire(owner)
     }
 
-    /// Whether the index is held: the condition of `release`.
+    /// Whether the index is held, which `release` requires.
     pub fn is_held(&self, index: usize) -> bool
         ensures { result ≡ is_held index self.now }
     {
         self.set.is_held(index)
     }
 
-    /// Frees an index that is held. With `LockIfLastIndex`, the set is then locked for good if no index is held any longer.
+    /// Releases a held index. With `LockIfLastIndex`, the set is then locked for good if no index is held any longer.
     pub fn release(&mut self, index: usize, mode: ReleaseMode) -> ReleaseState
         requires { is_held index self.old ≡ true }
         ensures after { self.new ≡ settled mode (freed index self.old) }
@@ -75,7 +75,7 @@ impl<const CAPACITY: usize> StaticRobustUniqueIndexSet<CAPACITY> {
         self.set.release(index, mode)
     }
 
-    /// Calls `callback` with each index that the owner holds, rising.
+    /// Calls `callback` with each index that the owner holds, in rising order.
     pub fn find<F: FnMut(usize)>(&self, owner: OwnerId, callback: &mut F)
         requires { F.IsAlwaysCallable callback.old }
         ensures called { FoldsTo (λ p x q. F.step p x tt q) callback.old (held_by owner self.now.holders) callback.new }
@@ -84,8 +84,8 @@ impl<const CAPACITY: usize> StaticRobustUniqueIndexSet<CAPACITY> {
         self.set.find(owner, callback);
     }
 
-    /// Asks `decide` about each index that the owner holds, rising, and frees those for which it answers true. With
-    /// `LockIfLastIndex`, the set is then locked for good if no index is held any longer, also where none was freed.
+    /// Calls `decide` for each index that the owner holds, in rising order, and releases the indices for which it returns true. With
+    /// `LockIfLastIndex`, the set is then locked for good if no index is held any longer, even if this call released none.
     pub fn recover<F: FnMut(usize) -> bool>(
         &mut self,
         owner: OwnerId,
@@ -119,7 +119,7 @@ impl<const CAPACITY: usize> StaticRobustUniqueIndexSet<CAPACITY> {
         self.set.is_locked()
     }
 
-    /// All indices are below this, which is at most `CAPACITY`.
+    /// The capacity, which is at most `CAPACITY`: every index is below it.
     pub fn capacity(&self) -> usize
         ensures value { result ≡ length self.now.holders }
         ensures within { result ≤ CAPACITY }

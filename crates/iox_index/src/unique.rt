@@ -1,4 +1,4 @@
-//! The set of indices whose capacity its type bounds, and which hands out the last released first.
+//! An index set whose type bounds its capacity, and which hands out the index released last first.
 ghost use Rattle.std.specs.Prelude.{◌≡◌, ◌≤◌, ◌<◌, ◌+◌, ◌^◌, ℕ, true, false, IfOk, IfErr, OnErr};
 ghost use Rattle.std.specs.List.{count_by, range_with_len};
 ghost use Rattle.iox_container.specs.Shared.{shared_form};
@@ -11,7 +11,7 @@ use iox_container::{
 use std::alloc::{AllocError, Global};
 use std::marker::Model;
 
-/// A set of at most `CAPACITY` indices. They are handed out 0, 1, 2 and so on, and later the last released first.
+/// A set of at most `CAPACITY` indices. They are handed out in the order 0, 1, 2 and so on; a released index is the next one handed out.
 ///
 /// Ported from `iceoryx2_bb_lock_free::mpmc::unique_index_set::FixedSizeUniqueIndexSet`.
 #[derive(Drop)]
@@ -31,14 +31,14 @@ impl<const CAPACITY: usize> Model for FixedSizeUniqueIndexSet<CAPACITY> {
 }
 
 impl<const CAPACITY: usize> FixedSizeUniqueIndexSet<CAPACITY> {
-    /// A set of the indices below `CAPACITY`, of which none is held. Fails only where an allocation fails.
+    /// A set of the indices below `CAPACITY`, none of which is held. It fails only where an allocation fails.
     pub fn new(alloc: Global) -> Result<Self, AllocError>
         ensures { IfOk result (λ set. set ≡ new_unique_set CAPACITY) }
     {
         FixedSizeUniqueIndexSet::new_with_reduced_capacity(alloc, CAPACITY)
     }
 
-    /// A set of the indices below `capacity`, which is at most `CAPACITY`. Fails only where an allocation fails.
+    /// A set of the indices below `capacity`, which must be at most `CAPACITY`. It fails only where an allocation fails.
     pub fn new_with_reduced_capacity(alloc: Global, capacity: usize) -> Result<Self, AllocError>
         requires { capacity ≤ CAPACITY }
         ensures { IfOk result (λ set. set ≡ new_unique_set capacity) }
@@ -50,7 +50,7 @@ impl<const CAPACITY: usize> FixedSizeUniqueIndexSet<CAPACITY> {
 
     /// Hands out the next free index.
     ///
-    /// Refused with `IsLocked` if the set is locked, else with `OutOfIndices` if each index is held.
+    /// Refused with `IsLocked` if the set is locked, else with `OutOfIndices` if every index is held.
     pub fn acquire_raw_index(&mut self) -> Result<usize, UniqueIndexSetAcquireFailure>
         ensures answer { result ≡ answer_of self.old.locked self.old.free }
         ensures ok { IfOk result (λ index. self.new ≡ acquired self.old) }
@@ -61,14 +61,14 @@ impl<const CAPACITY: usize> FixedSizeUniqueIndexSet<CAPACITY> {
         self.set.acquire_raw_index()
     }
 
-    /// Whether the index is held: the condition of `release_raw_index`.
+    /// Whether the index is held, which `release_raw_index` requires.
     pub fn is_held(&self, index: usize) -> bool
         ensures { result ≡ is_held index self.now }
     {
         self.set.is_held(index)
     }
 
-    /// Frees an index that is held. With `LockIfLastIndex`, the set is then locked for good if no index is held any longer.
+    /// Releases a held index. With `LockIfLastIndex`, the set is then locked for good if no index is held any longer.
     pub fn release_raw_index(&mut self, index: usize, mode: ReleaseMode) -> ReleaseState
         requires { is_held index self.old ≡ true }
         ensures after { self.new ≡ settled mode (freed index self.old) }
@@ -79,8 +79,8 @@ impl<const CAPACITY: usize> FixedSizeUniqueIndexSet<CAPACITY> {
         self.set.release_raw_index(index, mode)
     }
 
-    /// The set with its free indices as they are, to be shared by threads. The set itself comes back where no memory is
-    /// found, or where it has 2^24 indices or more, for which a head has no room.
+    /// Makes a shared set with the same free indices. The set is returned unchanged if memory runs out, or if it has 2^24 indices or more,
+    /// which a head can't store.
     pub fn share(self, alloc: Global) -> Result<SharedIndexSet, FixedSizeUniqueIndexSet<CAPACITY>>
         ensures shared { IfOk result (λ set. set ≡ shared_form self.entry) }
         ensures room { IfOk result (λ set. self.entry.capacity < 2 ^ 24) }
@@ -110,7 +110,7 @@ impl<const CAPACITY: usize> FixedSizeUniqueIndexSet<CAPACITY> {
         self.set.is_locked()
     }
 
-    /// All indices are below this, which is at most `CAPACITY`.
+    /// The capacity, which is at most `CAPACITY`: every index is below it.
     pub fn capacity(&self) -> usize
         ensures value { result ≡ self.now.capacity }
         ensures within { result ≤ CAPACITY }

@@ -1,4 +1,4 @@
--- What every step of a single value's machine keeps.
+-- The invariant of each step of a single value's machine.
 use Rattle.std.specs.Prelude.{ℕ, ◌≡◌, ◌+◌, ◌<◌, ◌≤◌, ◌⊎◌, not, Option, Some, None, List, [], length, slice_index, take, drop}
 use Rattle.std.specs.Global.{Vec}
 use Rattle.iox_queues_steps.specs.Access.{RingWords}
@@ -14,8 +14,8 @@ use Rattle.iox_index_steps.specs.declared.atomic.call.Call.TheVariants as call
 use Rattle.iox_index_steps.specs.declared.atomic.call.AtomicCall.{AtomicCall}
 use Rattle.iox_index_steps.specs.declared.atomic.call.AtomicCall.TheVariants as stage
 
--- the shared words fit the steps: the counter counts the times_moved; the half that loads look at shows the n current words, and the
--- other one those put since
+-- The shared words are consistent with the steps: the counter counts its moves from 1 on, the half that loads read holds the `n` current
+-- words, and the other half holds the words that were stored since.
 pub record HalvesFit (n : ℕ) (words : RingWords) (current put : List ℕ) (moved : ℕ) : Type 0 where
   pub counter : words.write ≡ moved + 1
   pub wide : length current ≡ n
@@ -23,13 +23,14 @@ pub record HalvesFit (n : ℕ) (words : RingWords) (current put : List ℕ) (mov
   pub shows : (i : ℕ) → i < n → slice_index words.cells (place n (not (fills_second words.write)) i) ≡ slice_index current i
   pub filled : (i : ℕ) → i < length put → slice_index words.cells (place n (fills_second words.write) i) ≡ slice_index put i
 
--- the party's store is under way, and no word of it waits to be made current
+-- The party's store is in progress, and none of its words waits to become current; a load needs nothing.
 abbrev pub HoldsNone : Option ℕ → List ℕ → ℕ → Call → Type 0
 HoldsNone producer put party (call.Store number) = (producer ≡ Some party) × (put ≡ [])
 HoldsNone producer put party call.Load = Unit {0}
 
--- what a call of the party, begun with the step `first`, knows where it stands: a store is the only one, and the words that were
--- put are the first of its own; a load found the first of the current words, unless the counter moved on since it looked
+-- What is known of a call at its stage, which the party began with the step `first`: a store is the only one in progress, and the words
+-- stored since the last move are the first ones of its value; a load found the first current words, unless the counter moved since it was
+-- read.
 abbrev pub Knows : List (Vec ℕ) → ℕ → Option ℕ → List Event → ℕ → ℕ → AtomicCall → Type 0
 Knows values write producer events party first stage.Idle = Unit {0}
 Knows values write producer events party first (stage.Store number) =
@@ -45,7 +46,8 @@ Knows values write producer events party first (stage.Gather counter next) =
 Knows values write producer events party first (stage.Done c) =
     HoldsNone producer (put_after [] events) party c × Tells values party first events c
 
--- where the premise holds, the words fit, no word waits where no store is under way, each call knows its steps and is told
+-- As long as the counter moved fewer than 2^64 - 1 times: the words are consistent, no word waits while no store is in progress, each call
+-- did what its stage says, and each finished call did what it was asked for.
 pub record IsConsistent (m : AtomicState) : Type 0 where
   pub fit : HalvesFit (width_of m) m.words (current_of (initial_of m) m.events) (put_after [] m.events) (times_moved m.events)
   pub rest : m.producer ≡ None → put_after [] m.events ≡ []
@@ -55,7 +57,7 @@ pub record IsConsistent (m : AtomicState) : Type 0 where
   pub whole : (k : ℕ) → (current_of (initial_of m) (take k m.events) ≡ initial_of m)
       ⊎ IsStored m (current_of (initial_of m) (take k m.events))
 
--- what stands however often the counter moved, and what stands where the premise holds
+-- The invariant: what holds after any number of stores, and what holds after fewer than 2^64 - 1 of them.
 pub record IsKept (m : AtomicState) : Type 0 where
   pub size : length m.words.cells ≡ width_of m + (width_of m + 1)
   pub began : (party : ℕ) → (seat_at m.seats party).first ≤ length m.events

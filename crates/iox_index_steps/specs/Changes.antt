@@ -1,4 +1,4 @@
--- What steps do to the head of a set: which indices they take out, and which they give back.
+-- What steps do to the head of a set: which indices they take, and which they release.
 use Rattle.std.specs.Prelude.{ℕ, ◌+◌, Bool, true, false, if◌then◌else◌, ◌==◌, ◌&&◌, not, List, [], ◌∷◌}
 use Rattle.iox_queues_steps.specs.declared.access.Word.TheVariants.{Write, Read, Cell}
 use Rattle.iox_queues_steps.specs.declared.access.Access.{Access}
@@ -6,11 +6,11 @@ use Rattle.iox_queues_steps.specs.declared.access.Access.TheVariants.{Load, Stor
 use Rattle.iox_queues.specs.declared.bits.machine.Event.{Event}
 use Rattle.iox_index_steps.specs.Steps.{next_free, borrowed_count}
 
--- one more index is held by the new head
+-- Whether the new head counts one more held index than the old one.
 abbrev pub holds_more : ℕ → ℕ → Bool
 holds_more old new = borrowed_count new == borrowed_count old + 1
 
--- 1 if the step changed the head
+-- Whether the step changed the head, as 1 or 0.
 abbrev pub changed_by : Access → ℕ → ℕ
 changed_by (Load word) answer = 0
 changed_by (Store word value) answer = 0
@@ -19,7 +19,7 @@ changed_by (Exchange Read old new) answer = if answer == old then 1 else 0
 changed_by (Exchange (Cell place) old new) answer = 0
 changed_by Local answer = 0
 
--- 1 if the step took index i out: it changed the head, one more index is held then, and i was the next free one
+-- Whether the step took index `i`, as 1 or 0: it changed the head, one more index is held after it, and `i` was the next free one.
 abbrev pub took_by : ℕ → Access → ℕ → ℕ
 took_by i (Load word) answer = 0
 took_by i (Store word value) answer = 0
@@ -29,7 +29,7 @@ took_by i (Exchange Read old new) answer =
 took_by i (Exchange (Cell place) old new) answer = 0
 took_by i Local answer = 0
 
--- 1 if the step gave index i back: it changed the head otherwise, and i is the next free one then
+-- Whether the step released index `i`, as 1 or 0: it changed the head without holding more, and `i` is the next free one after it.
 abbrev pub gave_by : ℕ → Access → ℕ → ℕ
 gave_by i (Load word) answer = 0
 gave_by i (Store word value) answer = 0
@@ -39,22 +39,22 @@ gave_by i (Exchange Read old new) answer =
 gave_by i (Exchange (Cell place) old new) answer = 0
 gave_by i Local answer = 0
 
--- how often some steps changed the head
+-- How often these steps changed the head.
 abbrev pub head_changes : List Event → ℕ
 head_changes [] = 0
 head_changes (event ∷ events) = changed_by event.access event.answer + head_changes events
 
--- how often some steps took index i out
+-- How often these steps took index `i`.
 abbrev pub times_taken : ℕ → List Event → ℕ
 times_taken i [] = 0
 times_taken i (event ∷ events) = took_by i event.access event.answer + times_taken i events
 
--- how often some steps gave index i back
+-- How often these steps released index `i`.
 abbrev pub times_given : ℕ → List Event → ℕ
 times_given i [] = 0
 times_given i (event ∷ events) = gave_by i event.access event.answer + times_given i events
 
--- the step looked at the head
+-- Whether the step read the head.
 abbrev pub sees_head : Access → Bool
 sees_head (Load Write) = false
 sees_head (Load Read) = true

@@ -1,4 +1,4 @@
--- What every step of an index set's machine keeps.
+-- The invariant of each step of an index set's machine.
 use Rattle.std.specs.Prelude.{ℕ, ◌≡◌, ◌+◌, ◌%◌, ◌^◌, ◌<◌, ◌≤◌, ◌⊎◌, if◌then◌else◌, ◌==◌, Option, Some, None, List, [], ◌∷◌, length}
 use Rattle.std.specs.Prelude.{true, slice_index, take, drop}
 use Rattle.iox_queues_steps.specs.Access.{RingWords}
@@ -14,29 +14,29 @@ use Rattle.iox_index_steps.specs.OfCalls.{StepsAreOfCalls}
 use Rattle.iox_index_steps.specs.declared.call.IndexCall.{IndexCall}
 use Rattle.iox_index_steps.specs.declared.call.IndexCall.TheVariants.{Idle, Acquire, Follow, Take, Release, Link, Give, Done}
 
--- from an index the cells lead through these, and end at n
+-- From this index the cells lead through these indices, and end at `n`.
 abbrev pub LeadsThrough : ℕ → List ℕ → ℕ → List ℕ → Type 0
 LeadsThrough n cells index [] = index ≡ n
 LeadsThrough n cells index (i ∷ free) = (index ≡ i) × (i < n) × LeadsThrough n cells (slice_index cells i) free
 
--- how often an index is among these
+-- How often an index occurs among these.
 abbrev pub times_among : ℕ → List ℕ → ℕ
 times_among index [] = 0
 times_among index (i ∷ indices) = (if i == index then 1 else 0) + times_among index indices
 
--- 1 for an index that a party took
+-- 1 if a party took the index, else 0.
 abbrev pub one_if_taken : Option ℕ → ℕ
 one_if_taken None = 0
 one_if_taken (Some party) = 1
 
--- how many indices are taken
+-- How many indices are taken.
 abbrev pub count_taken : List (Option ℕ) → ℕ
 count_taken [] = 0
 count_taken (holder ∷ holders) = one_if_taken holder + count_taken holders
 
--- the words, the holders and the steps fit together: from the head the cells lead through the free indices, each of them once; an
--- index is free or taken; the head counts its changes, and the indices that are taken, or is marked and none is taken; the
--- steps took the taken ones out once more than they gave them back, and each party's steps those that it took
+-- The words, the holders and the steps are consistent. From the head the cells lead through the free indices, each of them once; an index
+-- is either free or taken. The head counts its changes, and the taken indices (or it is marked as locked, and none is taken). The steps
+-- took each taken index once more often than they released it, and so did the steps of each party for the indices that it holds.
 pub record WordsFit (words : RingWords) (holders : List (Option ℕ)) (events : List Event) : Type 0 where
   pub free : List ℕ
   pub leads : LeadsThrough (length words.cells) words.cells (next_free words.read) free
@@ -48,7 +48,8 @@ pub record WordsFit (words : RingWords) (holders : List (Option ℕ)) (events : 
   pub each : (party i : ℕ) → times_taken i (own party events) ≡ times_given i (own party events) + one_if_holder party (holder_of holders i)
   pub turns : (i k : ℕ) → TakesTurns i (take k events)
 
--- an acquire saw this head when it looked last, `since` changes ago: it names an index, isn't marked, and is still there if nothing changed
+-- An acquire read this head, which changed `since` times afterwards: the head names an index, isn't marked as locked, and is still the
+-- current one if nothing changed.
 pub record Looked (words : RingWords) (events : List Event) (first : ℕ) (word : ℕ) : Type 0 where
   pub before : ℕ
   pub since : ℕ
@@ -59,11 +60,11 @@ pub record Looked (words : RingWords) (events : List Event) (first : ℕ) (word 
   pub unmarked : borrowed_count word ≡ lock_mark → ⊥
   pub still : since ≡ 0 → words.read ≡ word
 
--- the party took the index, and did not give it back
+-- The party took the index, and didn't release it.
 abbrev pub HoldsIndex : List (Option ℕ) → ℕ → ℕ → Type 0
 HoldsIndex holders party index = holder_of holders index ≡ Some party
 
--- a call knows the capacity, and one that saw or holds an index is on a set that has one
+-- A call knows the capacity, and a call that saw or holds an index is on a set that has one.
 abbrev pub HasCells : ℕ → IndexCall → Type 0
 HasCells n Idle = Unit {0}
 HasCells n (Acquire capacity) = capacity ≡ n
@@ -74,7 +75,7 @@ HasCells n (Link index mode word) = 0 < n
 HasCells n (Give index mode word) = 0 < n
 HasCells n (Done c answer) = Unit {0}
 
--- what a call of the party, begun with the step `first`, knows where it stands now
+-- What is known of a call at its stage, which the party began with the step `first`.
 abbrev pub Knows : RingWords → List (Option ℕ) → List Event → ℕ → ℕ → IndexCall → Type 0
 Knows words holders events party first Idle = Unit {0}
 Knows words holders events party first (Acquire capacity) = MoveNone (own party (drop first events))
@@ -92,14 +93,15 @@ Knows words holders events party first (Give index mode word) =
 Knows words holders events party first (Done c answer) =
     Tells (length words.cells) (is_locked_by (length words.cells) words.read) party first events c answer
 
--- where the premise holds, the words are whole, each call in hand knows its steps, and each that ended is told
+-- Under the condition of the theorems: the words are consistent, each call in progress did what its stage says, each finished call did what
+-- its result says, and a locked set was locked by a release.
 pub record IsConsistent (m : IndexSetState) : Type 0 where
   pub whole : WordsFit m.words m.holders m.events
   pub knows : (party : ℕ) → Knows m.words m.holders m.events party (seat_at m.seats party).first (stage_at m.seats party)
   pub told : AreTold (length m.words.cells) (is_locked_by (length m.words.cells) m.words.read) m.events m.finished
   pub locked_by : is_locked m ≡ true → IsLockedByRelease m
 
--- what stands whatever was changed, and what stands where the premise holds
+-- The invariant: what holds after any steps, and what holds under the condition of the theorems.
 pub record IsKept (m : IndexSetState) : Type 0 where
   pub few : length m.words.cells < 2 ^ 24
   pub size : length m.holders ≡ length m.words.cells

@@ -1,4 +1,4 @@
--- The definitions that contracts about index sets by steps cite.
+-- The definitions that the contracts of index sets by steps use.
 pub mod Steps
 pub mod Changes
 pub mod Told

@@ -1,4 +1,4 @@
--- A set of indices as a machine: its steps, and what every list of them keeps.
+-- An index set as a machine: its steps, and their invariants.
 use Rattle.std.specs.Prelude.{ℕ, ◌≡◌, ◌+◌, ◌<◌, ◌⊎◌, Bool, true, false, not, if◌then◌else◌, ◌==◌, ◌&&◌, nat_lt, Option, Some, None, List}
 use Rattle.std.specs.Prelude.{[], ◌∷◌, ◌++◌, length, set, slice_get, slice_index_or, take, drop, replicate}
 use Rattle.std.specs.List.{range_with_len}
@@ -24,8 +24,8 @@ use Rattle.iox_index_steps.specs.declared.machine.Move.{Move}
 use Rattle.iox_index_steps.specs.declared.machine.Move.TheVariants.{Begin, GoOn}
 use Rattle.iox_index_steps.specs.declared.state.Seat.{Seat}
 
--- the words, where each party stands, which party took each index that is out, the steps made, and the calls that ended. The
--- head lies in the read position; the cell of an index names the index that is free behind it
+-- The state: the words, the stage of each party, the party that took each held index, the steps made, and the finished calls. The read
+-- position stores the head; the cell of an index names the index that is free behind it.
 pub record IndexSetState : Type 0 where
   pub words : RingWords
   pub seats : List Seat
@@ -33,60 +33,61 @@ pub record IndexSetState : Type 0 where
   pub events : List Event
   pub finished : List Finished
 
--- a party between calls
+-- A party without a call in progress.
 abbrev pub idle_seat : Seat
 idle_seat = record { stage = Idle; first = 0 }
 
--- the seat of a party; where there is none, an idle one
+-- The seat of a party; a missing party is idle.
 abbrev pub seat_of : Option Seat → Seat
 seat_of None = idle_seat
 seat_of (Some seat) = seat
 
--- where a party stands; one that is not there is idle
+-- The seat of the party with this number; a party that doesn't exist is idle.
 abbrev pub seat_at : List Seat → ℕ → Seat
 seat_at seats party = seat_of (slice_get seats party)
 
--- the stage of a party's call
+-- The stage of the party with this number.
 abbrev pub stage_at : List Seat → ℕ → IndexCall
 stage_at seats party = (seat_at seats party).stage
 
--- the party that took the index, until it gives it back
+-- The party that took the index, until it releases the index.
 abbrev pub holder_of : List (Option ℕ) → ℕ → Option ℕ
 holder_of holders index = slice_index_or holders index None
 
--- it is this party
+-- Whether the holder is this party.
 abbrev pub is_holder : ℕ → Option ℕ → Bool
 is_holder party None = false
 is_holder party (Some holder) = holder == party
 
--- 1 for an index that this party took
+-- 1 if this party is the holder, else 0.
 abbrev pub one_if_holder : ℕ → Option ℕ → ℕ
 one_if_holder party holder = if is_holder party holder then 1 else 0
 
--- a party may give back what it holds, once
+-- Whether a call may begin: an acquire always, a release if the party holds the index.
 abbrev pub may_begin : List (Option ℕ) → ℕ → Call → Bool
 may_begin holders party call.Acquire = true
 may_begin holders party (call.Release index mode) = is_holder party (holder_of holders index)
 
--- a begin fits a party that is there and between calls, a go on one inside a call
+-- Whether a step is possible: a begin if the party exists, is idle, and the call may begin; a next step if the party has a call in
+-- progress.
 abbrev pub fits : IndexSetState → Move → Bool
 fits m (Begin party c) =
     nat_lt party (length m.seats) && (call_is_idle (stage_at m.seats party) && may_begin m.holders party c)
 fits m (GoOn party) = nat_lt party (length m.seats) && not (call_is_idle (stage_at m.seats party))
 
--- the step is the last of its call
+-- Whether the step is the last one of its call.
 abbrev pub ends : IndexSetState → Move → Bool
 ends m (Begin party c) = false
 ends m (GoOn party) = call_is_over (stage_at m.seats party)
 
--- the machine after a begin
+-- The machine after a party begins a call.
 abbrev pub begun : IndexSetState → ℕ → Call → IndexSetState
 begun m party c = record m {
   seats = set m.seats party (record { stage = call_begun (length m.words.cells) c; first = length m.events });
   events = m.events ++ record { party = party; access = Local; answer = 0 } ∷ [];
 }
 
--- who took which index, after an exchange of the head that was won or lost
+-- The holders after an exchange of the head, which may have failed.
 abbrev pub holders_after : List (Option ℕ) → ℕ → IndexCall → ℕ → List (Option ℕ)
 holders_after holders party Idle answer = holders
 holders_after holders party (Acquire capacity) answer = holders
@@ -98,7 +99,7 @@ holders_after holders party (Link index mode word) answer = holders
 holders_after holders party (Give index mode word) answer = if answer == word then set holders index None else holders
 holders_after holders party (Done c answered) answer = holders
 
--- the call of a party, if its next step is its last
+-- The finished call of a party, if its next step is the last one.
 abbrev pub call_ended : ℕ → ℕ → ℕ → IndexCall → List Finished
 call_ended party first last Idle = []
 call_ended party first last (Acquire capacity) = []
@@ -110,7 +111,7 @@ call_ended party first last (Give index mode word) = []
 call_ended party first last (Done c answer) =
     record { party = party; call = c; answer = answer; first = first; last = last } ∷ []
 
--- the machine after one access of a party
+-- The machine after a party makes its next access.
 abbrev pub went : IndexSetState → ℕ → IndexSetState
 went m party = record m {
   words = after_access m.words (call_next (stage_at m.seats party));
@@ -127,24 +128,24 @@ went m party = record m {
   finished = m.finished ++ call_ended party (seat_at m.seats party).first (length m.events) (stage_at m.seats party);
 }
 
--- the machine after a step that fits
+-- The machine after a step that is possible.
 abbrev pub happens : IndexSetState → Move → IndexSetState
 happens m (Begin party c) = begun m party c
 happens m (GoOn party) = went m party
 
--- what a step answers, and what it leaves
+-- The outcome of a step, and the machine after it.
 abbrev pub StepsTo : IndexSetState → Move → Stepped → IndexSetState → Type 0
 StepsTo m step r n = StepsBy fits ends happens m step r n
 
--- a list of steps, of which `made` were made; it may stop where a step that fits finds no memory
+-- A list of steps of which `made` were made and the others were skipped; it may stop where memory for a possible step runs out.
 abbrev pub RunsTo : IndexSetState → List Move → ℕ → IndexSetState → Type 0
 RunsTo m steps made n = RunsBy fits happens m steps made n
 
--- the set is locked
+-- Whether the set is locked.
 abbrev pub is_locked : IndexSetState → Bool
 is_locked m = is_locked_by (length m.words.cells) m.words.read
 
--- inside an acquire under way, its steps since its begin changed the head fewer than 2^16 times
+-- If an acquire is in progress, the steps since its begin changed the head fewer than 2^16 times.
 abbrev pub IsBriefSoFar : IndexCall → List Event → Type 0
 IsBriefSoFar Idle events = Unit {0}
 IsBriefSoFar (Acquire capacity) events = IsBrief call.Acquire events
@@ -155,24 +156,24 @@ IsBriefSoFar (Link index mode word) events = Unit {0}
 IsBriefSoFar (Give index mode word) events = Unit {0}
 IsBriefSoFar (Done c answer) events = IsBrief c events
 
--- the premise of the laws: fewer than 2^16 changes of the head lie inside each acquire, ended or under way
+-- The condition of the theorems: the head changes fewer than 2^16 times within each acquire, finished or in progress.
 pub record HasFewChanges (m : IndexSetState) : Type 0 where
   pub ended : AreBrief m.events m.finished
   pub going : (party : ℕ) → IsBriefSoFar (stage_at m.seats party) (drop (seat_at m.seats party).first m.events)
 
--- a release that was to lock the set did: one that ended, or one in hand that has its answer
+-- A release that was to lock the set has locked it; it is finished, or in progress with its result.
 abbrev pub IsLockedByRelease : IndexSetState → Type 0
 IsLockedByRelease m =
     (some_has_locked m.finished ≡ true) ⊎ ((party : ℕ) × (is_locking (stage_at m.seats party) ≡ true))
 
--- these steps took the index out once more than they gave it back
+-- These steps took the index more often than they released it.
 abbrev pub IsOut : ℕ → List Event → Type 0
 IsOut i events = times_given i events < times_taken i events
 
--- what every list of steps keeps: no index has two holders, since just one party has it out by its own steps; an index is
--- taken and given back by turns, so that between two takings lies its giving back; a party's own steps took out once more than
--- they gave back what it holds, and nothing else; of a locked set no index is out, and only a release that was to lock it locked
--- it; each call that ended says what it did, so one in hand that has its answer
+-- The theorem. No index has two holders: by its own steps at most one party holds it. Acquires and releases of an index alternate. A
+-- party's own steps took exactly the indices that it holds once more often than they released them. A locked set has no held index, and
+-- only a release that was to lock it has locked it. Each finished call, and each call in progress that has its result, did what the result
+-- says.
 pub record IsOrderly (m : IndexSetState) : Type 0 where
   pub one_holder : (i p q : ℕ) → IsOut i (own p m.events) → IsOut i (own q m.events) → p ≡ q
   pub turns : (i k : ℕ) → TakesTurns i (take k m.events)
@@ -184,11 +185,11 @@ pub record IsOrderly (m : IndexSetState) : Type 0 where
   pub going : (party : ℕ) (c : Call) (answer : Answer) → stage_at m.seats party ≡ Done c answer
       → Tells (length m.words.cells) (is_locked m) party (seat_at m.seats party).first m.events c answer
 
--- a locked set stays locked
+-- A locked set stays locked.
 abbrev pub StaysLocked : IndexSetState → IndexSetState → Type 0
 StaysLocked m n = is_locked m ≡ true → is_locked n ≡ true
 
--- the words of a set of which no index is out: each is free, and the next one is free behind it
+-- The words of a set without a held index: each index is free, with the next one behind it.
 abbrev pub start_words : ℕ → RingWords
 start_words capacity = record {
   cells = range_with_len 1 capacity;
@@ -196,7 +197,7 @@ start_words capacity = record {
   read = word_of_head (record { head = 0; aba = 0; borrowed_indices = 0 });
 }
 
--- a set of which no index is out
+-- The machine of a set without a held index, before the first step.
 abbrev pub start : ℕ → ℕ → IndexSetState
 start capacity parties = record {
   words = start_words capacity;
@@ -206,8 +207,8 @@ start capacity parties = record {
   finished = [];
 }
 
--- what the steps that were made say, whatever was changed: each got what its word held, and they left the words as they are;
--- each call that ended lies among them; the steps of each call, ended or in hand, are those that its value asked for
+-- What the recorded steps say: each has the result that its word held, and they leave the words as they are now; each finished call lies
+-- within them; and the steps of each call, finished or in progress, are those that the call requested.
 pub record IsRecorded (m : IndexSetState) : Type 0 where
   pub answered : Answered (start_words (length m.words.cells)) m.events m.words
   pub among : LieWithin m.events m.finished

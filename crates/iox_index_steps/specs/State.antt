@@ -1,7 +1,8 @@
--- The fields of an index set's machine, as lists and numbers.
+-- The state of an index set's machine, as lists and numbers.
 use Rattle.iox_index_steps.specs.Machine.{IndexSetState}
 use Rattle.iox_index_steps.specs.declared.state.State.{State}
 
+-- The state of an index set's machine, with its vectors as lists.
 abbrev pub machine_of : State → IndexSetState
 machine_of s = record {
   words = s.ring;

@@ -1,4 +1,4 @@
--- The steps of an acquire and of a release on a set of indices, by the stage where each stands.
+-- The steps of an acquire and of a release on an index set, by the stage of each.
 use Rattle.std.specs.Prelude.{ℕ, ◌-◌, ◌%◌, ◌^◌, Bool, true, false, if◌then◌else◌, ◌==◌, ◌&&◌, nat_le, nat_lt, Ok, Err}
 use Rattle.iox_container.specs.Head.{word_of_head, head_of_word, head_after_acquire, head_after_release}
 use Rattle.iox_container.specs.Release.{state_of}
@@ -15,42 +15,42 @@ use Rattle.iox_index_steps.specs.declared.call.Call.TheVariants as call
 use Rattle.iox_index_steps.specs.declared.call.IndexCall.{IndexCall}
 use Rattle.iox_index_steps.specs.declared.call.IndexCall.TheVariants.{Idle, Acquire, Follow, Take, Release, Link, Give, Done}
 
--- the next free index, by the word of a head; none is free where it is the capacity
+-- The next free index according to the word of a head; if it is the capacity, no index is free.
 abbrev pub next_free : ℕ → ℕ
 next_free word = (head_of_word word).head
 
--- how many indices are held, by the word of a head
+-- The count of held indices in the word of a head.
 abbrev pub borrowed_count : ℕ → ℕ
 borrowed_count word = (head_of_word word).borrowed_indices
 
--- the count that marks a locked set
+-- The count of held indices that marks a locked set.
 abbrev pub lock_mark : ℕ
 lock_mark = 2 ^ 24 - 1
 
--- the set with this head is locked: an index is free, and the count is the mark
+-- Whether the set with this head is locked: an index is free, and the count is the mark.
 abbrev pub is_locked_by : ℕ → ℕ → Bool
 is_locked_by capacity word = nat_lt (next_free word) capacity && (borrowed_count word == lock_mark)
 
--- the head once its next free index is taken, which `next` comes behind
+-- The head after its next free index is taken, behind which `next` is free.
 abbrev pub head_taken : ℕ → ℕ → ℕ
 head_taken word next = word_of_head (head_after_acquire (next % 2 ^ 24) (head_of_word word))
 
--- a release in this mode locks a set of which so many indices are held before it
+-- Whether a release in this mode locks a set of which `held` indices are held before it.
 abbrev pub locks_last : ReleaseMode → ℕ → Bool
 locks_last LockIfLastIndex held = held == 1
 locks_last Default held = false
 
--- the head with the mark in place of its count, if the set is locked so
+-- The head with the mark in place of its count, if the set is to be locked.
 abbrev pub marked_if : Bool → HeadDetails → HeadDetails
 marked_if true details = record details { borrowed_indices = lock_mark }
 marked_if false details = details
 
--- the head once an index is given back in this mode
+-- The head after an index is released in this mode.
 abbrev pub head_given : ℕ → ReleaseMode → ℕ → ℕ
 head_given index mode word =
     word_of_head (marked_if (locks_last mode (borrowed_count word)) (head_after_release index (head_of_word word)))
 
--- the access of a call at each stage
+-- The next access of a call.
 abbrev pub call_next : IndexCall → Access
 call_next Idle = Local
 call_next (Acquire capacity) = Load Read
@@ -61,14 +61,14 @@ call_next (Link index mode word) = Store (Cell index) (next_free word)
 call_next (Give index mode word) = Exchange Read word (head_given index mode word)
 call_next (Done c answer) = Local
 
--- an acquire that saw this head: no index is free, or the set is locked, or it goes on to the next free index
+-- The stage of an acquire after it read this head: no index is free, or the set is locked, or it goes on to the next free index.
 abbrev pub seen_by_acquire : ℕ → ℕ → IndexCall
 seen_by_acquire capacity word =
     if nat_le capacity (next_free word)
     then Done call.Acquire (Acquired (Err OutOfIndices))
     else if borrowed_count word == lock_mark then Done call.Acquire (Acquired (Err IsLocked)) else Follow capacity word
 
--- the stage after the answer of that access
+-- The stage of a call after the result of its access.
 abbrev pub call_take : IndexCall → ℕ → IndexCall
 call_take Idle answer = Idle
 call_take (Acquire capacity) answer = seen_by_acquire capacity answer
@@ -83,12 +83,12 @@ call_take (Give index mode word) answer =
     else Link index mode answer
 call_take (Done c answered) answer = Idle
 
--- the first stage of a call, in a set of this capacity
+-- The first stage of a call, in a set with this capacity.
 abbrev pub call_begun : ℕ → Call → IndexCall
 call_begun capacity call.Acquire = Acquire capacity
 call_begun capacity (call.Release index mode) = Release index mode
 
--- no call is under way
+-- Whether no call is in progress.
 abbrev pub call_is_idle : IndexCall → Bool
 call_is_idle Idle = true
 call_is_idle (Acquire capacity) = false
@@ -99,7 +99,7 @@ call_is_idle (Link index mode word) = false
 call_is_idle (Give index mode word) = false
 call_is_idle (Done c answer) = false
 
--- the next step is the last of its call
+-- Whether the next step is the last one of its call.
 abbrev pub call_is_over : IndexCall → Bool
 call_is_over Idle = false
 call_is_over (Acquire capacity) = false
@@ -110,7 +110,7 @@ call_is_over (Link index mode word) = false
 call_is_over (Give index mode word) = false
 call_is_over (Done c answer) = true
 
--- the call was begun on a set that has an index, or saw one
+-- Whether the call saw an index or began with one, so that the set has an index.
 abbrev pub saw_index : IndexCall → Bool
 saw_index Idle = false
 saw_index (Acquire capacity) = false

@@ -1,4 +1,4 @@
--- What the answer of a call says of the steps that were made.
+-- What the result of a call says of the steps that were made.
 use Rattle.std.specs.Prelude.{ℕ, ◌≡◌, ◌+◌, ◌<◌, ◌≤◌, ◌^◌, Bool, true, false, if◌then◌else◌, ◌==◌, ◌||◌, Ok, Err, List, []}
 use Rattle.std.specs.Prelude.{◌∷◌, ◌++◌, length, take, drop}
 use Rattle.iox_container.specs.declared.error.UniqueIndexSetAcquireFailure.TheVariants.{OutOfIndices, IsLocked}
@@ -17,11 +17,11 @@ use Rattle.iox_index_steps.specs.declared.call.IndexCall.{IndexCall}
 use Rattle.iox_index_steps.specs.declared.call.IndexCall.TheVariants.{Idle, Acquire, Follow, Take, Release, Link, Give, Done}
 use Rattle.iox_index_steps.specs.declared.machine.Finished.{Finished}
 
--- the steps of a call up to a stage: a local one that begins it, and the accesses that its value asked for
+-- The steps of a call up to a stage: a local one that begins it, and the accesses that the call requested.
 abbrev pub IsAsked : ℕ → ℕ → Call → IndexCall → List Event → Type 0
 IsAsked n party c stage events = IsAskedFrom IndexCall call_next call_take party (call_begun n c) stage events
 
--- the steps of a call in hand
+-- The steps of a call in progress, up to its stage.
 abbrev pub IsAskedSoFar : ℕ → ℕ → IndexCall → List Event → Type 0
 IsAskedSoFar n party Idle events = Unit {0}
 IsAskedSoFar n party (Acquire capacity) events = IsAsked n party call.Acquire (Acquire capacity) events
@@ -32,33 +32,33 @@ IsAskedSoFar n party (Link i mode word) events = IsAsked n party (call.Release i
 IsAskedSoFar n party (Give i mode word) events = IsAsked n party (call.Release i mode) (Give i mode word) events
 IsAskedSoFar n party (Done c answer) events = IsAsked n party c (Done c answer) events
 
--- the steps of each call that ended, up to its answer
+-- The steps of each finished call, up to its result.
 abbrev pub AreAsked : ℕ → List Event → List Finished → Type 0
 AreAsked n events [] = Unit {0}
 AreAsked n events (f ∷ finished) =
     IsAsked n f.party f.call (Done f.call f.answer) (own f.party (drop f.first (take f.last events))) × AreAsked n events finished
 
--- the steps took index i out once and no other, and gave none back
+-- The steps took index `i` once and no other index, and released none.
 abbrev pub TakeOnly : ℕ → List Event → Type 0
 TakeOnly i events =
     ((j : ℕ) → times_taken j events ≡ (if i == j then 1 else 0)) × ((j : ℕ) → times_given j events ≡ 0)
 
--- the steps gave index i back once and no other, and took none out
+-- The steps released index `i` once and no other index, and took none.
 abbrev pub GiveOnly : ℕ → List Event → Type 0
 GiveOnly i events =
     ((j : ℕ) → times_taken j events ≡ 0) × ((j : ℕ) → times_given j events ≡ (if i == j then 1 else 0))
 
--- the steps took no index out, and gave none back
+-- The steps took no index, and released none.
 abbrev pub MoveNone : List Event → Type 0
 MoveNone events = ((j : ℕ) → times_taken j events ≡ 0) × ((j : ℕ) → times_given j events ≡ 0)
 
--- index i was taken and given back by turns: as often, or taken once more
+-- Acquires and releases of index `i` alternate: it was taken as often as released, or once more.
 abbrev pub TakesTurns : ℕ → List Event → Type 0
 TakesTurns i events =
     (times_given i events ≤ times_taken i events) × (times_taken i events ≤ times_given i events + 1)
 
--- when the party looked at the head last, each of n indices was out: taken once more than given back. From its
--- taking to its giving back an index is being taken, held, or being given back
+-- When the party last read the head, each of `n` indices was taken: once more often taken than released. From its acquire to its release,
+-- an index is being taken, held, or being released.
 pub record SawAllOut (n party first : ℕ) (events : List Event) : Type 0 where
   pub before : List Event
   pub look : Event
@@ -70,7 +70,7 @@ pub record SawAllOut (n party first : ℕ) (events : List Event) : Type 0 where
   pub last : own party after ≡ []
   pub out : (i : ℕ) → i < n → times_taken i before ≡ times_given i before + 1
 
--- when a call of the party gave index i back, another index was out
+-- When a call of the party released index `i`, another index was taken.
 pub record GaveBeside (i party first : ℕ) (events : List Event) : Type 0 where
   pub before : List Event
   pub give : Event
@@ -83,9 +83,9 @@ pub record GaveBeside (i party first : ℕ) (events : List Event) : Type 0 where
   pub differs : other ≡ i → ⊥
   pub out : times_taken other before ≡ times_given other before + 1
 
--- what the answer of a call says, which the party began with the step `first`: a call that took or gave back did just that;
--- one that was refused did nothing, and each index was out, or the set is locked. A release that was to lock left the set
--- locked, or another index was out; one that wasn't to lock did not
+-- What the result of a call says, which the party began with the step `first`. A call that took or released an index did exactly that. A
+-- refused call did nothing, and every index was taken, or the set is locked. A release that was to lock the set left it locked, or another
+-- index was taken; a release that wasn't to lock the set doesn't report it as locked.
 abbrev pub Tells : ℕ → Bool → ℕ → ℕ → List Event → Call → Answer → Type 0
 Tells n locked party first events call.Acquire (Acquired (Ok i)) = (i < n) × TakeOnly i (own party (drop first events))
 Tells n locked party first events call.Acquire (Acquired (Err OutOfIndices)) =
@@ -102,17 +102,17 @@ Tells n locked party first events (call.Release i Default) (Released Locked) = �
 Tells n locked party first events (call.Release i Default) (Released Unlocked) =
     GiveOnly i (own party (drop first events))
 
--- a release that was to lock the set, and was answered that it did
+-- Whether the call is a release that was to lock the set and has the result that it did.
 abbrev pub has_locked : Call → Answer → Bool
 has_locked (call.Release index LockIfLastIndex) (Released Locked) = true
 has_locked other answer = false
 
--- one of these calls is such a release
+-- Whether one of these calls is such a release.
 abbrev pub some_has_locked : List Finished → Bool
 some_has_locked [] = false
 some_has_locked (f ∷ finished) = has_locked f.call f.answer || some_has_locked finished
 
--- a call in hand is such a release, which has its answer
+-- Whether a call in progress is such a release that has its result.
 abbrev pub is_locking : IndexCall → Bool
 is_locking Idle = false
 is_locking (Acquire capacity) = false
@@ -123,23 +123,23 @@ is_locking (Link index mode word) = false
 is_locking (Give index mode word) = false
 is_locking (Done c answer) = has_locked c answer
 
--- each of these calls lies among the steps made
+-- Each of these calls lies within the steps made.
 abbrev pub LieWithin : List Event → List Finished → Type 0
 LieWithin events [] = Unit {0}
 LieWithin events (f ∷ finished) = LiesWithin events f.first f.last × LieWithin events finished
 
--- so of each call that ended
+-- Each of these finished calls did what its result says.
 abbrev pub AreTold : ℕ → Bool → List Event → List Finished → Type 0
 AreTold n locked events [] = Unit {0}
 AreTold n locked events (f ∷ finished) =
     Tells n locked f.party f.first (take f.last events) f.call f.answer × AreTold n locked events finished
 
--- inside an acquire these steps changed the head fewer than 2^16 times; a release may meet any number
+-- If the call is an acquire, these steps changed the head fewer than 2^16 times; a release may meet any number of changes.
 abbrev pub IsBrief : Call → List Event → Type 0
 IsBrief call.Acquire events = head_changes events < 2 ^ 16
 IsBrief (call.Release index mode) events = Unit {0}
 
--- so it was inside each acquire that ended
+-- The head changed fewer than 2^16 times within each finished acquire.
 abbrev pub AreBrief : List Event → List Finished → Type 0
 AreBrief events [] = Unit {0}
 AreBrief events (f ∷ finished) = IsBrief f.call (drop f.first (take f.last events)) × AreBrief events finished

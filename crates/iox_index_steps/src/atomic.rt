@@ -1,4 +1,4 @@
-//! A single value one word at a time: a machine whose one producer stores and whose consumers load.
+//! A single value that is accessed one word at a time: a machine in which one producer at a time stores and any party loads.
 ghost use Rattle.std.specs.Prelude.{◌≡◌, ◌<◌, ◌^◌, ◌-◌, IfOk, length};
 
 mod call;
@@ -11,29 +11,35 @@ use state::State;
 use std::alloc::{AllocError, Global};
 use std::marker::Model;
 
-/// One step: a party begins a call, or goes on inside one.
+/// One step: a party begins a call, or makes the next step of its call.
 #[derive(Clone, Copy)]
 pub enum Move {
+    /// The party with this number begins a call.
     Begin(usize, Call),
+    /// The party with this number makes the next step of its call.
     GoOn(usize),
 }
 
-/// A call that ended: its first and its last step, by their number among the steps made.
+/// A finished call, with its first and its last step, by their numbers among the steps made.
 #[derive(Clone, Copy)]
 pub struct Finished {
+    /// The number of the party that made the call.
     pub party: usize,
+    /// The call.
     pub call: Call,
+    /// The number of its first step.
     pub first: u64,
+    /// The number of its last step.
     pub last: u64,
 }
 
-/// A single value whose parties go one step at a time, in any order that the caller wants.
+/// A single value whose parties make their steps in any order that the caller chooses.
 ///
-/// A table has the values that may be stored, each of as many words; value 0 is current at first. Any party may stop anywhere. A
-/// store that is begun while another one is under way is skipped. Where the counter was moved fewer than 2^64 - 1 times, the words
-/// that a load found between its last two looks at the counter are those that were current at the last one, and the current words
-/// are those of the store that moved the counter last, or the first ones. Each step is one of one call. A store that ended moved
-/// the counter on once, and a load never.
+/// A table has the values that may be stored, each with the same number of words; value 0 is current at first. Any party may stop at any
+/// step. A store is skipped if it begins while another store is in progress. As long as the counter was moved fewer than 2^64 - 1 times,
+/// the words that a load found between its last two reads of the counter are those that were current at the last one, and the current words
+/// are those of the store that moved the counter last, or the first ones. Each step belongs to one call. A finished store moved the counter
+/// exactly once, and a load never moves it.
 #[derive(Drop)]
 pub struct AtomicMachine {
     state: State,
@@ -56,7 +62,8 @@ impl AtomicMachine {
     ghost use Rattle.iox_index_steps.specs.AtomicMachine.{HasFewStores, IsRecorded, IsTold, MovesOnce, StepsAreOfCalls, StepsTo};
     ghost use Rattle.iox_index_steps.specs.AtomicMachine.{RunsTo, TellsStep, start};
 
-    /// The first of these values is current, and this many parties may call; with no value at all it is one of no words.
+    /// A machine in which the first of these values is current, and this many parties may call. If `values` is empty, the value has no
+    /// words. It fails only where an allocation fails.
     pub fn new(
         alloc: Global,
         values: Vec<Vec<u64>>,
@@ -69,8 +76,8 @@ impl AtomicMachine {
         })
     }
 
-    /// Begins a call, or goes on inside one. What is told of calls stands where the counter was moved fewer than 2^64 - 1 times, as
-    /// it was where fewer steps were made.
+    /// Begins a call, or makes the next step of a call. A step that isn't possible is skipped. What calls did is stated as long as the
+    /// counter was moved fewer than 2^64 - 1 times, which holds if fewer steps were made.
     pub fn step(&mut self, step: Move) -> Stepped
         ensures steps { StepsTo self.old step result self.new }
         ensures tells { TellsStep self.old step result self.new }
@@ -83,8 +90,8 @@ impl AtomicMachine {
         self.state.step(step)
     }
 
-    /// Makes these steps one after the other, leaves out those that do not fit, and stops where no memory is found. The answer is how
-    /// many were made. What is told of calls stands where the counter was moved fewer than 2^64 - 1 times.
+    /// Makes these steps one after another, skips those that aren't possible, and stops where memory for recording a step runs out. Returns
+    /// how many steps were made. What calls did is stated as long as the counter was moved fewer than 2^64 - 1 times.
     pub fn run(&mut self, schedule: &[Move]) -> usize
         ensures runs { RunsTo self.old schedule.now result self.new }
         ensures recorded { IsRecorded self.new }
@@ -107,7 +114,7 @@ impl AtomicMachine {
         made
     }
 
-    // What every machine keeps.
+    // Recalls the invariants of every machine for the prover.
     fn keeps(&self)
         ensures recorded { IsRecorded self.now }
         ensures counted { StepsAreOfCalls self.now }
@@ -128,7 +135,7 @@ impl AtomicMachine {
         self.state.events.as_slice()
     }
 
-    /// The calls that ended, in their order.
+    /// The finished calls, in the order in which they finished.
     pub fn finished(&self) -> &[Finished]
         ensures value { result.now ≡ self.now.finished }
         ensures recorded { IsRecorded self.now }

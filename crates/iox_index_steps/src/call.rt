@@ -7,7 +7,7 @@ ghost use Rattle.iox_index_steps.specs.Steps.{head_taken, borrowed_count, is_loc
 use iox_container::{HeadDetails, ReleaseMode, ReleaseState, UniqueIndexSetAcquireFailure};
 use iox_queues_steps::{Access, Word};
 
-/// The count that marks a locked set.
+/// The count of held indices that marks a locked set.
 const LOCK_MARK: u32 = (1 << 24) - 1;
 
 /// A call that a party may begin.
@@ -15,56 +15,57 @@ const LOCK_MARK: u32 = (1 << 24) - 1;
 pub enum Call {
     /// Takes the next free index.
     Acquire,
-    /// Gives this index back, which the party holds.
+    /// Releases this index, which the party holds.
     Release(u32, ReleaseMode),
 }
 
-/// What a call answered.
+/// The result of a call.
 #[derive(Clone, Copy, PartialEq, Eq)]
 pub enum Answer {
     /// An acquire took this index, or was refused.
     Acquired(Result<u32, UniqueIndexSetAcquireFailure>),
-    /// A release gave its index back, which may have locked the set.
+    /// A release freed its index, and the set is now locked or not.
     Released(ReleaseState),
 }
 
-/// Where a call stands. Between its begin and `Done` each stage is one access.
+/// The stage of a call. Each stage from its begin to `Done` is one access after the one before.
 #[derive(Clone, Copy)]
 pub enum IndexCall {
+    /// No call is in progress.
     Idle,
-    /// An acquire looks at the head.
+    /// An acquire reads the head.
     Acquire {
         capacity: u64,
     },
-    /// It saw this head, and loads which index is free behind the next free one.
+    /// The acquire has read this head, and loads the index that is free behind the next free one.
     Follow {
         capacity: u64,
         word: u64,
     },
-    /// It takes the next free index out, by an exchange of the head that it saw.
+    /// The acquire takes the next free index, by an exchange of the head that it read.
     Take {
         capacity: u64,
         word: u64,
         next: u64,
     },
-    /// A release looks at the head.
+    /// A release reads the head.
     Release {
         index: u32,
         mode: ReleaseMode,
     },
-    /// It saw this head, and stores that its next free index is free behind the one given back.
+    /// The release has read this head, and stores that its next free index is free behind the released one.
     Link {
         index: u32,
         mode: ReleaseMode,
         word: u64,
     },
-    /// It gives the index back, by an exchange of the head that it saw.
+    /// The release frees the index, by an exchange of the head that it read.
     Give {
         index: u32,
         mode: ReleaseMode,
         word: u64,
     },
-    /// The call answered; its last step is to come.
+    /// The call has its result, and its last step is still to come.
     Done {
         call: Call,
         answer: Answer,
@@ -72,7 +73,7 @@ pub enum IndexCall {
 }
 
 impl IndexCall {
-    /// The call's first stage, in a set of this capacity.
+    /// The first stage of the call, in a set with this capacity.
     pub fn begin(call: Call, capacity: u64) -> IndexCall
         ensures { result ≡ call_begun capacity call }
     {
@@ -82,7 +83,7 @@ impl IndexCall {
         }
     }
 
-    /// The access that comes next.
+    /// The next access of the call.
     pub fn next(&self) -> Access
         ensures { result ≡ call_next self.now }
     {
@@ -102,7 +103,7 @@ impl IndexCall {
         }
     }
 
-    /// Where the call stands after the answer of that access. An exchange that failed found the head that the call goes on from.
+    /// The stage after the result of that access. A failed exchange returns the head from which the call goes on.
     pub fn take(self, answer: u64) -> IndexCall
         ensures { result ≡ call_take self answer }
     {
@@ -141,14 +142,14 @@ impl IndexCall {
         }
     }
 
-    /// No call is under way.
+    /// Whether no call is in progress.
     pub fn is_idle(&self) -> bool
         ensures { result ≡ call_is_idle self.now }
     {
         matches!(*self, IndexCall::Idle)
     }
 
-    /// The next step is the last of its call.
+    /// Whether the next step is the last one of its call.
     pub fn is_over(&self) -> bool
         ensures { result ≡ call_is_over self.now }
     {
@@ -156,14 +157,14 @@ impl IndexCall {
     }
 }
 
-// The next free index of this head.
+// The next free index according to this head.
 fn free_in(word: u64) -> u64
     ensures { result ≡ next_free word }
 {
     u64::from(HeadDetails::from(word).head)
 }
 
-// The head once its next free index is taken.
+// The head after its next free index is taken.
 fn taken(word: u64, next: u64) -> u64
     ensures { result ≡ head_taken word next }
 {
@@ -172,7 +173,7 @@ fn taken(word: u64, next: u64) -> u64
         .value()
 }
 
-// The head once the index is given back.
+// The head after the index is released.
 fn given(index: u32, mode: ReleaseMode, word: u64) -> u64
     ensures { result ≡ head_given index mode word }
 {
@@ -206,7 +207,7 @@ fn locks(mode: ReleaseMode, word: u64) -> bool
     }
 }
 
-// An acquire that saw this head.
+// The stage of an acquire after it read this head.
 fn seen(capacity: u64, word: u64) -> IndexCall
     ensures { result ≡ seen_by_acquire capacity word }
 {

@@ -1,12 +1,11 @@
-//! Sets of indices, and a single value, one word at a time.
+//! Index sets, and a single value, which are accessed one word at a time.
 //!
-//! The head of a set is a word: the next free index, a count of its changes, and how many indices are held (`HeadDetails`). Each
-//! index has a cell that names the index which is free behind it. Any number of parties acquire and release, each access by
-//! access.
+//! The head of a set is one word: the next free index, a count of its changes, and how many indices are held (`HeadDetails`). Each index
+//! has a cell that names the index that is free behind it. Any number of parties acquire and release indices, one access at a time.
 //!
-//! - [`call`]: what each party does next, free of any set.
-//! - [`machine`]: a set with its parties, which go in any order.
-//! - [`atomic`]: a single value that one party stores and any may load, with its parties.
+//! - [`call`]: the accesses of a call, independent of any set.
+//! - [`machine`]: a set with its parties, whose steps are made in any order.
+//! - [`atomic`]: a machine for a single value that one party at a time stores and any party loads.
 //!
 //! A first call:
 //!

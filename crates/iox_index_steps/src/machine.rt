@@ -1,4 +1,4 @@
-//! The machine of a set of indices.
+//! A machine that runs an index set step by step.
 ghost use Rattle.std.specs.Prelude.{◌≡◌, ◌+◌, ◌<◌, ◌≤◌, ◌^◌, true, IfOk, length};
 
 use crate::call::{Answer, Call, IndexCall};
@@ -8,30 +8,37 @@ use iox_queues_steps::Stepped;
 use std::alloc::{AllocError, Global};
 use std::marker::Model;
 
-/// One step: a party begins a call, or goes on inside one.
+/// One step: a party begins a call, or makes the next step of its call.
 #[derive(Clone, Copy)]
 pub enum Move {
+    /// The party with this number begins a call.
     Begin(usize, Call),
+    /// The party with this number makes the next step of its call.
     GoOn(usize),
 }
 
-/// A call that ended: its first and its last step, by their number among the steps made.
+/// A finished call, with its first and its last step, by their numbers among the steps made.
 #[derive(Clone, Copy)]
 pub struct Finished {
+    /// The number of the party that made the call.
     pub party: usize,
+    /// The call.
     pub call: Call,
+    /// The result of the call.
     pub answer: Answer,
+    /// The number of its first step.
     pub first: u64,
+    /// The number of its last step.
     pub last: u64,
 }
 
-/// A set of indices whose parties go one step at a time, in any order that the caller wants.
+/// An index set whose parties make their steps in any order that the caller chooses.
 ///
-/// Any party may stop anywhere. A party may give back only what it holds, and only once: another release is skipped. Where fewer
-/// than 2^16 changes of the head lie inside each acquire, no index has two holders, an index is taken and given back by turns, of
-/// a locked set no index is out, only a release that was to lock it locked it, and it stays locked; by its own steps an acquire took
-/// just the index that it answers, a release gave back just its own, and what was refused moved none. Each step is one of one call:
-/// two local steps bound a call that ended.
+/// Any party may stop at any step. A party may release only an index that it holds, and only once: any other release is skipped. As long as
+/// the head changes fewer than 2^16 times within each acquire, no index has two holders, and acquires and releases of an index alternate. A
+/// locked set has no held index, only a release that was to lock the set has locked it, and it stays locked. An acquire took exactly the
+/// index that it returns, a release freed exactly its own index, and a refused call moved none. Each step belongs to one call, and each
+/// finished call begins and ends with a local step.
 #[derive(Drop)]
 pub struct IndexSetMachine {
     state: State,
@@ -56,8 +63,8 @@ impl IndexSetMachine {
     ghost use Rattle.iox_index_steps.specs.Machine.{is_locked};
     ghost use Rattle.iox_index_steps.specs.OfCalls.{StepsAreOfCalls, TellsStep};
 
-    /// A set of this many indices, of which none is held, with this many parties. There are fewer than 2^24 indices, since a head
-    /// has no room for more.
+    /// A set of this many indices, none of which is held, with this many parties. There must be fewer than 2^24 indices, since a head can't
+    /// store more. It fails only where an allocation fails.
     pub fn new(
         alloc: Global,
         capacity: usize,
@@ -71,8 +78,8 @@ impl IndexSetMachine {
         })
     }
 
-    /// Begins a call, or goes on inside one. The laws stand where fewer than 2^16 changes of the head lie inside each acquire, as
-    /// they do where fewer than 2^16 steps were made.
+    /// Begins a call, or makes the next step of a call. A step that isn't possible is skipped. The theorems hold as long as the head
+    /// changes fewer than 2^16 times within each acquire, which is so if fewer than 2^16 steps were made.
     pub fn step(&mut self, step: Move) -> Stepped
         ensures steps { StepsTo self.old step result self.new }
         ensures tells { TellsStep self.old step result self.new }
@@ -86,9 +93,8 @@ impl IndexSetMachine {
         self.state.step(step)
     }
 
-    /// Makes these steps one after the other, leaves out those that do not fit, and stops where no
-    /// memory is found. The answer is how many were made. The laws stand where fewer than 2^16 changes of the head lie inside each
-    /// acquire.
+    /// Makes these steps one after another, skips those that aren't possible, and stops where memory for recording a step runs out. Returns
+    /// how many steps were made. The theorems hold as long as the head changes fewer than 2^16 times within each acquire.
     pub fn run(&mut self, schedule: &[Move]) -> usize
         ensures runs { RunsTo self.old schedule.now result self.new }
         ensures recorded { IsRecorded self.new }
@@ -112,7 +118,7 @@ impl IndexSetMachine {
         made
     }
 
-    // What every machine keeps.
+    // Recalls the invariants of every machine for the prover.
     fn keeps(&self)
         ensures recorded { IsRecorded self.now }
         ensures counted { StepsAreOfCalls self.now }
@@ -131,7 +137,7 @@ impl IndexSetMachine {
         self.state.events.as_slice()
     }
 
-    /// The calls that ended, in their order.
+    /// The finished calls, in the order in which they finished.
     pub fn finished(&self) -> &[Finished]
         ensures value { result.now ≡ self.now.finished }
         ensures recorded { IsRecorded self.now }
@@ -141,7 +147,7 @@ impl IndexSetMachine {
         self.state.finished.as_slice()
     }
 
-    /// All indices are below this.
+    /// The capacity: every index is below it.
     pub fn capacity(&self) -> u64
         ensures { result ≡ length self.now.words.cells }
     {
@@ -155,7 +161,7 @@ impl IndexSetMachine {
         self.state.is_locked()
     }
 
-    /// Where the party stands; one that is not there is idle.
+    /// The stage of the party; a party that doesn't exist is idle.
     pub fn stage(&self, party: usize) -> IndexCall
         ensures { result ≡ stage_at self.now.seats party }
     {

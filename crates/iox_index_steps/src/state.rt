@@ -13,20 +13,22 @@ use iox_queues::sets::Event;
 use iox_queues_steps::{Access, Ring, Stepped, Word};
 use std::alloc::{AllocError, Global};
 
-/// Where a party stands, and the number of its call's first step.
+/// The stage of a party's call, and the number of the call's first step.
 #[derive(Clone, Copy)]
 pub struct Seat {
+    /// The stage of the party's call.
     pub stage: IndexCall,
+    /// The number of the first step of this call.
     pub first: u64,
 }
 
 #[derive(Drop)]
 pub(crate) struct State {
-    // The head lies in the read position.
+    // The read position of the ring stores the head.
     pub(crate) ring: Ring,
     pub(crate) capacity: u64,
     pub(crate) seats: Vec<Seat>,
-    // The party that took each index, until it gives it back.
+    // The party that took each index, until it releases the index.
     pub(crate) holders: Vec<Option<usize>>,
     pub(crate) events: Vec<Event>,
     pub(crate) finished: Vec<Finished>,
@@ -114,7 +116,7 @@ impl State {
         }
     }
 
-    // Room for one step, and for a call that ends with it.
+    // Reserves memory for one step, and for the call that finishes with it.
     fn reserve(&mut self, ends: bool) -> Result<(), AllocError>
         ensures same { machine_of self.new ≡ machine_of self.old }
         ensures capacity { self.new.capacity ≡ self.old.capacity }
@@ -207,7 +209,7 @@ impl State {
     }
 }
 
-// Makes the access that the stage asks for, and gives its answer; one that saw no index touches no cell, and needs none.
+// Makes the access of the stage, and returns its result. A call that saw no index touches no cell, and then the set needs none.
 fn apply(ring: &mut Ring, stage: IndexCall, access: Access) -> u64
     requires asked { access ≡ call_next stage }
     requires cells { saw_index stage ≡ true → 0 < length ring.old.cells }
@@ -221,7 +223,7 @@ fn apply(ring: &mut Ring, stage: IndexCall, access: Access) -> u64
     }
 }
 
-// Who took which index, after an exchange of the head that was won or lost.
+// The holder of each index after an exchange of the head, which may have failed.
 fn change_holder(holders: &mut Vec<Option<usize>>, party: usize, stage: IndexCall, answer: u64)
     ensures { holders.new.items ≡ holders_after holders.old.items party stage answer }
 {
@@ -243,7 +245,7 @@ fn put(holders: &mut Vec<Option<usize>>, index: u32, holder: Option<usize>)
     }
 }
 
-// Behind each index the next one is free.
+// The initial links: behind each index the next one is free.
 fn links(alloc: Global, capacity: usize) -> Result<Vec<u64>, AllocError>
     requires { capacity < 2 ^ 24 }
     ensures { IfOk result (λ links. links.items ≡ range_with_len 1 capacity) }
@@ -264,7 +266,7 @@ fn idle() -> Seat
     }
 }
 
-// Records the call, if it is over.
+// Records the call, if it is finished.
 fn end_call(finished: &mut Vec<Finished>, party: usize, seat: Seat, last: u64)
     requires { call_is_over seat.stage ≡ true → vec_len finished.old < vec_capacity finished.old }
     ensures { finished.new.items ≡ finished.old.items ++ call_ended party seat.first last seat.stage }

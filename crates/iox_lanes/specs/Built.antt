@@ -1,4 +1,4 @@
--- What the lanes of a domain are built of.
+-- What the lanes of a domain are built from.
 use Rattle.std.specs.Prelude.{ℕ, ◌≡◌, ◌<◌, ◌≤◌, ◌^◌, List, length, slice_get, Option, None, Some}
 use Rattle.iox_domain.specs.DomainPorts.Publishers.{port_of}
 use Rattle.iox_domain.specs.DomainPorts.declared.publisher_port.PublisherPort.{PublisherPort}
@@ -13,29 +13,30 @@ use Rattle.iox_lanes.specs.Ordered.{readers_behind}
 use Rattle.iox_lanes.specs.Sized.{AreSized}
 use Rattle.iox_lanes.specs.Spelling.{Spelling}
 
--- those of a publisher, if there is one; none has none
+-- The number of slots of the publisher, if there is one; otherwise 0.
 abbrev pub slots_if : {T U : Type 0} → Option (PublisherPort T U) → ℕ
 slots_if None = 0
 slots_if (Some port) = slots_in port
 
--- the publisher whose number stands at a place has no more slots than this
+-- The publisher whose number is at this place has at most this many slots.
 abbrev pub HasSlotsAt : {T U : Type 0} → List (ℕ × PublisherPort T U) → List ℕ → ℕ → ℕ → Type 0
 HasSlotsAt {T} {U} ports numbers most place = (number : ℕ) (port : PublisherPort T U) → slice_get numbers place ≡ Some number
     → port_of number ports ≡ Some port → slots_in port ≤ most
 
--- so it is with each of these publishers
+-- Each of these publishers has at most this many slots.
 abbrev pub HaveSlots : {T U : Type 0} → List (ℕ × PublisherPort T U) → List ℕ → ℕ → Type 0
 HaveSlots ports numbers most = (place : ℕ) → HasSlotsAt ports numbers most place
 
--- lanes behind what they find of a domain: publisher by publisher, then in which order each subscriber goes over its connections
+-- The lanes after they found what the domain has: first publisher by publisher, then the order in which each subscriber goes over its
+-- connections.
 abbrev pub domain_behind : {T U X Y D : Type 0} {F : X → Type 0} {G : Y → Type 0} → Spelling T U
     → Domain T U (Handlers X Y F G) D → List ℕ → List ℕ → World → World
 domain_behind spelling domain publishers subscribers m =
     readers_behind publishers domain.state.ports.subscribers subscribers
     (publishers_behind spelling domain publishers subscribers m (length publishers)) (length subscribers)
 
--- The lanes of a domain are those that are made of sizes as agreed, with as many slots for each publisher as any has, and behind all
--- that they find of the domain; memory has room for their words, and each message that is laid was alone in its slot.
+-- The lanes of a domain are those made of the agreed sizes, with as many slots for each publisher as the publisher that has most, after
+-- they found all that the domain has. There are fewer than 2^64 words, and each message that was found is alone in its slot.
 pub record AreBuilt {T U X Y D : Type 0} {F : X → Type 0} {G : Y → Type 0} (spelling : Spelling T U)
     (domain : Domain T U (Handlers X Y F G) D) (publishers subscribers : List ℕ) (lanes : World) : Type 0 where
   pub sized : AreSized domain.state.ports.sizes (length publishers) (length subscribers) spelling.payload_count spelling.middle_count lanes

@@ -1,4 +1,4 @@
--- A domain whose publishers have no messages any longer.
+-- A domain whose publishers have forgotten their messages.
 use Rattle.std.specs.Prelude.{ℕ, zero, suc, ◌≡◌, ◌==◌, Bool, true, false, List, [], length, map, slice_get, Option, None, Some, option_map}
 use Rattle.std.specs.List.{list_any}
 use Rattle.iox_domain_ports.specs.MessagesSending.{with_uses}
@@ -8,47 +8,47 @@ use Rattle.iox_domain_ports.specs.declared.publisher_port.PublisherPort.{Publish
 use Rattle.iox_domain.specs.declared.domain.Domain.{Domain}
 use Rattle.iox_lanes_threads.specs.Ports.{BoardPublisher}
 
--- a publisher without its messages: nothing waits at its connections, and its history is empty; all else is as it was
+-- The publisher without its messages: its mailboxes and its history are empty; all else is as it was.
 abbrev pub without_messages : {T U : Type 0} → PublisherPort T U → PublisherPort T U
 without_messages port = record port {
   sender = with_uses (record port.sender.uses { history = []; connections = map emptied port.sender.uses.connections }) port.sender;
 }
 
--- a number is one of these
+-- The number is one of these.
 abbrev pub is_among : ℕ → List ℕ → Bool
 is_among number numbers = list_any (λ other. number == other) numbers
 
--- a publisher, if there is one, without its messages where so it is asked; else as it was
+-- The publisher, if there is one, without its messages if `true`, and as it was if `false`.
 abbrev pub emptied_if : {T U : Type 0} → Bool → Option (PublisherPort T U) → Option (PublisherPort T U)
 emptied_if true port = option_map without_messages port
 emptied_if false port = port
 
--- The publishers of these numbers have no messages any longer; each other publisher is as it was.
+-- The publishers with these numbers have no messages; each other publisher is as it was.
 abbrev pub AreWithout : {T U : Type 0} → List ℕ → List (ℕ × PublisherPort T U) → List (ℕ × PublisherPort T U) → Type 0
 AreWithout numbers old new = (number : ℕ) → port_of number new ≡ emptied_if (is_among number numbers) (port_of number old)
 
--- a publisher whose next message gets the number behind this one, if messages have numbers
+-- The publisher with this last sequence number, after which it goes on.
 abbrev pub with_last : {T U : Type 0} → Option ℕ → PublisherPort T U → PublisherPort T U
 with_last last port = record port { last_sequence = last }
 
--- publishers, of which the one of a number, if there is one, goes on behind this number
+-- The publishers, of which the one with this number, if there is a number, goes on after this sequence number.
 abbrev pub gone_on_at : {T U : Type 0} → Option ℕ → Option ℕ → List (ℕ × PublisherPort T U) → List (ℕ × PublisherPort T U)
 gone_on_at None last ports = ports
 gone_on_at (Some number) last ports = changed number (with_last last) ports
 
--- publishers, of which that of a port in threads, if there is one, goes on behind the number that this gave last: these are the numbers of
--- the publishers, by the places of the ports
+-- The publishers, of which that of the ended port, if there is one, goes on after the port's last sequence number. `numbers` are the
+-- numbers of the publishers, by place of their ports.
 abbrev pub gone_on_by : {T U : Type 0} → List ℕ → Option BoardPublisher → List (ℕ × PublisherPort T U) → List (ℕ × PublisherPort T U)
 gone_on_by numbers None ports = ports
 gone_on_by numbers (Some port) ports = gone_on_at (slice_get numbers port.place) port.own.lane.last ports
 
--- publishers, of which those of the first ports, so many, go on so
+-- The publishers, of which those of the first `count` ended ports go on after their ports' last sequence numbers.
 abbrev pub gone_on : {T U : Type 0} → List ℕ → List BoardPublisher → List (ℕ × PublisherPort T U) → ℕ → List (ℕ × PublisherPort T U)
 gone_on numbers ended ports zero = ports
 gone_on numbers ended ports (suc count) = gone_on_by numbers (slice_get ended count) (gone_on numbers ended ports count)
 
--- The publishers of these numbers in a domain have no messages any longer, and go on behind the numbers that their ports in threads gave
--- last; all else of the domain is as it was.
+-- The publishers with these numbers have no messages, and go on after the last sequence numbers of their ports in threads; all else of the
+-- domain is as it was.
 pub record IsEnded {T U B D : Type 0} (numbers : List ℕ) (ended : List BoardPublisher) (old new : Domain T U B D) : Type 0 where
   pub rest : new ≡ record old { state = record old.state { ports = record old.state.ports { publishers = new.state.ports.publishers } } }
   pub publishers : AreWithout numbers (gone_on numbers ended old.state.ports.publishers (length ended)) new.state.ports.publishers

@@ -1,4 +1,4 @@
--- How large the lanes of a domain's ports are, to the last slot.
+-- The exact sizes of the lanes of a domain's ports.
 use Rattle.std.specs.Prelude.{ℕ, zero, suc, max, List, length, slice_index, Option, None, Some}
 use Rattle.iox_domain.specs.DomainPorts.Publishers.{port_of}
 use Rattle.iox_domain.specs.DomainPorts.declared.publisher_port.PublisherPort.{PublisherPort}
@@ -8,26 +8,27 @@ use Rattle.iox_lanes.specs.Built.{slots_if}
 use Rattle.iox_lanes.specs.Holding.{kind_of}
 use Rattle.iox_lanes.specs.Sized.{most_waiting}
 
--- the largest of the numbers at 0, 1 and so on, so many of them; 0 of none
+-- The largest of the values of `f` for the first `count` numbers; 0 for none.
 abbrev pub largest : (ℕ → ℕ) → ℕ → ℕ
 largest f zero = 0
 largest f (suc count) = max (f count) (largest f count)
 
--- how many loans a publisher may have out, if there is one; none may have none
+-- How many loans the publisher, if there is one, may have out; otherwise 0.
 abbrev pub loans_if : {T U : Type 0} → Option (PublisherPort T U) → ℕ
 loans_if None = 0
 loans_if (Some port) = port.sender.uses.most_loans
 
--- the most loans that any of the publishers of these numbers may have out
+-- The most loans that any of the publishers with these numbers may have out.
 abbrev pub most_loans_of : {T U : Type 0} → List (ℕ × PublisherPort T U) → List ℕ → ℕ
 most_loans_of ports numbers = largest (λ place. loans_if (port_of (slice_index numbers place) ports)) (length numbers)
 
--- the most slots that any of the publishers of these numbers has
+-- The most slots that any of the publishers with these numbers has.
 abbrev pub most_slots_of : {T U : Type 0} → List (ℕ × PublisherPort T U) → List ℕ → ℕ
 most_slots_of ports numbers = largest (λ place. slots_if (port_of (slice_index numbers place) ports)) (length numbers)
 
--- The sizes of the lanes of the publishers of these numbers, and of so many subscribers: kind of ring, buffer, borrow limit and history as
--- agreed; as many loans and slots for each publisher as the one has that has most; and values of so many words.
+-- The sizes of the lanes for the publishers with these numbers and this many subscribers: kind of ring, buffer size, borrow limit and
+-- history size as agreed; as many loans and slots for each publisher as the one that has most; and payloads and user headers with these
+-- numbers of words.
 abbrev pub sizes_for : {T U : Type 0} → ℕ → ℕ → ServicePorts T U → List ℕ → ℕ → LaneSizes
 sizes_for payload_count header_count ports publishers subscribers = record {
   publishers = length publishers;

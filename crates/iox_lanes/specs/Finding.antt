@@ -1,4 +1,4 @@
--- Lanes to which nothing happened but that something was found.
+-- Lanes to which nothing happened except that they found something.
 use Rattle.std.specs.Prelude.{◌+◌, ◌<◌, ◌^◌, ◌≡◌, Bool, true, false, List, [], ◌∷◌, set}
 use Rattle.iox_lanes_machine.specs.Findings.{AreFound}
 use Rattle.iox_lanes_machine.specs.Made.{start}
@@ -12,7 +12,7 @@ pub record Beginning : Type 0 where
   pub sizes : LaneSizes
   pub lanes : World
 
--- whether what is found is a sample that was given back
+-- Whether the finding is a sample in a completion ring.
 abbrev pub is_given_back : Found → Bool
 is_given_back (found.Waiting publisher place slot) = false
 is_given_back (found.GivenBack publisher place slot) = true
@@ -23,12 +23,12 @@ is_given_back (found.Slots publisher slots most_loans) = false
 is_given_back (found.Sender publisher node_id publisher_id fails last) = false
 is_given_back (found.Swapped subscriber one other) = false
 
--- none of what was found is a sample that was given back
+-- None of the findings is a sample in a completion ring.
 abbrev pub NoneCameBack : List Found → Type 0
 NoneCameBack [] = Unit {0}
 NoneCameBack (first ∷ rest) = (is_given_back first ≡ false) × NoneCameBack rest
 
--- lanes that were made of these sizes, and what they found
+-- The lanes were made of these sizes, and then found this list.
 pub record WasFound (sizes : LaneSizes) (m : World) : Type 0 where
   pub some : 0 < sizes.buffer
   pub ports : sizes.subscribers < 2 ^ 61
@@ -36,12 +36,12 @@ pub record WasFound (sizes : LaneSizes) (m : World) : Type 0 where
   pub found : List Found
   pub finds : AreFound (start sizes) found m
 
--- Lanes that were made of these sizes, and what they found: no sample that was given back is among it.
+-- The lanes were made of these sizes, and then found a list without samples in completion rings.
 pub record NothingCameBack (sizes : LaneSizes) (m : World) : Type 0 where
   pub was : WasFound sizes m
   pub none : NoneCameBack was.found
 
--- whether the sends of each publisher fail behind a finding
+-- Whether the sends of each publisher fail, after this was found.
 abbrev pub failing_behind : Found → List Bool → List Bool
 failing_behind (found.Waiting publisher place slot) all = all
 failing_behind (found.GivenBack publisher place slot) all = all

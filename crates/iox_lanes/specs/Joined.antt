@@ -10,39 +10,40 @@ use Rattle.iox_lanes_machine.specs.World.{World}
 use Rattle.iox_lanes.specs.Holding.{port_if}
 use Rattle.iox_lanes.specs.Spelling.{Spelling}
 
--- of a list with a row of so many for each publisher, the row of the one at a place
+-- The indices of the publisher at this place, in a list that has `count` for each publisher.
 abbrev pub row_of : ℕ → List ℕ → ℕ → List ℕ
 row_of count indices place = take count (drop (place * count) indices)
 
--- The slots of a lane are those of a publisher of the domain of which nothing is out: all of one segment, and as many are its history.
+-- The lane has the slots of the domain's publisher, of which nothing is out: all are of one segment, and the history size is the same.
 pub record HasSlotsOf {T U : Type 0} (port : PublisherPort T U) (fixed : FixedSlots) : Type 0 where
   pub rested : IsRested port.sender
   pub first : port.sender.uses.first ≡ 0
   pub slots : fixed.slots ≡ port.sender.uses.size
   pub kept : fixed.kept ≡ port.sender.uses.kept
 
--- the same of a publisher and a lane that may be wanting; where one is it isn't so
+-- Both the publisher and the lane exist, and the lane has the publisher's slots.
 abbrev pub HasSlotsIf : {T U : Type 0} → Option (PublisherPort T U) → Option FixedSlots → Type 0
 HasSlotsIf None fixed = ⊥
 HasSlotsIf (Some port) None = ⊥
 HasSlotsIf (Some port) (Some fixed) = HasSlotsOf port fixed
 
--- where a number, if there is one, is first in a list
+-- Where the number, if there is one, is first in the list.
 abbrev pub place_if : Option ℕ → List ℕ → Option ℕ
 place_if None numbers = None
 place_if (Some number) numbers = place_of number numbers
 
--- no number stands at two places of a list
+-- No number is at two places of the list.
 abbrev pub AreListedOnce : List ℕ → Type 0
 AreListedOnce numbers = (one other number : ℕ) → slice_get numbers one ≡ Some number → slice_get numbers other ≡ Some number → one ≡ other
 
--- the publisher at a place of the lanes is the one of the domain that has the number of this place, which no place before it has
+-- The publisher at this place of the lanes has the slots of the domain's publisher whose number is at this place, and the number is at no
+-- earlier place.
 pub record SenderJoins {T U : Type 0} (ports : List (ℕ × PublisherPort T U)) (lanes : World) (senders : List ℕ) (place : ℕ) : Type 0 where
   pub slots : HasSlotsIf (port_if ports (slice_get senders place)) (slots_at lanes place)
   pub alone : place_if (slice_get senders place) senders ≡ Some place
 
--- A connection of the lanes, from the publisher at this place, is one of the publisher's in the domain: it goes on, as many may
--- wait, and no other connection of the publisher before it has its index.
+-- A connection of the lanes, from the publisher at this place, is one of the publisher's in the domain: it is live, as many messages may
+-- wait there, and no earlier connection of the publisher has its index.
 pub record IsLinkTo {T U : Type 0} (port : PublisherPort T U) (publisher subscriber : ℕ) (row : List ℕ) (index : ℕ) (link : LinkState) :
     Type 0 where
   pub from : link.publisher ≡ publisher
@@ -50,21 +51,22 @@ pub record IsLinkTo {T U : Type 0} (port : PublisherPort T U) (publisher subscri
   pub limit : link.limit ≡ (connection_of index port).limit
   pub alone : place_of index row ≡ Some subscriber
 
--- the same of a publisher, an index and a link that may be wanting; where one is it isn't so
+-- Publisher, index and link all exist, and the link is the publisher's connection with this index.
 abbrev pub IsLinkToIf : {T U : Type 0} → Option (PublisherPort T U) → ℕ → ℕ → List ℕ → Option ℕ → Option LinkState → Type 0
 IsLinkToIf None publisher subscriber row index link = ⊥
 IsLinkToIf (Some port) publisher subscriber row None link = ⊥
 IsLinkToIf (Some port) publisher subscriber row (Some index) None = ⊥
 IsLinkToIf (Some port) publisher subscriber row (Some index) (Some link) = IsLinkTo port publisher subscriber row index link
 
--- so is the connection between the publisher and the subscriber at these places
+-- The lanes' connection between the publisher and the subscriber at these places is the connection of the domain's publisher with its
+-- index.
 abbrev pub LinkJoins : {T U : Type 0} → List (ℕ × PublisherPort T U) → World → List ℕ → ℕ → List ℕ → ℕ → ℕ → Type 0
 LinkJoins ports lanes senders readers indices publisher subscriber =
     IsLinkToIf (port_if ports (slice_get senders publisher)) publisher subscriber (row_of readers indices publisher)
     (slice_get indices (publisher * readers + subscriber)) (slice_get lanes.links (publisher * readers + subscriber))
 
--- Lanes go with the publishers of a domain: as many words for its values, its publishers by their places, and for each of them a
--- connection to each of so many subscribers; and there is a place for one value.
+-- The lanes are joined with the publishers of a domain: they have as many words for its values, its publishers by place, and for each of
+-- them a connection to each of `readers` subscribers; and there is a place for one value.
 pub record IsJoined {T U : Type 0} (spelling : Spelling T U) (places : ℕ) (lanes : World) (ports : List (ℕ × PublisherPort T U))
     (senders : List ℕ) (readers : ℕ) (indices : List ℕ) : Type 0 where
   pub some : 0 < places
@@ -77,7 +79,7 @@ pub record IsJoined {T U : Type 0} (spelling : Spelling T U) (places : ℕ) (lan
   pub linking : (publisher : ℕ) → publisher < length senders → (subscriber : ℕ) → subscriber < readers
       → LinkJoins ports lanes senders readers indices publisher subscriber
 
--- steps keep it
+-- Lanes that are joined with a domain's publishers still are after steps.
 abbrev pub JoinedStays : (T U : Type 0) → Type 0
 JoinedStays T U = (spelling : Spelling T U) (places : ℕ) (before after : World) (ports : List (ℕ × PublisherPort T U)) (senders : List ℕ)
     (readers : ℕ) (indices : List ℕ) → IsJoined spelling places before ports senders readers indices → StaysFixed before after

@@ -1,4 +1,4 @@
--- The definitions that contracts about a domain's ports in threads cite.
+-- The definitions that contracts about the lanes of a domain cite.
 pub mod Spelling
 pub mod Lying
 pub mod Finding

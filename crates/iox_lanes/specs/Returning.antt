@@ -18,9 +18,9 @@ use Rattle.iox_lanes_machine.specs.Fixed.{slots_at}
 use Rattle.iox_lanes.specs.Joined.{HasSlotsIf, IsLinkToIf, row_of}
 use Rattle.iox_lanes.specs.Spelling.{ReadingBack}
 
--- A publisher as lanes leave it: what waits at a connection by its order waits at the one of its index, nothing waits at a
--- connection of which the lanes have none, the history is that of the lanes, its numbers go on behind the last one that its lane gave, and
--- all else is as it was.
+-- The publisher is as the lanes leave it: what waits at a connection by its order waits at the connection with its index, nothing waits at
+-- a connection that the lanes don't have, the history is that of the lane, the sequence numbers go on after the lane's last one, and all
+-- else is as it was.
 pub record IsPortLeft {T U : Type 0} (reading : ReadingBack T U) (lanes : World) (from : ℕ) (row : List ℕ) (lane : PublisherLaneState)
     (old new : PublisherPort T U) : Type 0 where
   pub rest : new ≡ record old {
@@ -33,7 +33,7 @@ pub record IsPortLeft {T U : Type 0} (reading : ReadingBack T U) (lanes : World)
       ≡ with_waiting (connection_of index old) (left_at reading.payload reading.middle lanes from lane.port.book.first (place_of index row))
   pub history : new.sender.uses.history ≡ messages_in reading.payload reading.middle lanes.table lane.port.book.first lane.port.book.history
 
--- the same of a lane and of publishers that may be wanting; where one is it isn't so
+-- The lane and both publishers exist, and the publisher is as the lanes leave it.
 abbrev pub IsPortLeftIf : {T U : Type 0} → ReadingBack T U → World → ℕ → List ℕ → Option PublisherLaneState
     → Option (PublisherPort T U) → Option (PublisherPort T U) → Type 0
 IsPortLeftIf reading lanes from row None old new = ⊥
@@ -41,14 +41,14 @@ IsPortLeftIf reading lanes from row (Some lane) None new = ⊥
 IsPortLeftIf reading lanes from row (Some lane) (Some old) None = ⊥
 IsPortLeftIf reading lanes from row (Some lane) (Some old) (Some new) = IsPortLeft reading lanes from row lane old new
 
--- a publisher at a place of the lanes is as they leave it, one at no place as it was
+-- The publisher at this place of the lanes is as they leave it; a publisher without a place is as it was.
 abbrev pub IsLeftAt : {T U : Type 0} → ReadingBack T U → World → ℕ → List ℕ → Option ℕ → Option (PublisherPort T U)
     → Option (PublisherPort T U) → Type 0
 IsLeftAt reading lanes readers indices None old new = new ≡ old
 IsLeftAt reading lanes readers indices (Some place) old new =
     IsPortLeftIf reading lanes (place * readers) (row_of readers indices place) (slice_get lanes.publishers place) old new
 
--- the publisher at a place of the lanes is this one of the domain, and the lanes have its connections
+-- The publisher at this place of the lanes is this one of the domain, and the lanes have its connections.
 pub record JoinsAt {T U : Type 0} (lanes : World) (port : Option (PublisherPort T U)) (place readers : ℕ) (indices : List ℕ) : Type 0 where
   pub slots : HasSlotsIf port (slots_at lanes place)
   pub link_count : place * readers + readers ≤ length lanes.links
@@ -57,23 +57,23 @@ pub record JoinsAt {T U : Type 0} (lanes : World) (port : Option (PublisherPort 
       → IsLinkToIf port place subscriber (row_of readers indices place) (slice_get indices (place * readers + subscriber))
       (slice_get lanes.links (place * readers + subscriber))
 
--- the publishers by number: each is as the lanes leave it
+-- Each publisher, by number, is as the lanes leave it.
 abbrev pub ArePortsLeft : {T U : Type 0} → ReadingBack T U → World → List ℕ → ℕ → List ℕ → List
     (ℕ × PublisherPort T U)
     → List (ℕ × PublisherPort T U) → Type 0
 ArePortsLeft reading lanes senders readers indices old new =
     (number : ℕ) → IsLeftAt reading lanes readers indices (place_of number senders) (port_of number old) (port_of number new)
 
--- a domain of which only the publishers have changed
+-- Only the publishers of the domain have changed.
 abbrev pub OnlyPublishers : {T U B D : Type 0} → Domain T U B D → Domain T U B D → Type 0
 OnlyPublishers old new = new ≡ record old
     { state = record old.state { ports = record old.state.ports { publishers = new.state.ports.publishers } } }
 
--- no party is in a call, and at most 2^63 steps were made: each connection is at rest
+-- Each connection is at rest: no party is inside a call, and at most 2^63 steps were made.
 abbrev pub AllRest : World → Type 0
 AllRest lanes = (connection : ℕ) → Rests lanes connection
 
--- what keeps lanes from becoming a domain
+-- The unrest of the lanes that this error means.
 abbrev pub unrest_of : IntoDomainError → Unrest
 unrest_of error.PartyInCall = unrest.PartyInCall
 unrest_of error.SamplesOut = unrest.SamplesOut

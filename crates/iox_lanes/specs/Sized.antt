@@ -1,4 +1,4 @@
--- How large the lanes of a domain are, and what that says of their loans.
+-- How large the lanes of a domain are, and what follows for their loans.
 use Rattle.std.specs.Prelude.{ℕ, ◌≡◌, ◌+◌, ◌*◌, ◌<◌, ◌≤◌, ◌^◌, List, [], ◌∷◌, ◌++◌, true, length, max, slice_get, Some}
 use Rattle.iox_domain_values.specs.declared.service_sizes.ServiceSizes.{ServiceSizes}
 use Rattle.iox_lanes_machine.specs.LanesParties.Parties.{PublisherLaneState, SubscriberLaneState}
@@ -17,21 +17,20 @@ use Rattle.iox_lanes_machine.specs.declared.sizes.LaneSizes.{LaneSizes}
 use Rattle.iox_lanes.specs.Finding.{WasFound}
 use Rattle.iox_lanes.specs.Holding.{kind_of}
 
--- how many messages may wait at a connection of the lanes: as many as agreed, and one at least
+-- How many messages may wait at a connection of the lanes: as many as agreed, and at least one.
 abbrev pub most_waiting : ServiceSizes → ℕ
 most_waiting agreed = max agreed.subscriber_max_buffer_size 1
 
--- how many samples may wait at a connection of the lanes and be borrowed there
+-- How many messages of a connection of the lanes may wait or be borrowed together.
 abbrev pub most_at : ServiceSizes → ℕ
 most_at agreed = most_waiting agreed + agreed.subscriber_max_borrowed_samples
 
--- how many slots a publisher of the lanes has a use for at most: those at its connections to so many subscribers, its history
--- and its loans
+-- The most slots that a publisher of the lanes uses: those of its connections to this many subscribers, its history and its loans.
 abbrev pub slots_used : ServiceSizes → ℕ → ℕ → ℕ
 slots_used agreed subscribers loans = subscribers * most_at agreed + agreed.history_size + loans
 
--- These sizes are the agreed ones: the kind of ring, how many messages may wait, how many samples a subscriber may borrow, and how many
--- messages a publisher keeps; for so many publishers, subscribers and words.
+-- These sizes are the agreed ones, for this many publishers, subscribers and words: the kind of ring, how many messages may wait, how many
+-- samples a subscriber may borrow, and how many messages a publisher keeps.
 pub record AreAgreed (agreed : ServiceSizes) (publishers subscribers payload_count header_count : ℕ) (sizes : LaneSizes) : Type 0 where
   pub as_many_publishers : sizes.publishers ≡ publishers
   pub as_many_subscribers : sizes.subscribers ≡ subscribers
@@ -42,9 +41,9 @@ pub record AreAgreed (agreed : ServiceSizes) (publishers subscribers payload_cou
   pub user_header : sizes.user_header_words ≡ header_count
   pub payload : sizes.payload_words ≡ payload_count
 
--- Lanes before their first step are as large as agreed: they were made of the agreed sizes; a ring of samples given back has a cell for
--- each sample that may be at its connection, and one more; each publisher has a connection to each subscriber, and keeps as many messages
--- as agreed; and each subscriber may borrow as many samples as agreed.
+-- Lanes before their first step have the agreed sizes: they were made of these; a completion ring has a cell for each message that may wait
+-- or be borrowed at its connection, and one more; each publisher has a connection to each subscriber, and the agreed history size; and each
+-- subscriber may borrow as many samples as agreed.
 pub record AreSized (agreed : ServiceSizes) (publishers subscribers payload_count header_count : ℕ) (m : World) : Type 0 where
   pub sizes : LaneSizes
   pub are_agreed : AreAgreed agreed publishers subscribers payload_count header_count sizes
@@ -55,7 +54,7 @@ pub record AreSized (agreed : ServiceSizes) (publishers subscribers payload_coun
   pub borrowing : (place : ℕ) (lane : SubscriberLaneState) → slice_get m.subscribers place ≡ Some lane
       → lane.port.most_borrowed ≡ agreed.subscriber_max_borrowed_samples
 
--- Wherever steps brought such lanes, a loan that is not over yet has made at most 4 * S * (B + R + 2) + 2 steps with the next one, for S
+-- Wherever steps brought such lanes, a loan that isn't over yet has made at most 4 * S * (B + R + 2) + 2 steps with the next one, for S
 -- subscribers at each of which B messages may wait and R samples be borrowed, as agreed; as long as at most 2^63 steps were made.
 abbrev pub AgreedLoansEndSoon : Type 0
 AgreedLoansEndSoon = (agreed : ServiceSizes) (publishers subscribers payload_count header_count : ℕ) (begun : World)
@@ -66,8 +65,8 @@ AgreedLoansEndSoon = (agreed : ServiceSizes) (publishers subscribers payload_cou
     → IsInCall (led (happens m (Publisher place) (Begin call.LoanUninit)) entries) place m.moments
     → 1 + own_steps (happens m (Publisher place) (Begin call.LoanUninit)) place entries + 1 ≤ 4 * subscribers * (most_at agreed + 2) + 2
 
--- Nor does a send of such lanes take more than 4 * S * (B + R + 3) + W + 7 steps, where W words lie between the three of a header and the
--- payload, fewer than 2^61; as long as at most 2^63 steps were made.
+-- Wherever steps brought such lanes, a send that isn't over yet has made at most 4 * S * (B + R + 3) + W + 7 steps with the next one, where
+-- W is the number of words between the three words of the header and the payload, below 2^61; as long as at most 2^63 steps were made.
 abbrev pub AgreedSendsEndSoon : Type 0
 AgreedSendsEndSoon = (agreed : ServiceSizes) (publishers subscribers payload_count header_count : ℕ) (begun : World)
     → AreSized agreed publishers subscribers payload_count header_count begun → header_count < 2 ^ 61
@@ -78,8 +77,8 @@ AgreedSendsEndSoon = (agreed : ServiceSizes) (publishers subscribers payload_cou
     → 1 + own_steps (happens m (Publisher place) (Begin (call.Send loan))) place entries + 1
     ≤ 4 * subscribers * (most_at agreed + 3) + header_count + 7
 
--- And such a loan ends with a slot, if as it began fewer were out than may be and the publisher had as many slots as it can have a use
--- for; as long as at most 2^63 steps were made, and for slots that have numbers below 2^64.
+-- A loan of such lanes ends with a slot, if fewer loans were out than may be when it began, and the publisher has as many slots as it can
+-- use; as long as at most 2^63 steps were made, and for slots with numbers below 2^64.
 abbrev pub AgreedSlotsSuffice : Type 0
 AgreedSlotsSuffice = (agreed : ServiceSizes) (publishers subscribers payload_count header_count : ℕ) (begun : World)
     → AreSized agreed publishers subscribers payload_count header_count begun

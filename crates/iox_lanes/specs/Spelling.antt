@@ -9,8 +9,8 @@ pub record Spelling (T U : Type 0) : Type 0 where
   pub payload_count : ℕ
   pub middle_count : ℕ
 
--- So they are spelled where payloads have these words, so many, and user headers those; before these stands the number of the message,
--- where messages have numbers.
+-- The spelling in which payloads and user headers have these words; before those of a user header comes the sequence number, where messages
+-- have one.
 abbrev pub spelling_of : {T U : Type 0} → Bool → (T → List ℕ) → ℕ → (U → List ℕ) → ℕ → Spelling T U
 spelling_of numbered payload_words payload_count header_words header_count = record {
   payload = payload_words;
@@ -19,11 +19,12 @@ spelling_of numbered payload_words payload_count header_words header_count = rec
   middle_count = middle_count numbered header_count;
 }
 
--- How messages are read: the payload of its words, and the number and user header of those between header and payload.
+-- How messages are read: the payload from its words, and the sequence number and user header from the words between header and payload.
 pub record ReadingBack (T U : Type 0) : Type 0 where
   pub payload : List ℕ → T
   pub middle : List ℕ → Option ℕ × U
 
--- So they are read where these are the payload and the user header of words; a number stands before these, where messages have numbers.
+-- The reading in which payloads and user headers are read from words like this; a sequence number comes before a user header, where
+-- messages have one.
 abbrev pub reading_back : {T U : Type 0} → Bool → (List ℕ → T) → (List ℕ → U) → ReadingBack T U
 reading_back numbered payload_of header_of = record { payload = payload_of; middle = middle_of numbered header_of }

@@ -1,4 +1,4 @@
--- Which connections of a domain's publishers the connections of lanes are.
+-- Which connections of a domain's publishers are the connections of its lanes.
 use Rattle.std.specs.Prelude.{ℕ, ◌≡◌, ◌+◌, ◌*◌, ◌<◌, List, length, map, get_or, slice_get, unwrap_or, Option, None, Some}
 use Rattle.iox_domain.specs.DomainPorts.Ports.{connection_of}
 use Rattle.iox_domain.specs.DomainPorts.Publishers.{port_of}
@@ -10,24 +10,25 @@ use Rattle.iox_domain.specs.declared.ports.service_ports.ServicePorts.{ServicePo
 use Rattle.iox_lanes.specs.Holding.{port_if, reader_if}
 use Rattle.iox_lanes.specs.Joined.{row_of}
 
--- the index of the connection that a publisher's messages for a subscriber go to; 0 where there is none
+-- The index of the connection to which the publisher has tied the subscriber's place; 0 if there is none.
 abbrev pub tie_for : {T U : Type 0} → PublisherPort T U → Option SubscriberPort → ℕ
 tie_for port None = 0
 tie_for port (Some reader) = unwrap_or (get_or port.ties.items reader.place None) 0
 
--- those for the subscribers of these numbers, in their order
+-- The indices of the connections to which the publisher has tied the places of the subscribers with these numbers, in their order.
 abbrev pub ties_for : {T U : Type 0} → List (ℕ × SubscriberPort) → List ℕ → PublisherPort T U → List ℕ
 ties_for subscribers numbers port = map (λ number. tie_for port (subscriber_of number subscribers)) numbers
 
--- These are, publisher by publisher and in the order of the numbers, the indices of the connections that the publishers' messages for the
--- subscribers go to.
+-- These are, publisher by publisher and in the order of the numbers, the indices of the connections to which the publishers have tied the
+-- subscribers' places.
 pub record AreTies {T U : Type 0} (ports : ServicePorts T U) (publishers subscribers indices : List ℕ) : Type 0 where
   pub count : length indices ≡ length publishers * length subscribers
   pub rows : (place number : ℕ) (port : PublisherPort T U) → slice_get publishers place ≡ Some number
       → port_of number ports.publishers ≡ Some port
       → row_of (length subscribers) indices place ≡ ties_for ports.subscribers subscribers port
 
--- a publisher's messages for a subscriber go to the connection of this index, which goes on; so if there are all three
+-- If publisher, subscriber and index all exist, the publisher has tied the subscriber's place to the connection with this index, which is
+-- live.
 abbrev pub IsTied : {T U : Type 0} → Option (PublisherPort T U) → Option SubscriberPort → Option ℕ → Type 0
 IsTied None reader index = Unit {0}
 IsTied (Some port) None index = Unit {0}
@@ -35,7 +36,7 @@ IsTied (Some port) (Some reader) None = Unit {0}
 IsTied (Some port) (Some reader) (Some index) = (get_or port.ties.items reader.place None ≡ Some index)
     × ((connection_of index port).stage ≡ stage.Live)
 
--- so it is of each publisher, each subscriber and the index of their connection, which has the number of its place, publisher by publisher
+-- Each publisher has tied each subscriber's place to a live connection, whose index is in the list, publisher by publisher.
 abbrev pub AreTied : {T U : Type 0} → ServicePorts T U → List ℕ → List ℕ → List ℕ → Type 0
 AreTied ports publishers subscribers indices = (publisher subscriber : ℕ) → subscriber < length subscribers
     → IsTied (port_if ports.publishers (slice_get publishers publisher))

@@ -1,4 +1,4 @@
-//! Lanes find what a domain has.
+//! Builds lanes that find what a domain has.
 ghost use Rattle.std.specs.Prelude.{◌≡◌, ◌+◌, ◌-◌, ◌*◌, ◌++◌, ◌^◌, ◌<◌, ℕ, [], length, map, max, option_copied, slice_get, slice_index};
 ghost use Rattle.std.specs.Prelude.{is_some, set, true, IfOk, OnOk, None, Some};
 ghost use Rattle.std.specs.List.{position};
@@ -41,7 +41,8 @@ use iox_queues_base::Words;
 use iox_queues_steps::rings::RingKind;
 use std::alloc::{AllocError, Global};
 
-/// Lanes at which all that the domain has was found, that nothing keeps from becoming lanes.
+/// Builds lanes that found all that the domain has. No reason of `refusal` may apply to the domain. `AllocError` is returned only where an
+/// allocation fails.
 pub(crate) fn build<T: Words, U: Words>(
     alloc: Global,
     domain: &Domain<T, U>,
@@ -97,7 +98,7 @@ pub(crate) fn build<T: Words, U: Words>(
     })
 }
 
-// The sizes of the lanes: as many slots and loans as the publisher has that has most.
+// The sizes of the lanes: each publisher has as many slots and loans as the one that has most.
 fn sizes_of<T: Words, U: Words>(
     domain: &Domain<T, U>,
     numbers: &[u64],
@@ -138,7 +139,7 @@ fn kind_of(overflows: bool) -> RingKind
     }
 }
 
-// The most loans that any of the publishers of these numbers may have out.
+// The most loans that any of the publishers with these numbers may have out.
 fn most_loans<T: Words, U: Words>(domain: &Domain<T, U>, numbers: &[u64]) -> u64
     ensures { result ≡ most_loans_of domain.now.state.ports.publishers numbers.now }
 {
@@ -149,7 +150,7 @@ fn most_loans<T: Words, U: Words>(domain: &Domain<T, U>, numbers: &[u64]) -> u64
     most
 }
 
-// How many loans the publisher of a number may have out; none where there is none.
+// How many loans the publisher with this number may have out; 0 if there is none.
 fn loans_at<T: Words, U: Words>(domain: &Domain<T, U>, number: u64) -> u64
     ensures { result ≡ loans_if (port_of number domain.now.state.ports.publishers) }
 {
@@ -159,7 +160,7 @@ fn loans_at<T: Words, U: Words>(domain: &Domain<T, U>, number: u64) -> u64
     }
 }
 
-// The most slots that any of the publishers of these numbers has.
+// The most slots that any of the publishers with these numbers has.
 fn most_slots<T: Words, U: Words>(domain: &Domain<T, U>, numbers: &[u64]) -> u64
     ensures most { HaveSlots domain.now.state.ports.publishers numbers.now result }
     ensures exact { result ≡ most_slots_of domain.now.state.ports.publishers numbers.now }
@@ -171,7 +172,7 @@ fn most_slots<T: Words, U: Words>(domain: &Domain<T, U>, numbers: &[u64]) -> u64
     most
 }
 
-// How many slots the publisher of a number has; none where there is none.
+// How many slots the publisher with this number has; 0 if there is none.
 fn slots_at<T: Words, U: Words>(domain: &Domain<T, U>, number: u64) -> u64
     ensures { result ≡ slots_if (port_of number domain.now.state.ports.publishers) }
 {
@@ -181,7 +182,7 @@ fn slots_at<T: Words, U: Words>(domain: &Domain<T, U>, number: u64) -> u64
     }
 }
 
-// How many slots a publisher has, with those of segments that are no longer lent.
+// How many slots a publisher has, those of segments that are no longer loaned included.
 fn slots_of<T: Words, U: Words>(port: &PublisherPort<T, U>) -> u64
     ensures { result ≡ slots_in port.now }
 {
@@ -218,7 +219,7 @@ fn find_publishers<T: Words, U: Words>(
     Ok(())
 }
 
-// The publisher of a number.
+// The publisher with this number.
 fn publisher_of<T: Words, U: Words>(domain: &Domain<T, U>, number: u64) -> &PublisherPort<T, U>
     requires { is_some (port_of number domain.now.state.ports.publishers) ≡ true }
     ensures { port_of number domain.now.state.ports.publishers ≡ Some result.now }
@@ -229,7 +230,7 @@ fn publisher_of<T: Words, U: Words>(domain: &Domain<T, U>, number: u64) -> &Publ
     }
 }
 
-// A publisher has so many slots and loans, its headers say its node and number, and its sends fail where its fixed action says so.
+// The lanes find of a publisher how many slots and loans it has, the node and number that its headers name, and whether its sends fail.
 fn find_publisher<T: Words, U: Words>(
     lanes: &mut NewLanes,
     domain: &Domain<T, U>,
@@ -328,7 +329,7 @@ fn find_connections<T: Words, U: Words>(
     Ok(())
 }
 
-// The index of the connection that a publisher's messages for a subscriber go to; 0 if there is none.
+// The index of the connection to which a publisher has tied a subscriber's place; 0 if there is none.
 fn tie_to<T: Words, U: Words>(
     domain: &Domain<T, U>,
     port: &PublisherPort<T, U>,
@@ -370,7 +371,7 @@ fn find_waiting<T: Words, U: Words>(
     Ok(())
 }
 
-/// The slot of the message that waits at a place of a connection.
+/// The slot of the message that waits at this place of a connection.
 pub(crate) fn waiting_slot<T: Words, U: Words>(
     port: &PublisherPort<T, U>,
     index: usize,
@@ -386,7 +387,7 @@ pub(crate) fn waiting_slot<T: Words, U: Words>(
     }
 }
 
-// The words of the message in a slot.
+// The lanes find the words of the message in a slot.
 fn find_message<T: Words, U: Words>(
     lanes: &mut NewLanes,
     numbered: bool,
@@ -432,7 +433,7 @@ fn find_word(lanes: &mut NewLanes, slot: u64, word: SlotWord, value: u64) -> Res
     lanes.find(Found::Held { slot, word, value })
 }
 
-// What lies between header and payload: the number, where messages have numbers, and the words of the user header.
+// The lanes find what lies between header and payload: the sequence number, where messages have one, and the words of the user header.
 fn find_middle<U: Words>(
     lanes: &mut NewLanes,
     numbered: bool,
@@ -452,7 +453,7 @@ fn find_middle<U: Words>(
     Ok(())
 }
 
-// One of these words.
+// One of the words between header and payload.
 fn middle_word<U: Words>(numbered: bool, sequence: Option<u64>, user_header: &U, word: usize) -> u64
     ensures { result ≡ slice_index (middle_words numbered U.parts (sequence, user_header.now)) word }
 {
@@ -504,7 +505,7 @@ fn find_orders<T: Words, U: Words>(
     Ok(())
 }
 
-/// The subscriber whose number stands at a place, if there is one.
+/// The subscriber whose number is at this place of the list, if there is one.
 pub(crate) fn subscriber_at<'a, T: Words, U: Words>(
     domain: &'a Domain<T, U>,
     subscribers: &[u64],
@@ -561,8 +562,7 @@ fn find_order(
     Ok(())
 }
 
-// The place at which a subscriber of the lanes has the connection from the publisher of this number; the largest number where it has
-// none.
+// The place at which a subscriber of the lanes has the connection from the publisher with this number; 2^64 - 1 if it has none.
 fn route_place(lanes: &LaneMachine, place: usize, publishers: &[u64], number: u64) -> u64
     ensures { result ≡ route_place lanes.now publishers.now number (slice_get lanes.now.subscribers place) }
 {
@@ -588,7 +588,7 @@ fn route_from(
         .position(|route| leads_here(lanes, publishers, number, *route))
 }
 
-// Whether a connection leads from the publisher of this number.
+// Whether a connection comes from the publisher with this number.
 fn leads_here(lanes: &LaneMachine, publishers: &[u64], number: u64, route: Route) -> bool
     ensures { result ≡ leads_here lanes.now publishers.now number route }
 {

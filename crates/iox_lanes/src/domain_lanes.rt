@@ -1,4 +1,4 @@
-//! Lanes with the domain that they came from.
+//! Lanes with the domain that they were made from.
 ghost use Rattle.std.specs.Prelude.{◌≡◌, ◌<◌, ◌^◌, length, IfOk, IfErr, OnOk, None};
 ghost use Rattle.iox_lanes_opening.specs.Middles.{middle_count};
 ghost use Rattle.iox_lanes_opening.specs.Refusals.{first_reason};
@@ -25,34 +25,34 @@ use std::alloc::{AllocError, Global};
 
 /// The ports of a domain as lanes, and the domain as it was when they began.
 ///
-/// This port's own.
+/// Not in `iceoryx2`.
 #[derive(Drop)]
 pub struct DomainLanes<T, U> {
-    /// The lanes: a publisher and a subscriber for each that the domain lists, in the order of their places there. They keep their
+    /// The lanes: a publisher and a subscriber for each one that the domain lists, in the order of their places there. They keep their
     /// messages, each under its number.
     pub lanes: Lanes,
-    /// The domain, as it was.
+    /// The domain, as it was when the lanes began.
     pub domain: Domain<T, U>,
-    /// The numbers of the publishers in the domain, by their places in the lanes.
+    /// The numbers of the publishers in the domain, by place in the lanes.
     pub publishers: Vec<u64>,
-    /// The numbers of the subscribers in the domain, by their places in the lanes.
+    /// The numbers of the subscribers in the domain, by place in the lanes.
     pub subscribers: Vec<u64>,
-    /// For each connection of the lanes its index at the publisher in the domain.
+    /// For each connection of the lanes, its index at its publisher in the domain.
     pub connections: Vec<usize>,
-    /// One value, in whose place each goes once that comes back into the domain.
+    /// A place for one value, which holds each value on its way back into the domain.
     pub one: Vec<T>,
 }
 
 /// A domain that didn't become lanes, as it was, and why.
 #[derive(Drop)]
 pub struct Refused<T, U> {
-    /// Why it didn't.
+    /// Why the domain didn't become lanes.
     pub error: IntoLanesError,
-    /// The domain.
+    /// The domain, as it was.
     pub domain: Domain<T, U>,
 }
 
-/// What lanes are made of.
+/// Lanes, and which ports and connections of the domain they have.
 #[derive(Drop)]
 pub(crate) struct Opened<T> {
     pub(crate) lanes: LaneMachine,
@@ -62,7 +62,7 @@ pub(crate) struct Opened<T> {
     pub(crate) one: Vec<T>,
 }
 
-// The same, of which the messages are kept.
+// Such lanes with the messages that they keep.
 #[derive(Drop)]
 struct Recorded<T> {
     lanes: Lanes,
@@ -72,25 +72,25 @@ struct Recorded<T> {
     one: Vec<T>,
 }
 
-/// The lanes of a domain: each publisher and subscriber that it lists, in the order of their places, with the buffer of each
-/// connection, the slots, loans and history of each publisher, whether its sends fail at a full mailbox, what waits at each
-/// connection, the words of each message, and the order in which each subscriber goes over its connections. No sample lies given back.
+/// Makes lanes of a domain: each publisher and subscriber that it lists, in the order of their places, with the buffer size of each
+/// connection, the slots, loans and history of each publisher, whether its sends fail at a full mailbox, what waits at each connection, the
+/// words of each message, and the order in which each subscriber goes over its connections. The completion rings are empty.
 ///
-/// The lanes are such as `LaneMachine::new` makes them and what they found leaves, and nobody is inside a call: so each law of lanes
-/// holds of them. Their sizes are those that the service agreed on: its buffer, one message at least, its borrow limit and its
-/// history; they have as many loans and slots for each publisher as the one has that has most. There are fewer than 2^64 slots.
+/// The lanes are as `LaneMachine::new` makes them and what they found leaves them, and no port is inside a call; so each theorem on lanes
+/// applies to them. Their sizes are those that the service agreed on: its buffer size (at least one), its borrow limit and its history
+/// size. Each publisher has as many loans and slots as the publisher of the domain that has most. There are fewer than 2^64 slots.
 ///
-/// They keep their messages. Those that wait or are remembered have the first numbers, publisher by publisher and slot by slot; each
-/// that is sent gets the next one.
+/// The lanes keep their messages. Those that wait or are in a history have the first numbers, publisher by publisher and slot by slot; each
+/// message that is sent gets the next number.
 ///
-/// Where the service agreed on `sequence_numbers`, a slot has a fourth word of header, directly behind the three: the number of its
-/// message. Each send stores the number behind its publisher's last one there. So what a write names between header and payload has one
-/// word more than a user header, in front, as what a read gives there. It is no matter what a write names in that word.
-/// As values the user header is a [`WithSequence`](iox_lanes_parties::WithSequence).
+/// If the service agreed on `sequence_numbers`, a slot has a fourth word of header, directly after the three: the sequence number of its
+/// message. Each send stores its publisher's next number there. So what a write passes between header and payload, and what a read returns
+/// there, has one word more than a user header, in front of it. It doesn't matter what a write passes in that word. As values, the user
+/// header is a [`WithSequence`](iox_lanes_parties::WithSequence).
 ///
-/// Refused with the first reason of `refusal` that applies, before anything is built; else with `OutOfMemory`, only where an allocation
-/// fails, as it would for the numbers of 2^61 subscribers. Then the domain is handed back as it was. The lanes look at each piece as they
-/// take it in; that none is left out, and so that they hold what the domain has, is proved.
+/// Returns the first error of `refusal` that applies, before anything is built. Otherwise it returns `OutOfMemory`, only if an allocation
+/// fails, as it would for the numbers of 2^61 subscribers. With an error the domain comes back as it was. The lanes check each piece that
+/// they take in; it is proved that none is left out, so they have all that the domain has.
 pub fn into_lanes<T: Words, U: Words>(
     alloc: Global,
     domain: Domain<T, U>,
@@ -131,7 +131,7 @@ pub fn into_lanes<T: Words, U: Words>(
     }
 }
 
-// The lanes beside their domain.
+// The lanes with their domain beside them.
 fn with<T, U>(opened: Recorded<T>, domain: Domain<T, U>) -> DomainLanes<T, U>
     ensures { result ≡ record {
       lanes = opened.lanes;
@@ -182,7 +182,7 @@ fn open<T: Words, U: Words>(alloc: Global, domain: &Domain<T, U>) -> Result<Reco
     Ok(kept)
 }
 
-// The same, with the messages that are found, unless an allocation fails.
+// The lanes with the messages that they found, unless an allocation fails.
 fn with_messages<T: Words>(alloc: Global, opened: Opened<T>) -> Result<Recorded<T>, AllocError>
     ensures made { IfOk result (λ made. made ≡ record {
       lanes = record { lanes = opened.lanes; messages = found_messages opened.lanes };

@@ -1,11 +1,11 @@
-//! Lanes before their first step, to which nothing happened but that something was found.
+//! Lanes before their first step, to which nothing happened except that they found something.
 ghost use Rattle.std.specs.Prelude.{◌≡◌, ◌<◌, ◌^◌, IfOk, OnOk, false, length};
 
 use iox_lanes_machine::{Found, LaneMachine, LaneSizes};
 use std::alloc::{AllocError, Global};
 use std::marker::Model;
 
-/// Such lanes.
+/// Lanes before their first step, with the sizes that they were made of.
 #[derive(Drop)]
 pub(crate) struct NewLanes {
     sizes: LaneSizes,
@@ -31,7 +31,7 @@ impl NewLanes {
     ghost use Rattle.iox_lanes.specs.Failing.{failing};
     ghost use Rattle.iox_lanes.specs.Finding.{NothingCameBack, failing_behind, is_given_back};
 
-    /// Lanes of these sizes. Fails only where an allocation fails; no memory has the numbers of 2^61 subscribers.
+    /// Lanes of these sizes. `AllocError` is returned only where an allocation fails; memory can't contain the numbers of 2^61 subscribers.
     #[tactic(auto, using(crate::proofs::Failing::as_many_made))]
     pub fn new(alloc: Global, sizes: LaneSizes) -> Result<NewLanes, AllocError>
         requires some { 0 < sizes.buffer }
@@ -50,8 +50,8 @@ impl NewLanes {
         Ok(NewLanes { sizes, lanes })
     }
 
-    /// This is found, if it may be. No sample of a domain was given back. Whether the sends of a publisher fail says what is found of it
-    /// alone.
+    /// The lanes find this, if it may be found; samples in a completion ring may not. Only `Found::Sender` says whether the sends of a
+    /// publisher fail. `AllocError` is returned only where an allocation fails.
     #[tactic(auto, using(crate::proofs::Found::found_on))]
     pub fn find(&mut self, found: Found) -> Result<(), AllocError>
         requires { is_given_back found ≡ false }
@@ -70,7 +70,7 @@ impl NewLanes {
         &self.lanes
     }
 
-    /// The lanes, which came from where they were made; nobody is inside a call.
+    /// The lanes, which were made of these sizes and found only what they were given; no port is inside a call.
     #[tactic(auto, using(crate::proofs::Found::came))]
     pub fn into_lanes(self) -> LaneMachine
         ensures came { CameTo result }

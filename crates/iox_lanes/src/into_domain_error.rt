@@ -3,13 +3,13 @@ use thiserror::Error;
 
 /// Why lanes didn't become a domain.
 ///
-/// This port's own.
+/// Not in `iceoryx2`.
 #[derive(Clone, Copy, Debug, PartialEq, Eq, Error)]
 pub enum IntoDomainError {
     /// A publisher or a subscriber is inside a call.
     #[error("IntoDomainError::PartyInCall")]
     PartyInCall,
-    /// None is, and a loan is out, or a sample.
+    /// No publisher or subscriber is inside a call, but a loan or a sample is out.
     #[error("IntoDomainError::SamplesOut")]
     SamplesOut,
 }

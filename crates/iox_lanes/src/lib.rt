@@ -1,17 +1,18 @@
-//! The domain of a service becomes lanes: its ports go one shared word at a time from then on.
+//! Turns the domain of a service into lanes, whose ports make their calls one access to a shared word at a time, and back.
 //!
-//! - [`domain_lanes`]: lanes with the domain that they came from.
-//! - `listed`: the numbers of the ports, by their places.
+//! - [`domain_lanes`]: lanes with the domain that they were made from.
+//! - `listed`: the numbers of the ports, by place.
 //! - `finding`: lanes before their first step.
-//! - `building`: they find what the domain has.
-//! - [`returning`]: the domain that lanes leave.
+//! - `building`: lanes find what the domain has.
+//! - [`returning`]: makes a domain of lanes again.
 //! - [`into_domain_error`]: why lanes don't become a domain.
 //! - [`threads`]: the ports of a domain in threads of their own.
-//! - [`laws`]: what holds of lanes and of the domain beside them.
+//! - [`laws`]: theorems on lanes and the domain beside them.
 //!
-//! Named again is what a program on lanes needs: [`Lanes`] over their [`LaneMachine`], [`Message`], [`Party`], [`Call`], [`Move`], what a
-//! step answers ([`Stepped`]) and a send ([`Delivery`]), an order ([`Order`], [`PlacedMessage`], [`Placed`], [`Act`]), [`Positions`],
-//! [`Words`], [`FewWords`], [`values_in`], [`WithSequence`], and for threads [`open_threads`], [`LanePublisher`], [`LaneSubscriber`].
+//! The crate re-exports what a program on lanes needs: [`Lanes`] over their [`LaneMachine`], [`Message`], [`Party`], [`Call`], [`Move`],
+//! the answers of a step ([`Stepped`]) and of a send ([`Delivery`]), the order of a connection ([`Order`], [`PlacedMessage`], [`Placed`],
+//! [`Act`]), [`Positions`], [`Words`], [`FewWords`], [`values_in`], [`WithSequence`], and for threads [`open_threads`], [`LanePublisher`],
+//! [`LaneSubscriber`].
 //!
 //! First calls:
 //!

@@ -1,4 +1,4 @@
-//! The numbers of the ports that are listed, by their places.
+//! The numbers of the listed ports, by place.
 ghost use Rattle.std.specs.Prelude.{◌≡◌, ◌++◌, ◌∷◌, [], IfOk, OnOk};
 ghost use Rattle.iox_lanes.specs.Holding.{numbers_of};
 
@@ -6,7 +6,7 @@ use iox_domain::ports::Roll;
 use iox_domain_ports::{Member, PublisherEntry, SubscriberEntry};
 use std::alloc::{AllocError, Global};
 
-/// The numbers of the publishers that are listed, in the order of their places.
+/// The numbers of the listed publishers, in the order of their places.
 pub(crate) fn publishers_listed(
     alloc: Global,
     list: &Roll<PublisherEntry>,
@@ -36,7 +36,7 @@ fn add_publisher(
     }
 }
 
-/// The numbers of the subscribers that are listed, in the order of their places.
+/// The numbers of the listed subscribers, in the order of their places.
 pub(crate) fn subscribers_listed(
     alloc: Global,
     list: &Roll<SubscriberEntry>,

@@ -1,4 +1,4 @@
-//! The domain that lanes leave.
+//! Makes a domain of lanes again.
 ghost use Rattle.std.specs.Prelude.{◌≡◌, ◌+◌, ◌*◌, ◌^◌, ◌<◌, ◌≤◌, ℕ, IfErr, IfOk, OnOk, length, slice_get, option_copied, vec_capacity};
 ghost use Rattle.std.specs.Prelude.{IfSome, None, Some, false};
 ghost use Rattle.std.specs.Bool.{OnTrue};
@@ -27,23 +27,23 @@ use iox_queues_base::Words;
 /// Lanes that didn't become a domain, as they were, and why.
 #[derive(Drop)]
 pub struct StillLanes<T, U> {
-    /// Why they didn't.
+    /// Why the lanes didn't become a domain.
     pub error: IntoDomainError,
     /// The lanes, with their domain.
     pub lanes: DomainLanes<T, U>,
 }
 
 impl<T: Words, U: Words> DomainLanes<T, U> {
-    /// The domain as the lanes leave it: what waits at each connection by its order waits there in the domain, each publisher's
-    /// history is that of its lane, each message with the values, user header, number of elements and number that its slot holds, its
-    /// numbers go on behind the last one that its lane gave, and all else is as it was when the lanes began. Where the lanes made no
-    /// step, it is the domain as it was. It takes no memory.
+    /// The domain as the lanes leave it. What waits at each connection by its order waits there in the domain. Each publisher's history is
+    /// that of its lane. Each message has the values, user header, number of elements and sequence number that its slot contains, and its
+    /// publisher goes on after the last sequence number of its lane. All else is as it was when the lanes began; if the lanes made no step,
+    /// the domain is as it was. Nothing is allocated.
     ///
-    /// Refused with `PartyInCall` while a party is inside a call, else with `SamplesOut` while a loan or a sample is out; then
-    /// the lanes are handed back as they were. What is said of the messages is said of at most 2^63 steps, and of lanes that go
-    /// with the domain beside them, as those do that `into_lanes` gives, and still do after any steps.
+    /// Returns `PartyInCall` while a party is inside a call, otherwise `SamplesOut` while a loan or a sample is out; then the lanes come
+    /// back as they were. What is said of the messages holds for at most 2^63 steps, and for lanes that are joined with the domain beside
+    /// them (`IsJoined`), as those of `into_lanes` are, and remain after any steps.
     ///
-    /// This port's own.
+    /// Not in `iceoryx2`.
     pub fn into_domain(self) -> Result<Domain<T, U>, StillLanes<T, U>>
         ensures told { IfErr result (λ still. IsUnrest (unrest_of still.error) self.lanes.lanes) }
         ensures kept { IfErr result (λ still. still.lanes ≡ self) }
@@ -81,7 +81,7 @@ fn error_of(unrest: Unrest) -> IntoDomainError
     }
 }
 
-// The domain with the messages that the lanes leave, where these lanes go with it.
+// The domain with the messages that the lanes leave, if the lanes are joined with it.
 fn returned<T: Words, U: Words>(opened: DomainLanes<T, U>) -> Domain<T, U>
     ensures rest { OnlyPublishers opened.domain result }
     ensures left { AllRest opened.lanes.lanes
@@ -132,7 +132,7 @@ fn count(numbers: &[u64]) -> usize
     numbers.len()
 }
 
-// Whether the words of the lanes are those of values of `T` and user headers of `U`.
+// Whether the lanes' payloads and user headers have as many words as values of `T` and user headers of `U`.
 fn has_words<T: Words, U: Words>(lanes: &LaneMachine, numbered: bool) -> bool
     ensures whole { OnTrue result (IsWhole T.WORDS (middle_count numbered U.WORDS) lanes.now.table) }
     ensures not { result ≡ false → lanes.now.table.sizes.payload_words ≡ T.WORDS → lanes.now.table.sizes.user_header_words ≡
@@ -149,8 +149,8 @@ fn has_words<T: Words, U: Words>(lanes: &LaneMachine, numbered: bool) -> bool
     true
 }
 
-// Lanes that go back, and the indices that their connections have in the domain, so many of each publisher. Where messages have numbers,
-// each has its own in its slot.
+// The lanes that go back, and the index that each of their connections has in the domain, `readers` for each publisher. Where messages have
+// sequence numbers, each slot has that of its message.
 #[derive(Clone, Copy)]
 struct LeftLanes<'a> {
     lanes: &'a LaneMachine,
@@ -159,7 +159,7 @@ struct LeftLanes<'a> {
     indices: &'a [usize],
 }
 
-// The publishers with the messages that the lanes leave, where these lanes go with them.
+// Gives the publishers the messages that the lanes leave, if the lanes are joined with them.
 fn restore_publishers<T: Words, U: Words>(
     left: &LeftLanes<'_>,
     numbers: &[u64],
@@ -180,7 +180,7 @@ fn restore_publishers<T: Words, U: Words>(
     }
 }
 
-// The publisher of a number, which is the one at a place of the lanes.
+// Gives the publisher with this number what the lanes leave of the publisher at this place.
 fn restore_publisher<T: Words, U: Words>(
     left: &LeftLanes<'_>,
     number: u64,
@@ -203,7 +203,7 @@ fn restore_publisher<T: Words, U: Words>(
     }
 }
 
-// A publisher that is the one at a place of the lanes.
+// Gives a publisher what the lanes leave of the publisher at this place.
 fn restore_port<T: Words, U: Words>(
     left: &LeftLanes<'_>,
     place: usize,
@@ -228,14 +228,14 @@ fn restore_port<T: Words, U: Words>(
     restore_lane(left.lanes, left.numbered, from, row, lane, port, one);
 }
 
-// The lane at a place, if there is one.
+// The publisher's lane at this place, if there is one.
 fn lane_at(lanes: &LaneMachine, place: usize) -> Option<&PublisherLane>
     ensures { option_copied result ≡ slice_get lanes.now.publishers place }
 {
     lanes.publishers().get(place)
 }
 
-// The row of a publisher's connections, of the indices of all, and the number of its first one.
+// The indices of the connections of the publisher at this place, out of those of all, and the number of its first connection.
 fn row_at<'a>(
     lanes: &LaneMachine,
     place: usize,
@@ -255,7 +255,7 @@ fn row_at<'a>(
     Some((from as u64, row))
 }
 
-// A publisher gets what the lanes leave of a lane.
+// Gives a publisher what its lane leaves.
 fn restore_lane<T: Words, U: Words>(
     lanes: &LaneMachine,
     numbered: bool,

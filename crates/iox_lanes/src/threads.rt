@@ -1,11 +1,12 @@
-//! The ports of a domain in threads of their own: its lanes go on as `iox_lanes_threads` has them, and the domain waits beside the board.
+//! The ports of a domain in threads of their own: its lanes go on as `iox_lanes_threads` describes, and the board keeps the domain
+//! meanwhile.
 //!
 //! - [`threads`]: the ports, and the board with the domain.
 //! - [`opening`]: from the lanes of a domain to threads.
 //! - [`ending`]: from threads back to the domain, without its messages.
-//! - `emptying`: publishers of a domain without messages.
+//! - `emptying`: makes publishers of a domain forget their messages.
 //!
-//! First calls. Between the two the ports make the calls of `iox_lanes_threads`.
+//! First calls. Between opening and ending the ports make the calls of `iox_lanes_threads`.
 //!
 //! ```
 //! let DomainThreads {

@@ -10,82 +10,82 @@ use Rattle.iox_lanes_base.specs.declared.words.word.SharedWord.{SharedWord}
 use Rattle.iox_lanes_base.specs.declared.words.word.SharedWord.TheVariants.{Ring, Slot}
 use Rattle.iox_lanes_base.specs.declared.words.sizes.TableSizes.{TableSizes}
 
--- how many words the two rings of a connection have
+-- How many words the two rings of a connection have.
 abbrev pub connection_words : TableSizes → ℕ
 connection_words sizes = 4 + sizes.submission_cells + sizes.completion_cells
 
--- how many words a slot has: three of its header, those of its user header and of its payload
+-- How many words a slot has: three of its header, those of its user header and those of its payload.
 abbrev pub slot_words : TableSizes → ℕ
 slot_words sizes = 3 + sizes.user_header_words + sizes.payload_words
 
--- the slots lie behind the connections, and those behind a first word that is none of the service
+-- The number of the first word of the slots. The slots follow the connections, and these follow a first word that isn't the service's.
 abbrev pub slots_first : TableSizes → ℕ
 slots_first sizes = 1 + sizes.connections * connection_words sizes
 
--- how many words there are
+-- How many words the table has.
 abbrev pub words_of : TableSizes → ℕ
 words_of sizes = slots_first sizes + sizes.slots * slot_words sizes
 
--- where a ring begins within the words of its connection
+-- Where a ring begins within the words of its connection.
 abbrev pub ring_offset : TableSizes → ConnectionRing → ℕ
 ring_offset sizes Submission = 0
 ring_offset sizes Completion = 2 + sizes.submission_cells
 
--- the first word of a ring
+-- The number of the first word of a ring.
 abbrev pub ring_first : TableSizes → ℕ → ConnectionRing → ℕ
 ring_first sizes connection ring = 1 + connection * connection_words sizes + ring_offset sizes ring
 
--- the number of a word within its ring
+-- The number of a word within its ring.
 abbrev pub ring_word_number : Word → ℕ
 ring_word_number Write = 0
 ring_word_number Read = 1
 ring_word_number (Cell cell) = 2 + cell
 
--- the number of a word within its slot
+-- The number of a word within its slot.
 abbrev pub slot_word_number : TableSizes → SlotWord → ℕ
 slot_word_number sizes (Header word) = word
 slot_word_number sizes (UserHeader word) = 3 + word
 slot_word_number sizes (Payload word) = 3 + sizes.user_header_words + word
 
--- the number of a word in the table
+-- The number of a word in the table.
 abbrev pub number_of : TableSizes → SharedWord → ℕ
 number_of sizes (Ring connection ring word) = ring_first sizes connection ring + ring_word_number word
 number_of sizes (Slot slot word) = slots_first sizes + slot * slot_words sizes + slot_word_number sizes word
 
--- how many cells a ring has at most
+-- How many cells a ring has at most.
 abbrev pub most_cells : TableSizes → ConnectionRing → ℕ
 most_cells sizes Submission = sizes.submission_cells
 most_cells sizes Completion = sizes.completion_cells
 
--- a ring with so many cells has the word
+-- A ring with this many cells has the word.
 abbrev pub IsRingWord : ℕ → Word → Type 0
 IsRingWord cells Write = Unit {0}
 IsRingWord cells Read = Unit {0}
 IsRingWord cells (Cell cell) = cell < cells
 
--- a slot has the word
+-- A slot has the word.
 abbrev pub IsSlotWord : TableSizes → SlotWord → Type 0
 IsSlotWord sizes (Header word) = word < 3
 IsSlotWord sizes (UserHeader word) = word < sizes.user_header_words
 IsSlotWord sizes (Payload word) = word < sizes.payload_words
 
--- the service has the word
+-- The service has the word.
 abbrev pub IsWord : TableSizes → SharedWord → Type 0
 IsWord sizes (Ring connection ring word) = (connection < sizes.connections) × IsRingWord (most_cells sizes ring) word
 IsWord sizes (Slot slot word) = (slot < sizes.slots) × IsSlotWord sizes word
 
--- the numbers have 64 bits
+-- The counts of words are below 2^64.
 pub record IsSmall (sizes : TableSizes) : Type 0 where
   pub connection : connection_words sizes < 2 ^ 64
   pub slot : slot_words sizes < 2 ^ 64
   pub all : words_of sizes < 2 ^ 64
 
--- words of a service that have one number are one word
+-- Words of a service that have the same number are the same word.
 abbrev pub AreApart : Type 0
 AreApart = (sizes : TableSizes) (one other : SharedWord) → IsWord sizes one → IsWord sizes other
     → number_of sizes one ≡ number_of sizes other → one ≡ other
 
--- the numbers are below how many words there are, and above 0
+-- The number of each word of a service is above 0, and below the count of the table's words.
 abbrev pub AreWithin : Type 0
 AreWithin = (sizes : TableSizes) (word : SharedWord) → IsWord sizes word
     → (0 < number_of sizes word) × (number_of sizes word < words_of sizes)

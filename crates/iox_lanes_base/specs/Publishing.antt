@@ -1,4 +1,4 @@
--- The calls of a publisher, by the stage where each stands. Loads and stores of rings are those of the rings' ends.
+-- The calls of a publisher, by stage. The loads and stores of rings are those of the rings' ends.
 use Rattle.std.specs.Prelude.{ℕ, ◌-◌, Bool, true, false, List, slice_get, Option, Some, None, if◌then◌else◌, ◌==◌, nat_lt}
 use Rattle.iox_lanes_base.specs.QueuesSteps.Access.{successor}
 use Rattle.iox_lanes_base.specs.QueuesSteps.declared.order.PushAnswer.{PushAnswer}
@@ -32,11 +32,11 @@ use Rattle.iox_lanes_base.specs.declared.calls.publisher.PublisherCall.TheVarian
 use Rattle.iox_lanes_base.specs.declared.calls.publisher.PublisherChange.{PublisherChange}
 use Rattle.iox_lanes_base.specs.declared.calls.publisher.PublisherChange.TheVariants as change
 
--- the three words of the header lie before those of the user header
+-- The word of header and user header with this number: the three words of the header come before those of the user header.
 abbrev pub header_word : ℕ → SlotWord
 header_word word = if nat_lt word 3 then Header word else UserHeader (word - 3)
 
--- the access of a call at each stage
+-- The access that a call makes next at each stage.
 abbrev pub publisher_next : PublisherCall → SharedAccess
 publisher_next Idle = Local
 publisher_next (LoanReclaims place route pop) = on_ring route.connection Completion route.completion_cells (pop_next pop)
@@ -50,81 +50,83 @@ publisher_next (Pushing slot place route push delivery) = on_ring route.connecti
 publisher_next (Sent slot delivery) = Local
 publisher_next (Dropping slot) = Local
 
--- a loan takes back at a connection; behind the last one it looks for a slot
+-- The stage of a loan that takes back at this connection; after the last connection it looks for a slot.
 abbrev pub loan_from : ℕ → Option Route → PublisherCall
 loan_from place None = Lending
 loan_from place (Some route) = LoanReclaims place route Begun
 
--- a loan at a place
+-- The stage of a loan at this place.
 abbrev pub loan_at : List Route → ℕ → PublisherCall
 loan_at routes place = loan_from place (slice_get routes place)
 
--- a loan takes back one after the other, until nothing is found; then it goes to the next connection
+-- The stage of a loan after an answer of its pop: it takes back one sample after the other until it finds none; then it goes to the next
+-- connection.
 abbrev pub loan_reclaimed : List Route → ℕ → Route → Pop → Option PopAnswer → PublisherCall
 loan_reclaimed routes place route pop None = LoanReclaims place route pop
 loan_reclaimed routes place route pop (Some (Got (Some slot))) = LoanReclaims place route Begun
 loan_reclaimed routes place route pop (Some (Got None)) = loan_at routes (successor place)
 loan_reclaimed routes place route pop (Some (Saw some)) = loan_at routes (successor place)
 
--- a write stores a word; behind the last one it ends
+-- The stage of a write that stores this word; after the last word it ends.
 abbrev pub write_from : ℕ → ℕ → Option ℕ → PublisherCall
 write_from slot word None = Written slot
 write_from slot word (Some value) = Writing slot word value
 
--- a write at a word
+-- The stage of a write at this word.
 abbrev pub write_at : List ℕ → ℕ → ℕ → PublisherCall
 write_at words slot word = write_from slot word (slice_get words word)
 
--- a send stores a word of header and user header; behind the last one comes the history
+-- The stage of a send that stores this word of header and user header; after the last word comes the history.
 abbrev pub head_from : ℕ → ℕ → Option ℕ → PublisherCall
 head_from slot word None = Remembering slot
 head_from slot word (Some value) = Heading slot word value
 
--- a send at a word of header and user header
+-- The stage of a send at this word of header and user header.
 abbrev pub head_at : List ℕ → ℕ → ℕ → PublisherCall
 head_at words slot word = head_from slot word (slice_get words word)
 
--- a send pushes at a connection; behind the last one it ends
+-- The stage of a send that pushes at this connection; after the last connection it ends.
 abbrev pub push_from : ℕ → ℕ → Delivery → Option Route → PublisherCall
 push_from slot place delivery None = Sent slot delivery
 push_from slot place delivery (Some route) = Pushing slot place route (push_begun route.kind route.limit slot) delivery
 
--- a send that pushes at a place
+-- The stage of a send that pushes at this place.
 abbrev pub push_at : List Route → ℕ → ℕ → Delivery → PublisherCall
 push_at routes slot place delivery = push_from slot place delivery (slice_get routes place)
 
--- no connection took the message yet, and none refused it
+-- No connection has taken the message yet, and none has refused it.
 abbrev pub nothing_sent : Delivery
 nothing_sent = record { taken = 0; refused = 0 }
 
--- a send takes back at a connection; behind the last one it begins to push
+-- The stage of a send that takes back at this connection; after the last connection it begins to push.
 abbrev pub sweep_from : List Route → ℕ → ℕ → Option Route → PublisherCall
 sweep_from routes slot place None = push_at routes slot 0 nothing_sent
 sweep_from routes slot place (Some route) = SendReclaims slot place route Begun
 
--- a send that takes back at a place
+-- The stage of a send that takes back at this place.
 abbrev pub sweep_at : List Route → ℕ → ℕ → PublisherCall
 sweep_at routes slot place = sweep_from routes slot place (slice_get routes place)
 
--- a send takes back one after the other, until nothing is found; then it goes to the next connection
+-- The stage of a send after an answer of its pop: it takes back one sample after the other until it finds none; then it goes to the next
+-- connection.
 abbrev pub send_reclaimed : List Route → ℕ → ℕ → Route → Pop → Option PopAnswer → PublisherCall
 send_reclaimed routes slot place route pop None = SendReclaims slot place route pop
 send_reclaimed routes slot place route pop (Some (Got (Some back))) = SendReclaims slot place route Begun
 send_reclaimed routes slot place route pop (Some (Got None)) = sweep_at routes slot (successor place)
 send_reclaimed routes slot place route pop (Some (Saw some)) = sweep_at routes slot (successor place)
 
--- one connection more took the message, or refused it
+-- The delivery with one connection more that took the message, or refused it.
 abbrev pub counted : Delivery → PushAnswer → Delivery
 counted delivery Kept = record delivery { taken = successor delivery.taken }
 counted delivery (LeftOut oldest) = record delivery { taken = successor delivery.taken }
 counted delivery Refused = record delivery { refused = successor delivery.refused }
 
--- a send goes on with its push, or to the next connection
+-- The stage of a send after an answer of its push: it goes on with the push, or to the next connection once the push is over.
 abbrev pub pushed : List Route → ℕ → ℕ → Route → Push → Delivery → Option PushAnswer → PublisherCall
 pushed routes slot place route push delivery None = Pushing slot place route push delivery
 pushed routes slot place route push delivery (Some answer) = push_at routes slot (successor place) (counted delivery answer)
 
--- the stage after the answer of that access; `words` are those that a write or a send stores
+-- The stage after the answer of the next access; `words` are those that a write or a send stores.
 abbrev pub publisher_take : List Route → List ℕ → PublisherCall → ℕ → PublisherCall
 publisher_take routes words Idle answer = Idle
 publisher_take routes words (LoanReclaims place route pop) answer =
@@ -141,7 +143,7 @@ publisher_take routes words (Pushing slot place route push delivery) answer =
 publisher_take routes words (Sent slot delivery) answer = Idle
 publisher_take routes words (Dropping slot) answer = Idle
 
--- no call is under way
+-- Whether no call is under way.
 abbrev pub publisher_is_idle : PublisherCall → Bool
 publisher_is_idle Idle = true
 publisher_is_idle (LoanReclaims place route pop) = false
@@ -155,7 +157,7 @@ publisher_is_idle (Pushing slot place route push delivery) = false
 publisher_is_idle (Sent slot delivery) = false
 publisher_is_idle (Dropping slot) = false
 
--- the next step is the last of its call
+-- Whether the next step is the last one of the call.
 abbrev pub publisher_is_over : PublisherCall → Bool
 publisher_is_over Idle = false
 publisher_is_over (LoanReclaims place route pop) = false
@@ -169,14 +171,14 @@ publisher_is_over (Pushing slot place route push delivery) = false
 publisher_is_over (Sent slot delivery) = true
 publisher_is_over (Dropping slot) = true
 
--- a slot that was popped is back
+-- What a pop changes: the slot that it popped, if any, came back.
 abbrev pub taken_back : ℕ → Option PopAnswer → PublisherChange
 taken_back place None = change.Nothing
 taken_back place (Some (Got (Some slot))) = change.TakenBack place slot
 taken_back place (Some (Got None)) = change.Nothing
 taken_back place (Some (Saw some)) = change.Nothing
 
--- a push on a ring that refuses puts at its store of the write position
+-- What the next access of a push on a refusing ring changes: the slot is put by the store of the write position.
 abbrev pub refusing_push_change : ℕ → refusing_type.Push → PublisherChange
 refusing_push_change place refusing.Idle = change.Nothing
 refusing_push_change place (refusing.Begun limit value) = change.Nothing
@@ -185,7 +187,8 @@ refusing_push_change place (refusing.SawRoom value write next) = change.Nothing
 refusing_push_change place (refusing.Filled value next) = change.Put place value
 refusing_push_change place (refusing.Pushed value answered) = change.Nothing
 
--- so does one on a ring that overflows, which hands the oldest out if it wins its exchange
+-- What the next access of a push on an overflowing ring changes: the slot is put by the store of the write position, and the oldest one is
+-- dropped if the exchange succeeds.
 abbrev pub overflowing_push_change : ℕ → overflowing_type.Push → ℕ → PublisherChange
 overflowing_push_change place overflowing.Idle answer = change.Nothing
 overflowing_push_change place (overflowing.Begun limit value) answer = change.Nothing
@@ -197,12 +200,13 @@ overflowing_push_change place (overflowing.SawOldest value read next oldest) ans
     if answer == read then change.LeftOut place oldest else change.Nothing
 overflowing_push_change place (overflowing.Pushed value answered) answer = change.Nothing
 
+-- What the next access of a push on a ring of either kind changes, with this answer.
 abbrev pub push_change : ℕ → Push → ℕ → PublisherChange
 push_change place (ring.Overflowing push) answer = overflowing_push_change place push answer
 push_change place (ring.Refusing push) answer = refusing_push_change place push
 
--- what the answer of the next access changes of what the publisher keeps for itself: the slots of rings at the steps that move a
--- position, all else at local steps
+-- What the answer of the next access changes of what the publisher keeps for itself: steps that move a position of a ring change which
+-- slots are there, and local steps change all else.
 abbrev pub publisher_change : PublisherCall → ℕ → PublisherChange
 publisher_change Idle answer = change.Nothing
 publisher_change (LoanReclaims place route pop) answer = taken_back place (refusing_pop_answer (pop_take pop answer))

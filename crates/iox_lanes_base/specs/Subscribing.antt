@@ -1,4 +1,4 @@
--- The calls of a subscriber, by the stage where each stands. Loads and stores of rings are those of the rings' ends.
+-- The calls of a subscriber, by stage. The loads and stores of rings are those of the rings' ends.
 use Rattle.std.specs.Prelude.{ℕ, ◌+◌, ◌-◌, Bool, true, false, ◌||◌, not, List, slice_get, Option, Some, None, if◌then◌else◌, nat_lt}
 use Rattle.iox_lanes_base.specs.QueuesSteps.Access.{successor}
 use Rattle.iox_lanes_base.specs.QueuesSteps.declared.order.PushAnswer.{PushAnswer}
@@ -28,14 +28,14 @@ use Rattle.iox_lanes_base.specs.declared.calls.subscriber.SubscriberCall.TheVari
 use Rattle.iox_lanes_base.specs.declared.calls.subscriber.SubscriberChange.{SubscriberChange}
 use Rattle.iox_lanes_base.specs.declared.calls.subscriber.SubscriberChange.TheVariants as change
 
--- a word of header, user header and payload, which lie one behind the other
+-- The word of header, user header and payload with this number; they lie one after the other.
 abbrev pub word_at : SlotExtent → ℕ → SlotWord
 word_at extent word =
     if nat_lt word 3 then Header word
     else if nat_lt (word - 3) extent.user_header_words then UserHeader (word - 3)
     else Payload (word - 3 - extent.user_header_words)
 
--- the access of a call at each stage
+-- The access that a call makes next at each stage.
 abbrev pub subscriber_next : SubscriberCall → SharedAccess
 subscriber_next Idle = Local
 subscriber_next (Receiving place route pop waits) = on_ring route.connection Submission route.submission_cells (pop_next pop)
@@ -45,48 +45,48 @@ subscriber_next (WasRead slot) = Local
 subscriber_next (Releasing place route push) = on_ring route.connection Completion route.completion_cells (refusing.push_next push)
 subscriber_next (Released done) = Local
 
--- as many samples are borrowed as may be
+-- Whether as many samples are borrowed as may be.
 abbrev pub is_full : ℕ → Option ℕ → Bool
 is_full most None = false
 is_full most (Some borrowed) = not (nat_lt borrowed most)
 
--- as many samples of the connection at a place are borrowed as may be
+-- Whether as many samples of the connection at this place are borrowed as may be.
 abbrev pub is_full_at : List ℕ → ℕ → ℕ → Bool
 is_full_at borrowed most place = is_full most (slice_get borrowed place)
 
--- a receive that got no message is refused if it saw one where as many are borrowed as may be
+-- The receipt of a receive that got no message: it is refused if it saw a message where as many samples are borrowed as may be.
 abbrev pub nothing_received : Bool → Receipt
 nothing_received waits = if waits then receipt.ExceedsMaxBorrows else receipt.Nothing
 
--- a receive pops at a connection, or only looks where it's full; behind the last one it ends
+-- The stage of a receive that pops at this connection, or only looks where it may borrow no more; after the last connection it ends.
 abbrev pub receive_from : ℕ → Bool → Bool → Option Route → SubscriberCall
 receive_from place full waits None = Received (nothing_received waits)
 receive_from place full waits (Some route) = Receiving place route (pop_first route.kind full) waits
 
--- a receive at a place
+-- The stage of a receive at this place.
 abbrev pub receive_at : List Route → List ℕ → ℕ → ℕ → Bool → SubscriberCall
 receive_at routes borrowed most place waits = receive_from place (is_full_at borrowed most place) waits (slice_get routes place)
 
--- the first slot ends a receive; without one it goes to the next connection
+-- The stage of a receive after an answer of its pop: the first slot ends it; without one it goes to the next connection.
 abbrev pub received : List Route → List ℕ → ℕ → ℕ → Route → Pop → Bool → Option PopAnswer → SubscriberCall
 received routes borrowed most place route pop waits None = Receiving place route pop waits
 received routes borrowed most place route pop waits (Some (Got (Some slot))) = Received (receipt.Taken place slot)
 received routes borrowed most place route pop waits (Some (Got None)) = receive_at routes borrowed most (successor place) waits
 received routes borrowed most place route pop waits (Some (Saw some)) = receive_at routes borrowed most (successor place) (waits || some)
 
--- a read loads a word; behind the last one it ends
+-- The stage of a read that loads this word; after the last word it ends.
 abbrev pub read_at : ℕ → SlotExtent → ℕ → SubscriberCall
 read_at slot extent word =
     if nat_lt word (3 + extent.user_header_words + extent.payload_words) then Reading slot word extent else WasRead slot
 
--- a release goes on with its push, or ends
+-- The stage of a release after an answer of its push: it goes on with the push, or ends once the push is over.
 abbrev pub released : ℕ → Route → Push → Option PushAnswer → SubscriberCall
 released place route push None = Releasing place route push
 released place route push (Some Kept) = Released true
 released place route push (Some (LeftOut oldest)) = Released true
 released place route push (Some Refused) = Released false
 
--- the stage after the answer of that access; `borrowed` says how many samples of each connection are borrowed, of at most `most`
+-- The stage after the answer of the next access; `borrowed` says how many samples of each connection are borrowed, of at most `most`.
 abbrev pub subscriber_take : List Route → List ℕ → ℕ → SubscriberCall → ℕ → SubscriberCall
 subscriber_take routes borrowed most Idle answer = Idle
 subscriber_take routes borrowed most (Receiving place route pop waits) answer =
@@ -98,7 +98,7 @@ subscriber_take routes borrowed most (Releasing place route push) answer =
     released place route (refusing.push_take push answer) (refusing_push_answer (refusing.push_take push answer))
 subscriber_take routes borrowed most (Released done) answer = Idle
 
--- no call is under way
+-- Whether no call is under way.
 abbrev pub subscriber_is_idle : SubscriberCall → Bool
 subscriber_is_idle Idle = true
 subscriber_is_idle (Receiving place route pop waits) = false
@@ -108,7 +108,7 @@ subscriber_is_idle (WasRead slot) = false
 subscriber_is_idle (Releasing place route push) = false
 subscriber_is_idle (Released done) = false
 
--- the next step is the last of its call
+-- Whether the next step is the last one of the call.
 abbrev pub subscriber_is_over : SubscriberCall → Bool
 subscriber_is_over Idle = false
 subscriber_is_over (Receiving place route pop waits) = false
@@ -118,14 +118,14 @@ subscriber_is_over (WasRead slot) = true
 subscriber_is_over (Releasing place route push) = false
 subscriber_is_over (Released done) = true
 
--- a slot that was popped is borrowed
+-- What a pop changes: the slot that it popped, if any, is borrowed.
 abbrev pub borrowed_by : ℕ → Option PopAnswer → SubscriberChange
 borrowed_by place None = change.Nothing
 borrowed_by place (Some (Got (Some slot))) = change.Borrow place slot
 borrowed_by place (Some (Got None)) = change.Nothing
 borrowed_by place (Some (Saw some)) = change.Nothing
 
--- a slot is given back at the store of the write position
+-- What the next access of a release's push changes: the slot goes back by the store of the write position.
 abbrev pub given_back_by : ℕ → Push → SubscriberChange
 given_back_by place push.Idle = change.Nothing
 given_back_by place (push.Begun limit value) = change.Nothing
@@ -134,8 +134,8 @@ given_back_by place (push.SawRoom value write next) = change.Nothing
 given_back_by place (push.Filled value next) = change.GiveBack place value
 given_back_by place (push.Pushed value answered) = change.Nothing
 
--- what the answer of the next access changes of what the subscriber keeps for itself: its samples at the steps that move a
--- position, what it reads at each load
+-- What the answer of the next access changes of what the subscriber keeps for itself: steps that move a position of a ring change its
+-- samples, and each load of a read changes what it has read.
 abbrev pub subscriber_change : SubscriberCall → ℕ → SubscriberChange
 subscriber_change Idle answer = change.Nothing
 subscriber_change (Receiving place route pop waits) answer = borrowed_by place (pop_answer (pop_take pop answer))

@@ -10,17 +10,17 @@ use Rattle.iox_lanes_base.specs.declared.words.word.SharedWord.TheVariants.{Ring
 use Rattle.iox_lanes_base.specs.declared.words.access.SharedAccess.{SharedAccess}
 use Rattle.iox_lanes_base.specs.declared.words.access.SharedAccess.TheVariants.{Load, Store, Exchange, Local}
 
--- positions go round the cells of a ring
+-- The word of a ring with this many cells: positions go round its cells.
 abbrev pub cell_word : ℕ → Word → Word
 cell_word cells Write = Write
 cell_word cells Read = Read
 cell_word cells (Cell position) = Cell (position % cells)
 
--- a ring's word as a word of its connection
+-- A word of a ring as a word of its connection.
 abbrev pub in_ring : ℕ → ConnectionRing → ℕ → Word → SharedWord
 in_ring connection ring cells word = Ring connection ring (cell_word cells word)
 
--- an access of a ring's end as one to the ring of a connection
+-- An access of a ring's end as one to the ring of a connection.
 abbrev pub on_ring : ℕ → ConnectionRing → ℕ → Access → SharedAccess
 on_ring connection ring cells (own.Load word) = Load (in_ring connection ring cells word)
 on_ring connection ring cells (own.Store word value) = Store (in_ring connection ring cells word) value

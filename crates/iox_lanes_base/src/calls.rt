@@ -1,10 +1,10 @@
-//! The calls of one publisher and of one subscriber, one shared word at a time.
+//! The calls of one publisher and of one subscriber, one access to a shared word at a time.
 //!
-//! Each call is plain data, free of any words: it says which access comes next, takes that access's answer, and says what the
-//! answer changes of what its port keeps for itself. Rings are worked by the ends of `iox_queues`.
+//! Each call is plain data and contains no shared words: it says which access comes next, takes the answer of that access, and says what
+//! the answer changes of what its port keeps for itself. The accesses to rings are those of the ring ends of `iox_queues_steps`.
 //!
 //! - [`route`]: a connection as its two ports know it.
-//! - [`answers`]: what an end of a ring was answered.
+//! - [`answers`]: the answer of a push or a pop that is over.
 //! - [`publisher`]: a loan, a write, a send and the dropping of a loan.
 //! - [`subscriber`]: a receive, a read and a release.
 //!

@@ -1,11 +1,11 @@
 //! The shared words of one service, and one access to one of them.
 //!
-//! Each connection has two rings: that of the messages sent, and that of the samples given back. Each slot has the words of its
-//! header, its user header and its payload. A numbering lays all of them side by side in one table.
+//! Each connection has two rings: the submission ring has the messages sent, the completion ring the samples released. Each slot has the
+//! words of its header, its user header and its payload. All words have numbers, and are side by side in one table.
 //!
 //! - [`word`]: the words.
-//! - [`access`]: what a step does with one of them.
-//! - [`sizes`]: how many there are, and the number of each in a table.
+//! - [`access`]: one access to one of them.
+//! - [`sizes`]: how many words there are, and the number of each in a table.
 //! - [`table`]: the table.
 //!
 //! First calls. `LaneMachine` of `iox_lanes_machine` makes them.

@@ -1,4 +1,4 @@
--- The accesses of a whole call in any run of lanes, however the steps of others fall between its own.
+-- The accesses of a whole call in any run of lanes, however the steps of others come between its own.
 use Rattle.std.specs.Prelude.{ℕ, ◌≡◌, ◌-◌, ◌<◌, ◌≤◌, ◌^◌, ◌&&◌, ◌⊎◌, Bool, true, false, if◌then◌else◌, List, [], ◌∷◌, ◌++◌, length}
 use Rattle.std.specs.Prelude.{slice_get, Option, Some, None}
 use Rattle.iox_lanes_base.specs.Subscribing.{subscriber_is_idle}
@@ -24,21 +24,21 @@ use Rattle.iox_lanes_laws.specs.Courses.{quiet_course, back, loan_course, write_
 use Rattle.iox_lanes_laws.specs.ReceiveCourses.{receive_course, read_course, words_in}
 use Rattle.iox_lanes_laws.specs.SendCourses.{refusing_course, send_course}
 
--- the accesses of the entries that are made and whose party this is, one after the other
+-- The accesses of the entries that are made and whose party is selected, one after the other.
 abbrev pub own_accesses : (Party → Bool) → World → List Entry → List SharedAccess
 own_accesses own m [] = []
 own_accesses own m (entry ∷ entries) =
     (if fits m entry.party entry.step && own entry.party then access_of m entry.party entry.step ∷ [] else [])
     ++ own_accesses own (after_entry (fits m entry.party entry.step) m entry) entries
 
--- what each of these accesses is answered
+-- The answers of the accesses of the entries that are made and whose party is selected.
 abbrev pub own_answers : (Party → Bool) → World → List Entry → List ℕ
 own_answers own m [] = []
 own_answers own m (entry ∷ entries) =
     (if fits m entry.party entry.step && own entry.party then shared_answer m.table (access_of m entry.party entry.step) ∷ [] else [])
     ++ own_answers own (after_entry (fits m entry.party entry.step) m entry) entries
 
--- the accesses of a publisher's call, by what they are answered; what isn't a call of publishers makes none
+-- The accesses of a publisher's call, by their answers; a call that isn't a publisher's makes none.
 abbrev pub publisher_call_course : PublisherLaneState → Call → List ℕ → List SharedAccess
 publisher_call_course lane call.LoanUninit answers = loan_course lane.port.routes answers
 publisher_call_course lane (call.Write loan payload user_header) answers = write_course loan 0 payload.items answers
@@ -48,7 +48,7 @@ publisher_call_course lane call.Receive answers = []
 publisher_call_course lane (call.Read sample) answers = []
 publisher_call_course lane (call.Release sample) answers = []
 
--- how many words of a slot a publisher's call stores
+-- How many words of a slot a publisher's call stores.
 abbrev pub words_stored : PublisherLaneState → Call → ℕ
 words_stored lane call.LoanUninit = 0
 words_stored lane (call.Write loan payload user_header) = length payload.items
@@ -58,7 +58,8 @@ words_stored lane call.Receive = 0
 words_stored lane (call.Read sample) = 0
 words_stored lane (call.Release sample) = 0
 
--- a publisher's call, some entries behind its begin and still under way
+-- A publisher's call that began, and is still under way after these entries, on lanes that made at most 2^63 steps; connections and stored
+-- words are fewer than 2^64 - 1.
 pub record IsPublisherCall (m : World) (place : ℕ) (lane : PublisherLaneState) (c : Call) (entries : List Entry) : Type 0 where
   pub found : slice_get m.publishers place ≡ Some lane
   pub may : publisher_fits lane (Begin c) ≡ true
@@ -67,16 +68,16 @@ pub record IsPublisherCall (m : World) (place : ℕ) (lane : PublisherLaneState)
   pub few : (led (happens m (Publisher place) (Begin c)) entries).moments ≤ 2 ^ 63
   pub inside : IsInCall (led (happens m (Publisher place) (Begin c)) entries) place m.moments
 
--- In any run the accesses of a publisher's call are the course of the call, by what they were answered. So it is for fewer than 2^64 - 1
--- connections and words, as long as at most 2^63 steps were made.
+-- In any run the accesses of a publisher's call are the course of the call, by their answers. It holds for fewer than 2^64 - 1 connections
+-- and words, as long as at most 2^63 steps were made.
 abbrev pub PublishersKeepCourse : Type 0
 PublishersKeepCourse = (m : World) (place : ℕ) (lane : PublisherLaneState) (c : Call) (entries : List Entry)
     → IsPublisherCall m place lane c entries
     → own_accesses (λ party. is_sender party place) (happens m (Publisher place) (Begin c)) entries
     ≡ publisher_call_course lane c (own_answers (λ party. is_sender party place) (happens m (Publisher place) (Begin c)) entries)
 
--- The call ends right behind its last access: a next step that touches no word is its last one, but for the step of a send behind its
--- header words, for the history.
+-- A publisher's call ends directly after its last access: a next step that touches no word is the last one of the call, except the step
+-- that a send makes for the history after its header words.
 abbrev pub PublishersEndAtOnce : Type 0
 PublishersEndAtOnce = (m : World) (place : ℕ) (lane : PublisherLaneState) (c : Call) (entries : List Entry)
     → IsPublisherCall m place lane c entries
@@ -84,13 +85,13 @@ PublishersEndAtOnce = (m : World) (place : ℕ) (lane : PublisherLaneState) (c :
     → (ends (led (happens m (Publisher place) (Begin c)) entries) (Publisher place) GoOn ≡ true)
     ⊎ ((slot : ℕ) × (publisher_stage (slice_get (led (happens m (Publisher place) (Begin c)) entries).publishers place) ≡ Remembering slot))
 
--- the accesses of a release to a connection; without one there are none
+-- The accesses of a release to a connection; none if there is no connection.
 abbrev pub release_course : ℕ → Option Route → List ℕ → List SharedAccess
 release_course sample None answers = []
 release_course sample (Some route) answers
     = refusing_course (back route) route.completion_cells route.completion_cells sample quiet_course answers
 
--- the accesses of a subscriber's call, by what they are answered; what isn't a call of subscribers makes none
+-- The accesses of a subscriber's call, by their answers; a call that isn't a subscriber's makes none.
 abbrev pub subscriber_call_course : SubscriberLaneState → Call → List ℕ → List SharedAccess
 subscriber_call_course lane call.LoanUninit answers = []
 subscriber_call_course lane (call.Write loan payload user_header) answers = []
@@ -100,14 +101,15 @@ subscriber_call_course lane call.Receive answers = receive_course lane.port.borr
 subscriber_call_course lane (call.Read sample) answers = read_course sample lane.port.extent 0 (words_in lane.port.extent) answers
 subscriber_call_course lane (call.Release sample) answers = release_course sample (route_at (place_of sample lane) lane) answers
 
--- a subscriber is still in the call that it began at this moment
+-- The subscriber is still in the call that it began at this moment.
 pub record IsInSubscriberCall (m : World) (place first : ℕ) : Type 0 where
   pub lane : SubscriberLaneState
   pub found : slice_get m.subscribers place ≡ Some lane
   pub since : lane.first ≡ first
   pub busy : subscriber_is_idle lane.port.call ≡ false
 
--- a subscriber's call, some entries behind its begin and still under way
+-- A subscriber's call that began, and is still under way after these entries, on lanes that made at most 2^63 steps; connections and the
+-- words of a slot are fewer than 2^64 - 1.
 pub record IsSubscriberCall (m : World) (place : ℕ) (lane : SubscriberLaneState) (c : Call) (entries : List Entry) : Type 0 where
   pub found : slice_get m.subscribers place ≡ Some lane
   pub may : subscriber_fits lane (Begin c) ≡ true
@@ -116,22 +118,23 @@ pub record IsSubscriberCall (m : World) (place : ℕ) (lane : SubscriberLaneStat
   pub few : (led (happens m (Subscriber place) (Begin c)) entries).moments ≤ 2 ^ 63
   pub inside : IsInSubscriberCall (led (happens m (Subscriber place) (Begin c)) entries) place m.moments
 
--- In any run the accesses of a subscriber's call are the course of the call, by what they were answered. So it is for fewer than 2^64 - 1
--- connections and words, as long as at most 2^63 steps were made.
+-- In any run the accesses of a subscriber's call are the course of the call, by their answers. It holds for fewer than 2^64 - 1 connections
+-- and words, as long as at most 2^63 steps were made.
 abbrev pub SubscribersKeepCourse : Type 0
 SubscribersKeepCourse = (m : World) (place : ℕ) (lane : SubscriberLaneState) (c : Call) (entries : List Entry)
     → IsSubscriberCall m place lane c entries
     → own_accesses (λ party. is_receiver party place) (happens m (Subscriber place) (Begin c)) entries
     ≡ subscriber_call_course lane c (own_answers (λ party. is_receiver party place) (happens m (Subscriber place) (Begin c)) entries)
 
--- The call ends right behind its last access: a next step that touches no word is its last one.
+-- A subscriber's call ends directly after its last access: a next step that touches no word is the last one of the call.
 abbrev pub SubscribersEndAtOnce : Type 0
 SubscribersEndAtOnce = (m : World) (place : ℕ) (lane : SubscriberLaneState) (c : Call) (entries : List Entry)
     → IsSubscriberCall m place lane c entries
     → access_of (led (happens m (Subscriber place) (Begin c)) entries) (Subscriber place) GoOn ≡ Local
     → ends (led (happens m (Subscriber place) (Begin c)) entries) (Subscriber place) GoOn ≡ true
 
--- A release that is still under way made at most four steps since its begin. So it ends with its sixth entry, begin and end included.
+-- A release that is still under way made at most four steps since it began. So it ends with its sixth entry, its beginning and its last
+-- step included.
 abbrev pub ReleasesEndSoon : Type 0
 ReleasesEndSoon = (m : World) (place sample : ℕ) (lane : SubscriberLaneState) (entries : List Entry)
     → IsSubscriberCall m place lane (call.Release sample) entries

@@ -15,25 +15,25 @@ use Rattle.iox_lanes_base.specs.declared.calls.subscriber.SubscriberCall.{Subscr
 use Rattle.iox_lanes_base.specs.declared.calls.subscriber.SubscriberChange.{SubscriberChange}
 use Rattle.iox_lanes_base.specs.declared.calls.subscriber.SubscriberChange.TheVariants as subscriber
 
--- the word is a position of a ring
+-- Whether the word of a ring is a position.
 abbrev pub is_position_of : Word → Bool
 is_position_of Write = true
 is_position_of Read = true
 is_position_of (Cell cell) = false
 
--- the word is a position
+-- Whether the shared word is a position of a ring.
 abbrev pub is_position : SharedWord → Bool
 is_position (Ring connection ring word) = is_position_of word
 is_position (Slot slot word) = false
 
--- the access moves a position: it stores one, or its exchange is won
+-- Whether the access moves a position: it stores one, or its exchange succeeds.
 abbrev pub moves : SharedAccess → ℕ → Bool
 moves (Load word) answer = false
 moves (Store word value) answer = is_position word
 moves (Exchange word old new) answer = answer == old
 moves Local answer = false
 
--- a connection gets a slot or loses one
+-- Whether by this change a connection gets or loses a slot.
 abbrev pub is_of_slots : PublisherChange → Bool
 is_of_slots publisher.Nothing = false
 is_of_slots publisher.Lend = false
@@ -44,23 +44,23 @@ is_of_slots (publisher.Put place slot) = true
 is_of_slots (publisher.LeftOut place slot) = true
 is_of_slots (publisher.DropLoan slot) = false
 
--- a sample is borrowed or given back
+-- Whether by this change a sample is borrowed or returned.
 abbrev pub is_of_samples : SubscriberChange → Bool
 is_of_samples subscriber.Nothing = false
 is_of_samples (subscriber.Borrow place slot) = true
 is_of_samples (subscriber.Note word value) = false
 is_of_samples (subscriber.GiveBack place slot) = true
 
--- a publisher's connections get and lose slots at just the steps that move a position
+-- A publisher's connections get and lose slots at exactly the steps that move a position.
 abbrev pub PublishersKeepPace : Type 0
 PublishersKeepPace = (call : PublisherCall) (answer : ℕ) → is_of_slots (publisher_change call answer) ≡ moves (publisher_next call) answer
 
--- samples are borrowed and given back at just the steps that move a position
+-- Samples are borrowed and returned at exactly the steps that move a position.
 abbrev pub SubscribersKeepPace : Type 0
 SubscribersKeepPace = (call : SubscriberCall) (answer : ℕ)
     → is_of_samples (subscriber_change call answer) ≡ moves (subscriber_next call) answer
 
--- a receive only looks at a connection exactly where as many samples of it are borrowed as may be
+-- A receive only looks at a connection exactly where as many samples of the connection are borrowed as may be.
 abbrev pub LimitsHold : Type 0
 LimitsHold = (borrowed : List ℕ) (most place count : ℕ) → slice_get borrowed place ≡ Some count
     → (most ≤ count → is_full_at borrowed most place ≡ true) × (count < most → is_full_at borrowed most place ≡ false)

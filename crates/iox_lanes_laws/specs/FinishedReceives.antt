@@ -16,9 +16,9 @@ use Rattle.iox_lanes_machine.specs.WholeReads.{CameTo}
 use Rattle.iox_lanes_machine.specs.World.{World, happens}
 use Rattle.iox_lanes_laws.specs.Takes.{Visits, own_takes}
 
--- A receive that ended on the way to these lanes: the lanes where it began, the subscriber then, the entries from there to its last step
--- and those behind it. It took once at each connection, in their order, up to the first that gave, and answered by these takes. So it is
--- for fewer than 2^64 - 1 connections.
+-- A receive that ended on the way to these lanes: the lanes where it began, the subscriber then, the entries up to its last step and those
+-- after it. It took or looked once at each connection, in their order, up to the first that gave a message, and its answer is what these
+-- takes say. It holds for fewer than 2^64 - 1 connections.
 pub record WasReceived (m : World) (ended : FinishedCall) : Type 0 where
   pub before : World
   pub came : CameTo before
@@ -37,14 +37,14 @@ pub record WasReceived (m : World) (ended : FinishedCall) : Type 0 where
       × Visits lane.port.borrowed lane.port.most_borrowed 0 false lane.port.routes
       (own_takes (λ party. is_receiver party place) (happens before (Subscriber place) (Begin call.Receive)) during) (Received given)
 
--- so did each receive that ended
+-- Each receive that ended took its message so (`WasReceived`).
 abbrev pub AllReceivesTook : World → Type 0
 AllReceivesTook m = (ended : FinishedCall) → Contains m.finished ended → ended.call ≡ name.Receive → WasReceived m ended
 
--- so it is as long as at most 2^63 steps were made
+-- Each receive that ended took its message so, as long as at most 2^63 steps were made.
 abbrev pub ReceivesFollow : World → Type 0
 ReceivesFollow m = m.moments ≤ 2 ^ 63 → AllReceivesTook m
 
--- However lanes came to where they are, so it is of them.
+-- On all lanes that came somewhere by steps, each receive that ended took its message so, as long as at most 2^63 steps were made.
 abbrev pub FinishedReceivesFollow : Type 0
 FinishedReceivesFollow = (m : World) → CameTo m → ReceivesFollow m

@@ -13,11 +13,11 @@ use Rattle.iox_lanes_laws.specs.Messages.{MessageState}
 use Rattle.iox_lanes_laws.specs.Numbered.{found_messages, last_number}
 use Rattle.iox_lanes_laws.specs.Recorded.{RecordState, RecordsRun}
 
--- some message was sent or found in a slot by a moment, so that the slot has a number then
+-- Some message was sent or found in this slot by this moment, so the slot has a number then.
 abbrev pub HasNumber : List MessageState → ℕ → ℕ → Type 0
 HasNumber messages moment slot = (number : ℕ) × (last_number messages slot moment (length messages) ≡ Some number)
 
--- the slots that an act names: that of a put, that which it leaves out, and that of a take
+-- The slots that an act names: those of a put, of the message that it drops, and of a take.
 abbrev pub slots_named : Act → List ℕ
 slots_named (Put value Kept) = value ∷ []
 slots_named (Put value (LeftOut oldest)) = value ∷ oldest ∷ []
@@ -26,12 +26,12 @@ slots_named (Take (Got None)) = []
 slots_named (Take (Got (Some slot))) = slot ∷ []
 slots_named (Take (Saw some)) = []
 
--- each slot that an order names has a number by its moment
+-- Each slot that the order names has a number by the moment of its entry.
 abbrev pub OrderHasNumbers : List MessageState → List Placed → Type 0
 OrderHasNumbers messages order = All (λ placed. All (HasNumber messages placed.moment) (slots_named placed.act)) order
 
--- Whatever is run from before the first step on, where the messages were kept that were found then: each message that was found to wait has
--- a number, and so has each that is put, left out or taken by an order. So it is as long as at most 2^63 steps were made.
+-- Whatever is run from before the first step on, if the messages that were found then were kept: each message that was found to wait has a
+-- number, and so has each that is put, dropped or taken by an order. It holds as long as at most 2^63 steps were made.
 abbrev pub OrdersHaveNumbers : Type 0
 OrdersHaveNumbers = (r : RecordState) (entries : List Entry) (made : ℕ) (n : RecordState) → CameTo r.lanes → r.lanes.moments ≡ 0
     → r.messages ≡ found_messages r.lanes → RecordsRun r entries made n → n.lanes.moments ≤ 2 ^ 63

@@ -1,4 +1,4 @@
--- The definitions that the laws on calls cite.
+-- The definitions that the theorems on calls cite.
 pub mod Seats
 pub mod Courses
 pub mod SendCourses

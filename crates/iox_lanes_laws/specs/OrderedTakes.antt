@@ -1,4 +1,4 @@
--- The takes of receives stand in the order of their connection.
+-- The takes of receives are in the order of their connection.
 use Rattle.std.specs.Prelude.{ℕ, ◌≡◌, ◌+◌, ◌<◌, ◌≤◌, ◌^◌, ◌==◌, if◌then◌else◌, List, [], ◌∷◌, ◌++◌, Contains, map, slice_get}
 use Rattle.std.specs.Prelude.{Some, true}
 use Rattle.std.specs.List.{All, AllZip}
@@ -22,20 +22,20 @@ use Rattle.iox_lanes_machine.specs.World.{World, fits, happens}
 use Rattle.iox_lanes_laws.specs.FinishedReceives.{WasReceived}
 use Rattle.iox_lanes_laws.specs.Takes.{PlacedTake, own_takes, step_takes}
 
--- the answers of those takes and looks that stand at a connection
+-- The answers of the takes and looks at this connection.
 abbrev pub answers_there : ℕ → List PlacedTake → List PopAnswer
 answers_there connection [] = []
 answers_there connection (take ∷ more) =
     (if take.connection == connection then take.answer ∷ [] else []) ++ answers_there connection more
 
--- a take or a look of an order has this answer, and stands at a moment from one on and before another
+-- The take or look of an order has this answer, and its moment is at least `low` and below `high`.
 pub record StandsBetween (low high : ℕ) (take : PopCall) (answer : PopAnswer) : Type 0 where
   pub answered : take.answer ≡ answer
   pub begun : low ≤ take.first
   pub not_yet : take.first < high
 
--- A step that fits brings into the order of a connection just the takes and looks that its subscriber makes there by this step, at the
--- moment of the step; so none, where another party makes it.
+-- A step that fits adds to the order of a connection exactly the takes and looks that the connection's subscriber makes there by this step,
+-- at the moment of the step; none if another party makes it.
 abbrev pub StepsTakeNow : Type 0
 StepsTakeNow = (m : World) → CameTo m → (party : Party) (step : Move) → fits m party step ≡ true
     → (connection : ℕ) (link : LinkState) (before : List Placed) → slice_get m.links connection ≡ Some link
@@ -44,8 +44,8 @@ StepsTakeNow = (m : World) → CameTo m → (party : Party) (step : Move) → fi
     × (takes after ≡ takes before ++ map (pop_call m.moments m.moments)
     (answers_there connection (if is_receiver party link.subscriber then step_takes m party step else [])))
 
--- What came into an order behind the one that was: just these takes and looks, as far as they stand at its connection, each once and one
--- after the other, from a moment on and before the next moment of these lanes.
+-- What came into an order after the entries of `before`: exactly the takes and looks of `own` at this connection, each once and one after
+-- the other, from the moment `low` on and before the next moment of these lanes.
 pub record TakesFollow (connection low : ℕ) (before : List Placed) (own : List PlacedTake) (n : World) : Type 0 where
   pub order : List Placed
   pub got : slice_get n.orders connection ≡ Some order
@@ -53,17 +53,17 @@ pub record TakesFollow (connection low : ℕ) (before : List Placed) (own : List
   pub more : takes order ≡ takes before ++ new
   pub stand : AllZip (StandsBetween low n.moments) new (answers_there connection own)
 
--- However lanes came to where they are, and whatever entries follow: the takes and looks of a connection's order are those before them,
--- and behind these just those that its subscriber made there by these entries, in their order, from the first of their moments on and
--- before the next one. So it is as long as at most 2^63 steps were made.
+-- For lanes that came somewhere by steps, and whatever entries follow: the takes and looks of a connection's order are those before the
+-- entries, followed by exactly those that its subscriber made there by these entries, in their order, from the first of their moments on
+-- and before the next one. It holds as long as at most 2^63 steps were made.
 abbrev pub TakesStandInOrder : Type 0
 TakesStandInOrder = (m : World) → CameTo m → (entries : List Entry) → (led m entries).moments ≤ 2 ^ 63
     → (connection : ℕ) (link : LinkState) (before : List Placed) → slice_get m.links connection ≡ Some link
     → slice_get m.orders connection ≡ Some before
     → TakesFollow connection m.moments before (own_takes (λ party. is_receiver party link.subscriber) m entries) (led m entries)
 
--- The takes and looks of an order are those up to the first moment of a call, those that the call made at its connection, which stand
--- between its first and its last moment, and those from its last moment on.
+-- The takes and looks of an order are those up to the first moment of a call, then those that the call made at this connection, whose
+-- moments are between its first and its last one, and then those from its last moment on.
 pub record StandInside (connection first last : ℕ) (order : List Placed) (own : List PlacedTake) : Type 0 where
   pub earlier : List PopCall
   pub here : List PopCall
@@ -73,7 +73,7 @@ pub record StandInside (connection first last : ℕ) (order : List Placed) (own 
   pub inside : AllZip (StandsBetween (first + 1) last) here (answers_there connection own)
   pub behind : All (λ take. last ≤ take.first) later
 
--- a receive that ended took in the order of each connection of its subscriber what it took there, inside the call
+-- The receive that ended has what it took in the order of each connection of its subscriber, within the time of the call.
 pub record StandsInOrders (m : World) (ended : FinishedCall) : Type 0 where
   pub was : WasReceived m ended
   pub stands : (connection : ℕ) (link : LinkState) (order : List Placed) → slice_get m.links connection ≡ Some link
@@ -81,7 +81,8 @@ pub record StandsInOrders (m : World) (ended : FinishedCall) : Type 0 where
       → StandInside connection ended.first ended.last order
       (own_takes (λ party. is_receiver party was.place) (happens was.before (Subscriber was.place) (Begin call.Receive)) was.during)
 
--- However lanes came to where they are, so did each receive that ended; as long as at most 2^63 steps were made.
+-- For lanes that came somewhere by steps, each receive that ended has what it took in the orders, within the time of the call
+-- (`StandsInOrders`), as long as at most 2^63 steps were made.
 abbrev pub ReceivesStandInOrder : Type 0
 ReceivesStandInOrder = (m : World) → CameTo m → m.moments ≤ 2 ^ 63 → (ended : FinishedCall) → Contains m.finished ended
     → ended.call ≡ name.Receive → StandsInOrders m ended

@@ -24,35 +24,35 @@ use Rattle.iox_lanes_machine.specs.Resting.{mail_at}
 use Rattle.iox_lanes_machine.specs.World.{World}
 use Rattle.iox_lanes_laws.specs.Turns.{IsInTurn, IsAnswered, MailStays}
 
--- a call of the publisher at a place leaves each other publisher and each subscriber as it was
+-- Each publisher other than the one at this place, and each subscriber, is as it was.
 pub record OnlyPublisher (m : World) (place : ℕ) (n : World) : Type 0 where
   pub publishers : (other : ℕ) → (other ≡ place → ⊥) → slice_get n.publishers other ≡ slice_get m.publishers other
   pub subscribers : n.subscribers ≡ m.subscribers
 
--- a slot is a loan of a publisher
+-- Whether the slot is a loan of the publisher.
 abbrev pub is_loan : PublisherLaneState → ℕ → Bool
 is_loan lane slot = is_out (loan_of slot lane.port.book)
 
--- each other slot is what it was: no loan, a loan, or one that is written
+-- Each other slot is what it was: no loan, a loan, or a written loan.
 abbrev pub OtherMarksStay : PublisherLaneState → ℕ → PublisherLaneState → Type 0
 OtherMarksStay before slot after = (other : ℕ) → (other ≡ slot → ⊥) → loan_of other after.port.book ≡ loan_of other before.port.book
 
--- a slot is no loan any longer, and each other one is what it was
+-- The slot isn't a loan any longer, and each other slot is what it was.
 pub record LoanEnds (before after : PublisherLaneState) (slot : ℕ) : Type 0 where
   pub ended : is_loan after slot ≡ false
   pub others : OtherMarksStay before slot after
 
--- the history is what it was
+-- The history is as it was.
 abbrev pub HistoryStays : PublisherLaneState → PublisherLaneState → Type 0
 HistoryStays before after = after.port.book.history ≡ before.port.book.history
 
--- each slot of a publisher is in use
+-- Each slot of the publisher is in use.
 abbrev pub AllInUse : World → PublisherLaneState → Type 0
 AllInUse m lane = (slot : ℕ) → IsOwn lane.port.book slot → IsInUse m lane slot
 
--- A loan is refused just where as many loans are out as may be; it finds no slot just where fewer are out and each slot of the
--- publisher is in use; the slot that it gives was the publisher's and in no use, and is a loan from then on, not written yet. Each
--- other slot is what it was.
+-- A loan is refused exactly where as many loans are out as may be. It finds no slot exactly where fewer are out and each slot of the
+-- publisher is in use. The slot that it gets was the publisher's and not in use, and is an unwritten loan from then on. Each other slot is
+-- what it was.
 pub record Lends (m : World) (before : PublisherLaneState) (given : LoanAnswer) (after : PublisherLaneState) : Type 0 where
   pub refused : given ≡ loan.ExceedsMaxLoans ↔ loans_out before.port.book ≡ before.port.book.most_loans
   pub lacks : given ≡ loan.OutOfMemory ↔ (loans_out before.port.book < before.port.book.most_loans) × AllInUse m before
@@ -60,22 +60,22 @@ pub record Lends (m : World) (before : PublisherLaneState) (given : LoanAnswer) 
       → IsOwn before.port.book slot × (IsInUse m before slot → ⊥) × (loan_of slot after.port.book ≡ mark.Lent)
   pub others : (slot : ℕ) → (given ≡ loan.Slot slot → ⊥) → loan_of slot after.port.book ≡ loan_of slot before.port.book
 
--- the last of a list, so many of them at most
+-- The last `most` slots of the list, or all if there are fewer.
 abbrev pub newest : ℕ → List ℕ → List ℕ
 newest most slots = drop (length slots - most) slots
 
--- a connection takes a message in: its ring lets its oldest go, or fewer wait than may
+-- Whether there is a connection, and it takes one message more: its ring overflows, or fewer messages wait than may.
 abbrev pub takes_in : Option LinkState → List ℕ → Bool
 takes_in None waiting = false
 takes_in (Some link) waiting = overflows link.kind || nat_lt (length waiting) link.limit
 
--- so does the connection that a port has
+-- Whether the connection of this route takes one message more.
 abbrev pub route_takes : World → Route → Bool
 route_takes m route = takes_in (slice_get m.links route.connection) (mail_at m route.connection)
 
--- A send puts its slot into the mailbox of each connection of its publisher and into no other; its delivery says how many took it
--- in, and how many didn't; the slot is no loan any longer and the newest of the history, of which the oldest leaves where there would
--- be too many.
+-- A send puts its slot into the mailbox of each connection of its publisher and into no other. Its delivery counts how many took the slot,
+-- and how many didn't. The slot isn't a loan any longer, and is the newest of the history, which drops its oldest one if it would be too
+-- long.
 pub record Sends (m : World) (place slot : ℕ) (before : PublisherLaneState) (delivery : Delivery) (n : World)
     (after : PublisherLaneState) : Type 0 where
   pub put : (connection : ℕ) (link : LinkState) → slice_get m.links connection ≡ Some link → link.publisher ≡ place
@@ -87,7 +87,7 @@ pub record Sends (m : World) (place slot : ℕ) (before : PublisherLaneState) (d
   pub loans : LoanEnds before after slot
   pub history : after.port.book.history ≡ newest before.port.book.kept (before.port.book.history ++ slot ∷ [])
 
--- So a loan ends that no other call overlaps, for slots that have numbers below 2^64.
+-- A loan that no other call overlaps ends so (`Lends`), for slots with numbers below 2^64.
 abbrev pub LoansInTurn : Type 0
 LoansInTurn = (m n : World) (place : ℕ) (before after : PublisherLaneState) → IsInTurn m (Publisher place) call.LoanUninit n
     → slice_get m.publishers place ≡ Some before → slice_get n.publishers place ≡ Some after
@@ -95,22 +95,22 @@ LoansInTurn = (m n : World) (place : ℕ) (before after : PublisherLaneState) �
     → (given : LoanAnswer) × IsAnswered m (Publisher place) call.LoanUninit (answer.Lent given) n × OnlyPublisher m place n
     × MailStays m n × HistoryStays before after × Lends m before given after
 
--- So a send ends that no other call overlaps. It is unable to deliver just where its publisher fails at a full mailbox and some
--- connection refused the message.
+-- A send that no other call overlaps ends so (`Sends`). Its answer is `UnableToDeliver` exactly where its publisher fails at a full mailbox
+-- and some connection refused the message.
 abbrev pub SendsInTurn : Type 0
 SendsInTurn = (m n : World) (place slot : ℕ) (before after : PublisherLaneState) → IsInTurn m (Publisher place) (call.Send slot) n
     → slice_get m.publishers place ≡ Some before → slice_get n.publishers place ≡ Some after
     → (delivery : Delivery) × IsAnswered m (Publisher place) (call.Send slot) (answer.Sent (send_answer before.fails delivery)) n
     × OnlyPublisher m place n × Sends m place slot before delivery n after
 
--- So ends the giving up of a loan that no other call overlaps: the slot is no loan any longer, and that is all.
+-- After the dropping of a loan that no other call overlaps, the slot isn't a loan any longer; nothing else changes.
 abbrev pub DropsInTurn : Type 0
 DropsInTurn = (m n : World) (place slot : ℕ) (before after : PublisherLaneState) → IsInTurn m (Publisher place) (call.DropLoan slot) n
     → slice_get m.publishers place ≡ Some before → slice_get n.publishers place ≡ Some after
     → IsAnswered m (Publisher place) (call.DropLoan slot) answer.Dropped n × OnlyPublisher m place n × MailStays m n
     × HistoryStays before after × LoanEnds before after slot
 
--- So a write ends that no other call overlaps: its loan is written, and each other slot is what it was.
+-- After a write that no other call overlaps, its loan is written, and each other slot is what it was.
 abbrev pub WritesInTurn : Type 0
 WritesInTurn = (m n : World) (place slot : ℕ) (c : Call) (before after : PublisherLaneState) → name_of c ≡ name.Write slot
     → IsInTurn m (Publisher place) c n → slice_get m.publishers place ≡ Some before → slice_get n.publishers place ≡ Some after

@@ -19,21 +19,21 @@ use Rattle.iox_lanes_machine.specs.World.{World, Records, StepsTo, fits, happens
 use Rattle.iox_lanes_laws.specs.Messages.{MessageState, begun_messages, last_in}
 use Rattle.iox_lanes_laws.specs.Numbered.{last_number, number_by, numbered}
 
--- lanes, and the messages whose sends began on them, in their order
+-- The lanes, and the messages whose sends began on them, in their order.
 pub record RecordState : Type 0 where
   pub lanes : World
   pub messages : List MessageState
 
--- what is left where a step that fits is made
+-- The lanes and messages after a step that fits.
 abbrev pub recorded_after : RecordState → Party → Move → RecordState
 recorded_after r party step = record { lanes = happens r.lanes party step; messages = r.messages ++ begun_messages r.lanes party step }
 
--- something is recorded at a step: the lanes record something, or a send begins
+-- The step records something: the lanes record something, or a send begins.
 abbrev pub RecordsAt : RecordState → Party → Move → Type 0
 RecordsAt r party step = Records r.lanes party step ⊎ (0 < length (begun_messages r.lanes party step))
 
--- what a step answers, and what it leaves: the lanes make their step, and the message whose send begins stands behind the others;
--- an allocation fails only where something is recorded
+-- What a step answers, and what it leaves: the lanes make their step, and the message whose send begins comes behind the others. An
+-- allocation fails only where something is recorded.
 abbrev pub RecordsTo : RecordState → Party → Move → Stepped → RecordState → Type 0
 RecordsTo r party step stepped.Went n = StepsTo r.lanes party step stepped.Went n.lanes
     × (n.messages ≡ r.messages ++ begun_messages r.lanes party step)
@@ -42,8 +42,8 @@ RecordsTo r party step stepped.Finished n = StepsTo r.lanes party step stepped.F
 RecordsTo r party step stepped.Skipped n = (fits r.lanes party step ≡ false) × (n ≡ r)
 RecordsTo r party step stepped.NoMemory n = (fits r.lanes party step ≡ true) × RecordsAt r party step × (n ≡ r)
 
--- A list of entries, of which `made` were made, one after the other. One that doesn't fit is left out, and so is one that finds
--- no memory for what it records.
+-- The lanes and messages after a list of entries, of which `made` were made, one after the other. An entry that doesn't fit is skipped, and
+-- so is one that finds no memory for what it records.
 abbrev pub RecordsRun : RecordState → List Entry → ℕ → RecordState → Type 0
 RecordsRun r [] made n = (made ≡ 0) × (n ≡ r)
 RecordsRun r (entry ∷ entries) made n =
@@ -52,17 +52,17 @@ RecordsRun r (entry ∷ entries) made n =
     × ((fewer : ℕ) × (made ≡ fewer + 1) × RecordsRun (recorded_after r entry.party entry.step) entries fewer n))
     ⊎ ((fits r.lanes entry.party entry.step ≡ true) × RecordsAt r entry.party entry.step × RecordsRun r entries made n))
 
--- these messages have the words that their slots hold; so have those that are found, and none at all
+-- Each of these messages has the words that its slot contains. This holds for messages that are found, and for an empty list.
 abbrev pub AreAsHeld : World → List MessageState → Type 0
 AreAsHeld m messages = All (λ message. message.words ≡ slot_held m.table message.slot) messages
 
--- and were sent or found by now
+-- Each of these messages was sent or found by now.
 abbrev pub ArePast : World → List MessageState → Type 0
 ArePast m messages = All (λ message. message.moment ≤ m.moments) messages
 
--- Whatever is run from where nobody is inside a call and the messages that are kept are as their slots hold them: a read that ends behind
--- it gives just the words of the last message that is kept for its slot; of a slot for which none is, those that it held at first. So it
--- is as long as at most 2^63 steps were made.
+-- Whatever is run from a state in which nobody is inside a call and the kept messages are as their slots have them: a read that ends after
+-- it returns exactly the words of the last message that is kept for its slot, or the words that the slot had at first if none is. It holds
+-- as long as at most 2^63 steps were made.
 abbrev pub ReadsGiveWhatIsKept : Type 0
 ReadsGiveWhatIsKept = (r : RecordState) (entries : List Entry) (made : ℕ) (n : RecordState) → CameTo r.lanes → AllBetween r.lanes
     → AreAsHeld r.lanes r.messages → RecordsRun r entries made n → n.lanes.moments ≤ 2 ^ 63
@@ -70,7 +70,8 @@ ReadsGiveWhatIsKept = (r : RecordState) (entries : List Entry) (made : ℕ) (n :
     → (call : FinishedCall) (slot : ℕ) → after.lanes.finished ≡ n.lanes.finished ++ call ∷ [] → call.call ≡ name.Read slot
     → after.lanes.read ≡ n.lanes.read ++ last_in (slot_held r.lanes.table slot) n.messages slot
 
--- And where one is kept, that is the message of a number: of the last one that was sent in the slot of the read by its end.
+-- If a message is kept for the slot of such a read, the read returns the message with this number: the last one that was sent in the slot
+-- by the end of the read.
 abbrev pub ReadsGiveMessages : Type 0
 ReadsGiveMessages = (r : RecordState) (entries : List Entry) (made : ℕ) (n : RecordState) → CameTo r.lanes → AllBetween r.lanes
     → AreAsHeld r.lanes r.messages → ArePast r.lanes r.messages → RecordsRun r entries made n → n.lanes.moments ≤ 2 ^ 63
@@ -80,9 +81,9 @@ ReadsGiveMessages = (r : RecordState) (entries : List Entry) (made : ℕ) (n : R
     → slice_get n.messages number ≡ Some message → after.lanes.read ≡ n.lanes.read ++ message.words
 
 -- Whatever is run from before the first step on: the order of each connection answers as a mailbox does with the numbers of its messages in
--- place of their slots; at first the numbers of what was found wait there. So a take gives the number of the oldest message that waits,
--- under which it was put. A slot without a message counts as 0, so found ones differ only if `with_found` kept them. So it is as long as
--- at most 2^63 steps were made.
+-- place of their slots; at first the numbers of the messages found to wait are in it. So a take gives the number of the oldest message that
+-- waits, under which it was put. A slot without a message counts as 0, so found messages have different numbers only if `with_found` kept
+-- them. It holds as long as at most 2^63 steps were made.
 abbrev pub OrdersFollowNumbers : Type 0
 OrdersFollowNumbers = (r : RecordState) (entries : List Entry) (made : ℕ) (n : RecordState) → CameTo r.lanes → r.lanes.moments ≡ 0
     → ArePast r.lanes r.messages → RecordsRun r entries made n → n.lanes.moments ≤ 2 ^ 63

@@ -1,4 +1,4 @@
--- Runs of lanes that keep messages, told as runs of the lanes alone.
+-- Runs of lanes that keep messages, as runs of the lanes alone.
 use Rattle.std.specs.Prelude.{ℕ, ◌≡◌, ◌+◌, ◌⊎◌, true, List, [], ◌∷◌, ◌++◌, length}
 use Rattle.iox_lanes_machine.specs.QueuesSteps.Schedule.{count_of}
 use Rattle.iox_lanes_machine.specs.QueuesSteps.declared.schedule.Stepped.{Stepped}
@@ -10,14 +10,14 @@ use Rattle.iox_lanes_laws.specs.Messages.{MessageState}
 use Rattle.iox_lanes_laws.specs.Recorded.{RecordState, RecordsTo, RecordsRun, recorded_after}
 use Rattle.iox_lanes_laws.specs.WholeMessages.{SendsThrough}
 
--- these entries are some of those, in the same order
+-- The first list is part of the second, in the same order.
 abbrev pub AreSomeOf : List Entry → List Entry → Type 0
 AreSomeOf [] entries = Unit {0}
 AreSomeOf (one ∷ some) [] = ⊥
 AreSomeOf (one ∷ some) (entry ∷ entries) = ((one ≡ entry) × AreSomeOf some entries) ⊎ AreSomeOf (one ∷ some) entries
 
--- What a run is of the lanes alone: they run just those of its entries that were made, in their order, and as many were made as the run
--- answers. The messages whose sends these began stand behind the others.
+-- The run is one of the lanes alone, by exactly those of its entries that were made, in their order, as many as the run answers. The
+-- messages whose sends these entries began come behind the others.
 pub record IsRunOfLanes (r : RecordState) (entries : List Entry) (made : ℕ) (n : RecordState) : Type 0 where
   pub steps : List Entry
   pub some_of : AreSomeOf steps entries
@@ -27,37 +27,37 @@ pub record IsRunOfLanes (r : RecordState) (entries : List Entry) (made : ℕ) (n
   pub through : SendsThrough r.lanes steps sent n.lanes
   pub kept : n.messages ≡ r.messages ++ sent
 
--- a run of lanes that keep messages is such a run of the lanes
+-- A run of lanes that keep messages is such a run of the lanes alone (`IsRunOfLanes`).
 abbrev pub RecordsRunLanes : Type 0
 RecordsRunLanes = (r : RecordState) (entries : List Entry) (made : ℕ) (n : RecordState) → RecordsRun r entries made n
     → IsRunOfLanes r entries made n
 
--- a step is a run of one entry, whatever it answers
+-- A step is a run of one entry, whatever it answers.
 abbrev pub RecordedStepsAreRuns : Type 0
 RecordedStepsAreRuns = (r : RecordState) (party : Party) (step : Move) (answer : Stepped) (n : RecordState)
     → RecordsTo r party step answer n → RecordsRun r (record { party = party; step = step } ∷ []) (count_of answer) n
 
--- a run, and one that goes on from there, are one run
+-- A run, and another one that goes on from its end, are one run.
 abbrev pub RecordedRunsFollow : Type 0
 RecordedRunsFollow = (r : RecordState) (entries : List Entry) (made : ℕ) (m : RecordState) (more : List Entry) (count : ℕ)
     (n : RecordState) → RecordsRun r entries made m → RecordsRun m more count n → RecordsRun r (entries ++ more) (made + count) n
 
--- each of these entries fits where its turn comes, and is made
+-- Each of these entries fits when its turn comes, and is made.
 abbrev pub AllGo : World → List Entry → World → Type 0
 AllGo m [] n = n ≡ m
 AllGo m (entry ∷ entries) n = (fits m entry.party entry.step ≡ true) × AllGo (happens m entry.party entry.step) entries n
 
--- the same of lanes that keep messages
+-- Each of these entries fits when its turn comes, and is made on lanes that keep messages.
 abbrev pub AllAreRecorded : RecordState → List Entry → RecordState → Type 0
 AllAreRecorded r [] n = n ≡ r
 AllAreRecorded r (entry ∷ entries) n =
     (fits r.lanes entry.party entry.step ≡ true) × AllAreRecorded (recorded_after r entry.party entry.step) entries n
 
--- a run that answers as many as it has entries made each of them
+-- A run that answers as many as it has entries made each of them.
 abbrev pub FullRunsGo : Type 0
 FullRunsGo = (m : World) (entries : List Entry) (n : World) → RunsTo m entries (length entries) n → AllGo m entries n
 
--- so did one of lanes that keep messages
+-- A run of lanes that keep messages that answers as many as it has entries made each of them.
 abbrev pub FullRunsAreRecorded : Type 0
 FullRunsAreRecorded = (r : RecordState) (entries : List Entry) (n : RecordState) → RecordsRun r entries (length entries) n
     → AllAreRecorded r entries n

@@ -1,4 +1,4 @@
--- A step of lanes that keep messages, in the words of a step of the lanes alone.
+-- A step of lanes that keep messages, compared with a step of the lanes alone.
 use Rattle.iox_lanes_machine.specs.QueuesSteps.declared.schedule.Stepped.{Stepped}
 use Rattle.iox_lanes_machine.specs.LanesParties.declared.call.Move.{Move}
 use Rattle.iox_lanes_machine.specs.LanesParties.declared.call.Party.{Party}
@@ -20,7 +20,7 @@ use Rattle.iox_lanes_machine.specs.Told.{Told}
 use Rattle.iox_lanes_machine.specs.World.{World}
 use Rattle.iox_lanes_laws.specs.Recorded.{RecordState, RecordsTo}
 
--- what `Lanes::run` says of all lanes: their orders, the calls that ended, their loans, and the words read
+-- What `Lanes::run` ensures for all lanes: of their orders, the calls that ended, their loans, and the words read.
 pub record AllFollow (m : World) : Type 0 where
   pub orders : OrdersFollow m
   pub receipts : ReceiptsFollow m
@@ -31,7 +31,7 @@ pub record AllFollow (m : World) : Type 0 where
   pub reads : ReadsLie m
   pub releases : ReleasesFollow m
 
--- a step of lanes that keep messages is all that `Lanes::step` says of one, also where no message could be kept and nothing changed
+-- A step of lanes that keep messages ensures all that `Lanes::step` says of one, also where no message could be kept and nothing changed.
 pub record MakesStep (r : RecordState) (party : Party) (step : Move) (answer : Stepped) (n : RecordState) : Type 0 where
   pub steps : RecordsTo r party step answer n
   pub apart : StaysApart r.lanes party step answer n.lanes

@@ -1,4 +1,4 @@
--- Which kinds of step each port makes on which words.
+-- Which kinds of access each port makes to which words.
 use Rattle.iox_queues_steps.specs.declared.access.Word.{Word}
 use Rattle.iox_queues_steps.specs.declared.access.Word.TheVariants.{Write, Read, Cell}
 use Rattle.iox_lanes_base.specs.declared.words.word.ConnectionRing.{ConnectionRing}
@@ -12,12 +12,13 @@ use Rattle.iox_lanes_base.specs.Subscribing.{subscriber_next}
 use Rattle.iox_lanes_base.specs.declared.calls.publisher.PublisherCall.{PublisherCall}
 use Rattle.iox_lanes_base.specs.declared.calls.subscriber.SubscriberCall.{SubscriberCall}
 
--- a port loads any word of a ring, and a publisher no word of a slot
+-- A publisher may load the word: it is a word of a ring.
 abbrev pub PublisherLoads : SharedWord → Type 0
 PublisherLoads (Ring connection ring word) = Unit {0}
 PublisherLoads (Slot slot word) = ⊥
 
--- what a publisher stores of a ring: cells and the write position of what it sends, the read position of what came back
+-- A publisher may store the word of this ring: cells and the write position of the submission ring, and the read position of the completion
+-- ring.
 abbrev pub PublisherStoresOf : ConnectionRing → Word → Type 0
 PublisherStoresOf Submission Write = Unit {0}
 PublisherStoresOf Submission Read = ⊥
@@ -26,12 +27,12 @@ PublisherStoresOf Completion Write = ⊥
 PublisherStoresOf Completion Read = Unit {0}
 PublisherStoresOf Completion (Cell cell) = ⊥
 
--- what a publisher stores
+-- A publisher may store the word.
 abbrev pub PublisherStores : SharedWord → Type 0
 PublisherStores (Ring connection ring word) = PublisherStoresOf ring word
 PublisherStores (Slot slot word) = Unit {0}
 
--- what is exchanged of a ring: the read position of messages sent
+-- The word of this ring may be exchanged: the read position of the submission ring.
 abbrev pub ExchangedOf : ConnectionRing → Word → Type 0
 ExchangedOf Submission Write = ⊥
 ExchangedOf Submission Read = Unit {0}
@@ -40,19 +41,20 @@ ExchangedOf Completion Write = ⊥
 ExchangedOf Completion Read = ⊥
 ExchangedOf Completion (Cell cell) = ⊥
 
--- what is exchanged
+-- The word may be exchanged.
 abbrev pub Exchanged : SharedWord → Type 0
 Exchanged (Ring connection ring word) = ExchangedOf ring word
 Exchanged (Slot slot word) = ⊥
 
--- what a publisher does
+-- A publisher may make the access.
 abbrev pub PublisherMay : SharedAccess → Type 0
 PublisherMay (Load word) = PublisherLoads word
 PublisherMay (Store word value) = PublisherStores word
 PublisherMay (Exchange word old new) = Exchanged word
 PublisherMay Local = Unit {0}
 
--- what a subscriber stores of a ring: cells and the write position of what it gives back, the read position of messages
+-- A subscriber may store the word of this ring: cells and the write position of the completion ring, and the read position of the
+-- submission ring.
 abbrev pub SubscriberStoresOf : ConnectionRing → Word → Type 0
 SubscriberStoresOf Submission Write = ⊥
 SubscriberStoresOf Submission Read = Unit {0}
@@ -61,22 +63,22 @@ SubscriberStoresOf Completion Write = Unit {0}
 SubscriberStoresOf Completion Read = ⊥
 SubscriberStoresOf Completion (Cell cell) = Unit {0}
 
--- what a subscriber stores
+-- A subscriber may store the word.
 abbrev pub SubscriberStores : SharedWord → Type 0
 SubscriberStores (Ring connection ring word) = SubscriberStoresOf ring word
 SubscriberStores (Slot slot word) = ⊥
 
--- what a subscriber does
+-- A subscriber may make the access.
 abbrev pub SubscriberMay : SharedAccess → Type 0
 SubscriberMay (Load word) = Unit {0}
 SubscriberMay (Store word value) = SubscriberStores word
 SubscriberMay (Exchange word old new) = Exchanged word
 SubscriberMay Local = Unit {0}
 
--- each step of a publisher's call is one that a publisher does
+-- Each step of a publisher's call makes an access that a publisher may make.
 abbrev pub PublishersStay : Type 0
 PublishersStay = (call : PublisherCall) → PublisherMay (publisher_next call)
 
--- each step of a subscriber's call is one that a subscriber does
+-- Each step of a subscriber's call makes an access that a subscriber may make.
 abbrev pub SubscribersStay : Type 0
 SubscribersStay = (call : SubscriberCall) → SubscriberMay (subscriber_next call)

@@ -1,4 +1,4 @@
--- The sequence numbers of messages on lanes: how they go on, that they stay, that a read gives them, and what a gap among them tells.
+-- The sequence numbers of messages on lanes: how they rise, that they stay, that a read returns them, and what a gap among them means.
 use Rattle.std.specs.Prelude.{ℕ, ◌≡◌, ◌+◌, ◌-◌, ◌<◌, ◌≤◌, ◌^◌, ◌==◌, ◌⊎◌, List, [], ◌∷◌, ◌++◌, length, map, filter, drop, get_or, slice_get}
 use Rattle.std.specs.Prelude.{None, Some}
 use Rattle.std.specs.Option.{option_map_or}
@@ -25,30 +25,30 @@ use Rattle.iox_lanes_laws.specs.Messages.{MessageState}
 use Rattle.iox_lanes_laws.specs.Numbered.{found_messages, last_number, number_by, numbered, numbered_act}
 use Rattle.iox_lanes_laws.specs.Recorded.{AreAsHeld, ArePast, RecordState, RecordsRun, RecordsTo}
 
--- the sequence number of a message, where messages have them: the word behind the node, the publisher and the number of elements
+-- The sequence number of a message, where messages have one: the word after the node, the publisher and the number of elements.
 abbrev pub sequence_of : MessageState → ℕ
 sequence_of message = get_or message.words 3 0
 
--- the sequence number of the message of a number; 0 where there is none
+-- The sequence number of the message with this number; 0 if there is none.
 abbrev pub sequence_under : List MessageState → ℕ → ℕ
 sequence_under messages number = option_map_or sequence_of (slice_get messages number) 0
 
--- the messages of a publisher among these
+-- The messages of this publisher among these.
 abbrev pub messages_of : ℕ → List MessageState → List MessageState
 messages_of who messages = filter (λ message. message.publisher == who) messages
 
--- the messages that a publisher sent in a run, in their order
+-- The messages that a publisher sent in a run, in their order.
 abbrev pub sent_between : RecordState → RecordState → ℕ → List MessageState
 sent_between r n who = messages_of who (drop (length r.messages) n.messages)
 
--- each number is one above the one before it, and the first is one above this
+-- Each number is one above the one before it, and the first is one above `last`.
 abbrev pub CountUp : ℕ → List ℕ → Type 0
 CountUp last [] = Unit {0}
 CountUp last (number ∷ more) = (number ≡ last + 1) × CountUp number more
 
--- Of one publisher, the messages whose sends began in a run have sequence numbers each one above the one before it, from the one on that
--- the publisher had given last; and behind the run it has given as many more. So it is for a publisher whose last number was below 2^63,
--- where headers have room for a number, and as long as at most 2^63 steps were made.
+-- The messages of one publisher whose sends began in a run have sequence numbers that rise by one, beginning after the publisher's last
+-- number before the run; and its last number after the run is larger by as many. It holds for a publisher whose last number was below 2^63,
+-- if headers have a word for the number, and as long as at most 2^63 steps were made.
 abbrev pub SequencesCountUp : Type 0
 SequencesCountUp = (r : RecordState) (entries : List Entry) (made : ℕ) (n : RecordState) → CameTo r.lanes → RecordsRun r entries made n
     → n.lanes.moments ≤ 2 ^ 63 → 0 < r.lanes.table.sizes.user_header_words
@@ -57,8 +57,8 @@ SequencesCountUp = (r : RecordState) (entries : List Entry) (made : ℕ) (n : Re
     × ((after : PublisherLaneState) → slice_get n.lanes.publishers who ≡ Some after
     → after.last ≡ Some (last + length (sent_between r n who)))
 
--- A read that ends gives as its fourth word the sequence number that the message of its slot was sent with, whatever was run since nobody
--- was inside a call and the messages that were kept were as their slots held them. So it is as long as at most 2^63 steps were made.
+-- A read that ends returns as its fourth word the sequence number that the message of its slot was sent with, whatever was run from a state
+-- in which nobody was inside a call and the kept messages were as their slots had them. It holds as long as at most 2^63 steps were made.
 abbrev pub ReadsGiveSequences : Type 0
 ReadsGiveSequences = (r : RecordState) (entries : List Entry) (made : ℕ) (n : RecordState) → CameTo r.lanes → AllBetween r.lanes
     → AreAsHeld r.lanes r.messages → ArePast r.lanes r.messages → RecordsRun r entries made n → n.lanes.moments ≤ 2 ^ 63
@@ -67,8 +67,8 @@ ReadsGiveSequences = (r : RecordState) (entries : List Entry) (made : ℕ) (n : 
     → (number : ℕ) (message : MessageState) → last_number n.messages slot n.lanes.moments (length n.messages) ≡ Some number
     → slice_get n.messages number ≡ Some message → get_or after.lanes.read (length n.lanes.read + 3) 0 ≡ sequence_of message
 
--- While a slot stands in a history or at a connection, no step changes which message it has: that stays the one of the number that the slot
--- had before the step. So it is where the first messages were sent or found by then, and as long as at most 2^63 steps were made.
+-- While a slot is in a history or at a connection, no step changes which message it has: it has the message with the same number as before
+-- the step. It holds if the first kept messages were sent or found by then, and as long as at most 2^63 steps were made.
 abbrev pub UsedSlotsKeepMessages : Type 0
 UsedSlotsKeepMessages = (r : RecordState) → CameTo r.lanes → ArePast r.lanes r.messages → r.lanes.moments ≤ 2 ^ 63 → (slot : ℕ)
     → IsRemembered r.lanes slot ⊎ IsAtConnection r.lanes slot
@@ -76,20 +76,20 @@ UsedSlotsKeepMessages = (r : RecordState) → CameTo r.lanes → ArePast r.lanes
     → (moment : ℕ) → r.lanes.moments ≤ moment
     → last_number n.messages slot moment (length n.messages) ≡ last_number r.messages slot r.lanes.moments (length r.messages)
 
--- numbers go up from one to another, each above the one before it
+-- The numbers rise from `low`, each above the one before it, and end at `high` at most.
 abbrev pub GoUpTo : ℕ → List ℕ → ℕ → Type 0
 GoUpTo low [] high = low ≤ high
 GoUpTo low (number ∷ more) high = (low < number) × GoUpTo number more high
 
--- the sequence numbers of the messages that were found to wait at a connection
+-- The sequence numbers of the messages that were found to wait at a connection.
 abbrev pub sequences_found : List MessageState → LinkState → List ℕ
 sequences_found messages link = map (sequence_under messages) (map (number_by messages 0) link.found)
 
--- the acts of an order, with the sequence numbers of their messages in place of their slots
+-- The acts of an order, with the sequence numbers of their messages in place of their slots.
 abbrev pub sequenced : List MessageState → List Placed → List Act
 sequenced messages order = map (numbered_act (sequence_under messages)) (numbered messages order)
 
--- the sequence numbers of the messages that acts take
+-- The sequence numbers of the messages that these acts take.
 abbrev pub sequences_taken : List Act → List ℕ
 sequences_taken [] = []
 sequences_taken (Put value answer ∷ acts) = sequences_taken acts
@@ -97,7 +97,7 @@ sequences_taken (Take (Got None) ∷ acts) = sequences_taken acts
 sequences_taken (Take (Got (Some value)) ∷ acts) = value ∷ sequences_taken acts
 sequences_taken (Take (Saw some) ∷ acts) = sequences_taken acts
 
--- the sequence numbers of the messages that are lost at acts: a put lets the oldest go, or is refused
+-- The sequence numbers of the messages that are lost by these acts: a put drops the oldest, or is refused.
 abbrev pub sequences_lost : List Act → List ℕ
 sequences_lost [] = []
 sequences_lost (Put value Kept ∷ acts) = sequences_lost acts
@@ -105,15 +105,15 @@ sequences_lost (Put value (LeftOut oldest) ∷ acts) = oldest ∷ sequences_lost
 sequences_lost (Put value Refused ∷ acts) = value ∷ sequences_lost acts
 sequences_lost (Take answer ∷ acts) = sequences_lost acts
 
--- a number is that of a message which was sent: of the one at the place that it says, if numbers began behind `last`
+-- The number is that of a message that was sent: of the one at the place that the number says, if numbers began after `last`.
 pub record IsSequenceOf (last : ℕ) (sent : List MessageState) (number : ℕ) : Type 0 where
   pub message : MessageState
   pub there : slice_get sent (number - last - 1) ≡ Some message
   pub same : sequence_of message ≡ number
 
--- A sequence number was missed at a connection where just these acts were made, from what was found to wait there on. No message of this
--- number was taken, and none waits. If it is above the last one from before the run, it is that of a message that was sent in the run,
--- which was lost here, and that once. Else it was given before; then it was lost here in the run if it was found to wait, and else not.
+-- A sequence number was missed at a connection where these acts were made, beginning with what was found to wait there. No message with
+-- this number was taken, and none waits. If it is above the last one from before the run, it is that of a message that was sent in the run,
+-- and lost here once. Otherwise it was lost here in the run exactly if its message was found to wait.
 pub record IsMissed (last : ℕ) (sent : List MessageState) (found waits : List ℕ) (acts : List Act) (number : ℕ) : Type 0 where
   pub not_taken : count number (sequences_taken acts) ≡ 0
   pub not_waiting : count number waits ≡ 0
@@ -121,10 +121,10 @@ pub record IsMissed (last : ℕ) (sent : List MessageState) (found waits : List 
   pub lost_here : last < number → count number (sequences_lost acts) ≡ 1
   pub found_here : number ≤ last → count number (sequences_lost acts) ≡ count number found
 
--- Take two messages that were taken at a connection one directly after the other. The second one has the larger sequence number, and just
--- the numbers between theirs were missed there. So it is whatever was run from before the first step on, for a publisher whose last number
--- was below 2^63, where headers have room for a number, where the numbers of what was found to wait went up to that last one at most, and
--- as long as at most 2^63 steps were made.
+-- Of two messages that were taken at a connection one directly after the other, the second one has the larger sequence number, and exactly
+-- the numbers between theirs were missed there. It holds for whatever was run from before the first step on, for a publisher whose last
+-- number was below 2^63, if headers have a word for the number, if the numbers of the messages found to wait rise up to that last one at
+-- most, and as long as at most 2^63 steps were made.
 abbrev pub GapsAreMissed : Type 0
 GapsAreMissed = (r : RecordState) (entries : List Entry) (made : ℕ) (n : RecordState) → CameTo r.lanes → r.lanes.moments ≡ 0
     → r.messages ≡ found_messages r.lanes → RecordsRun r entries made n → n.lanes.moments ≤ 2 ^ 63

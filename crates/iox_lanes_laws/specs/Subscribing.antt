@@ -13,44 +13,44 @@ use Rattle.iox_lanes_machine.specs.Resting.{mail_at}
 use Rattle.iox_lanes_machine.specs.World.{World}
 use Rattle.iox_lanes_laws.specs.Turns.{IsInTurn, IsAnswered, MailStays}
 
--- a call of the subscriber at a place leaves each other subscriber and each publisher as it was
+-- Each subscriber other than the one at this place, and each publisher, is as it was.
 pub record OnlySubscriber (m : World) (place : ℕ) (n : World) : Type 0 where
   pub subscribers : (other : ℕ) → (other ≡ place → ⊥) → slice_get n.subscribers other ≡ slice_get m.subscribers other
   pub publishers : n.publishers ≡ m.publishers
 
--- just the slots are borrowed that were, each of the connection of which it was
+-- Exactly the same slots are borrowed before and after, each from the same connection.
 abbrev pub SamplesStay : SubscriberLaneState → SubscriberLaneState → Type 0
 SamplesStay before after = (slot : ℕ) → place_of slot after ≡ place_of slot before
 
--- so it is of all slots but this one
+-- Each slot other than this one is borrowed from the same connection before and after, or not borrowed at all.
 abbrev pub OtherSamplesStay : SubscriberLaneState → ℕ → SubscriberLaneState → Type 0
 OtherSamplesStay before slot after = (other : ℕ) → (other ≡ slot → ⊥) → place_of other after ≡ place_of other before
 
--- something waits at a connection
+-- A message waits at the connection.
 abbrev pub SomeWait : World → Route → Type 0
 SomeWait m route = 0 < length (mail_at m route.connection)
 
--- a connection gives to a subscriber: something waits there, and the subscriber borrows fewer samples of it than it may
+-- The connection gives to the subscriber: a message waits there, and the subscriber borrows fewer samples from it than it may.
 abbrev pub Gives : World → SubscriberLaneState → Route → Type 0
 Gives m lane route = SomeWait m route × (borrowed_of route.connection lane < lane.port.most_borrowed)
 
--- none of a subscriber's connections before a place is such
+-- None of the subscriber's connections before this place has the property.
 abbrev pub NoneBefore : SubscriberLaneState → ℕ → (Route → Type 0) → Type 0
 NoneBefore lane place Is = (earlier : ℕ) (route : Route) → earlier < place → slice_get lane.port.routes earlier ≡ Some route → Is route → ⊥
 
--- none of a subscriber's connections is such
+-- None of the subscriber's connections has the property.
 abbrev pub NoneOf : SubscriberLaneState → (Route → Type 0) → Type 0
 NoneOf lane Is = (place : ℕ) (route : Route) → slice_get lane.port.routes place ≡ Some route → Is route → ⊥
 
--- one of a subscriber's connections is such
+-- One of the subscriber's connections has the property.
 pub record OneOf (lane : SubscriberLaneState) (Is : Route → Type 0) : Type 0 where
   pub place : ℕ
   pub route : Route
   pub at : slice_get lane.port.routes place ≡ Some route
   pub is : Is route
 
--- A receive took the oldest message that waits at the connection of a place, which is the first place whose connection gives; its
--- slot is borrowed of that connection from then on.
+-- A receive took the oldest message that waits at the connection of this place, which is the first place whose connection gives; its slot
+-- is borrowed from that connection from then on.
 pub record Takes (m : World) (before : SubscriberLaneState) (place slot : ℕ) (n : World) (after : SubscriberLaneState) : Type 0 where
   pub route : Route
   pub at : slice_get before.port.routes place ≡ Some route
@@ -61,27 +61,27 @@ pub record Takes (m : World) (before : SubscriberLaneState) (place slot : ℕ) (
   pub borrowed : place_of slot after ≡ Some place
   pub others : OtherSamplesStay before slot after
 
--- a receive took nothing
+-- A receive took nothing.
 pub record TakesNone (m : World) (before : SubscriberLaneState) (n : World) (after : SubscriberLaneState) : Type 0 where
   pub mail : MailStays m n
   pub samples : SamplesStay before after
   pub none : NoneOf before (Gives m before)
 
--- A receive takes from the first connection that gives; where none does it takes nothing, and is refused just where something
--- waits at one of them.
+-- A receive takes from the first connection that gives; if none does, it takes nothing, and is refused exactly where a message waits at one
+-- of them.
 abbrev pub Receives : World → SubscriberLaneState → Receipt → World → SubscriberLaneState → Type 0
 Receives m before (receipt.Taken place slot) n after = Takes m before place slot n after
 Receives m before receipt.Nothing n after = TakesNone m before n after × NoneOf before (SomeWait m)
 Receives m before receipt.ExceedsMaxBorrows n after = TakesNone m before n after × OneOf before (SomeWait m)
 
--- So a receive ends that no other call overlaps.
+-- A receive that no other call overlaps ends so (`Receives`).
 abbrev pub ReceivesInTurn : Type 0
 ReceivesInTurn = (m n : World) (place : ℕ) (before after : SubscriberLaneState) → IsInTurn m (Subscriber place) call.Receive n
     → slice_get m.subscribers place ≡ Some before → slice_get n.subscribers place ≡ Some after
     → (given : Receipt) × IsAnswered m (Subscriber place) call.Receive (answer.Received given) n × OnlySubscriber m place n
     × Receives m before given n after
 
--- So a release ends that no other call overlaps: the sample is no longer borrowed, and that is all.
+-- After a release that no other call overlaps, the sample isn't borrowed any longer; nothing else changes.
 abbrev pub ReleasesInTurn : Type 0
 ReleasesInTurn = (m n : World) (place sample : ℕ) (before after : SubscriberLaneState)
     → IsInTurn m (Subscriber place) (call.Release sample) n → slice_get m.subscribers place ≡ Some before
@@ -89,7 +89,7 @@ ReleasesInTurn = (m n : World) (place sample : ℕ) (before after : SubscriberLa
     → IsAnswered m (Subscriber place) (call.Release sample) (answer.Released true) n × OnlySubscriber m place n × MailStays m n
     × (place_of sample after ≡ None) × OtherSamplesStay before sample after
 
--- So a read ends that no other call overlaps: it gives what its sample's slot held when it began, and changes nothing.
+-- A read that no other call overlaps returns what its sample's slot contained when it began, and changes nothing.
 abbrev pub ReadsInTurn : Type 0
 ReadsInTurn = (m n : World) (place sample : ℕ) (before after : SubscriberLaneState) → IsInTurn m (Subscriber place) (call.Read sample) n
     → slice_get m.subscribers place ≡ Some before → slice_get n.subscribers place ≡ Some after

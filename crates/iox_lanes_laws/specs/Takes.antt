@@ -23,49 +23,49 @@ use Rattle.iox_lanes_machine.specs.WholeReads.{CameTo}
 use Rattle.iox_lanes_machine.specs.World.{World, acts_at, connection_at, fits, happens}
 use Rattle.iox_lanes_laws.specs.Accesses.{IsSubscriberCall}
 
--- a take or a look, and the connection where it stands
+-- A take or a look, and its connection.
 pub record PlacedTake : Type 0 where
   pub connection : ℕ
   pub answer : PopAnswer
 
--- takes and looks at a connection
+-- The takes and looks with these answers at this connection.
 abbrev pub placed_takes : ℕ → List PopAnswer → List PlacedTake
 placed_takes connection [] = []
 placed_takes connection (answer ∷ answers) = record { connection = connection; answer = answer } ∷ placed_takes connection answers
 
--- takes and looks, if they stand at a connection
+-- The takes and looks with these answers, if they have a connection.
 abbrev pub takes_on : Option ℕ → List PopAnswer → List PlacedTake
 takes_on None answers = []
 takes_on (Some connection) answers = placed_takes connection answers
 
--- the takes and looks that come into an order at a step; a begin brings none
+-- The takes and looks that a move adds to an order; the beginning of a call adds none.
 abbrev pub step_takes : World → Party → Move → List PlacedTake
 step_takes m party (Begin c) = []
 step_takes m party GoOn = takes_on (connection_at m party) (take_values (acts_at m party))
 
--- those of the entries that are made and whose party this is, in their order
+-- The takes and looks of the entries that are made and whose party is selected, in their order.
 abbrev pub own_takes : (Party → Bool) → World → List Entry → List PlacedTake
 own_takes own m [] = []
 own_takes own m (entry ∷ entries) =
     (if fits m entry.party entry.step && own entry.party then step_takes m entry.party entry.step else [])
     ++ own_takes own (after_entry (fits m entry.party entry.step) m entry) entries
 
--- a receive is at a connection, where it only looks if as many samples are borrowed as may be
+-- The receive is at this connection, where it only looks if as many samples are borrowed as may be.
 pub record IsAtVisit (place : ℕ) (route : Route) (full waits : Bool) (c : SubscriberCall) : Type 0 where
   pub pop : Pop
   pub looks : pop_looks pop ≡ full
   pub stage : c ≡ Receiving place route pop waits
 
--- A take that gave a message is the last, and the receive is about to answer it. One that gave none was made where fewer are borrowed
--- than may be, and a look where as many are; the receive goes on.
+-- A take that gave a message is the last one, and the receive is about to answer it. A take that gave none was made where fewer samples are
+-- borrowed than may be, and a look where as many are; then the receive goes on.
 abbrev pub Took : ℕ → Bool → Bool → PopAnswer → List PlacedTake → SubscriberCall → (Bool → Type 0) → Type 0
 Took place full waits (Got (Some slot)) more c rest = (full ≡ false) × (more ≡ []) × (c ≡ Received (receipt.Taken place slot))
 Took place full waits (Got None) more c rest = (full ≡ false) × rest waits
 Took place full waits (Saw some) more c rest = (full ≡ true) × rest (waits || some)
 
--- What a receive took from a place on, and where it stands then: one take or look at each connection, in their order, up to the first
--- that gave a message. Behind the last one it is about to answer that as many are borrowed as may be where a look saw a message, else
--- that none waits.
+-- What a receive took from this place on, and its stage after that: one take or look at each connection, in their order, up to the first
+-- that gave a message. After the last connection it is about to answer `ExceedsMaxBorrows` if a look saw a message, and `Nothing`
+-- otherwise.
 abbrev pub Visits : List ℕ → ℕ → ℕ → Bool → List Route → List PlacedTake → SubscriberCall → Type 0
 Visits borrowed most place waits [] [] c = c ≡ Received (nothing_received waits)
 Visits borrowed most place waits [] (take ∷ takes) c = ⊥
@@ -74,8 +74,8 @@ Visits borrowed most place waits (route ∷ routes) (take ∷ takes) c =
     (take.connection ≡ route.connection)
     × Took place (is_full_at borrowed most place) waits take.answer takes c (λ seen. Visits borrowed most (place + 1) seen routes takes c)
 
--- A receive that is still under way, in any run: it took so at its connections since its begin. What it is about to answer is told by
--- these takes. So it is for fewer than 2^64 - 1 connections, as long as at most 2^63 steps were made.
+-- A receive that is still under way, in any run, took or looked so at its connections since it began (`Visits`), and these takes say what
+-- it is about to answer. It holds for fewer than 2^64 - 1 connections, as long as at most 2^63 steps were made.
 abbrev pub ReceivesTakeInOrder : Type 0
 ReceivesTakeInOrder = (m : World) → CameTo m → (place : ℕ) (lane : SubscriberLaneState) (entries : List Entry)
     → (is : IsSubscriberCall m place lane call.Receive entries)

@@ -11,13 +11,13 @@ use Rattle.iox_lanes_machine.specs.Resting.{AllBetween, mail_at}
 use Rattle.iox_lanes_machine.specs.WholeReads.{CameTo}
 use Rattle.iox_lanes_machine.specs.World.{World, StepsTo}
 
--- a party goes on: so many steps don't end its call, and the next one does
+-- The party goes on: the next `more` steps don't end its call, and the one after them does.
 abbrev pub GoesToEnd : Party → ℕ → World → World → Type 0
 GoesToEnd party zero m n = StepsTo m party GoOn stepped.Finished n
 GoesToEnd party (suc more) m n = (next : World) × StepsTo m party GoOn stepped.Went next × GoesToEnd party more next n
 
--- A whole call of a party that no other call overlaps: nobody is inside a call when it begins, and nobody else makes a step until
--- it ends; at most 2^63 steps were made in all.
+-- A whole call of a party that no other call overlaps: nobody is inside a call when it begins, and nobody else makes a step until it ends;
+-- at most 2^63 steps were made in all.
 pub record IsInTurn (m : World) (party : Party) (c : Call) (n : World) : Type 0 where
   pub came : CameTo m
   pub between : AllBetween m
@@ -27,7 +27,7 @@ pub record IsInTurn (m : World) (party : Party) (c : Call) (n : World) : Type 0 
   pub goes : GoesToEnd party more begun n
   pub few : n.moments ≤ 2 ^ 63
 
--- one call more ended, and it is this one of the party, with this answer
+-- One call more ended: this one of the party, with this answer.
 pub record IsAnswered (m : World) (party : Party) (c : Call) (given : Answer) (n : World) : Type 0 where
   pub call : FinishedCall
   pub more : n.finished ≡ m.finished ++ call ∷ []
@@ -35,10 +35,10 @@ pub record IsAnswered (m : World) (party : Party) (c : Call) (given : Answer) (n
   pub asked : call.call ≡ name_of c
   pub answered : call.answer ≡ given
 
--- what waits at each connection is what waited there
+-- The same messages wait at each connection before and after.
 abbrev pub MailStays : World → World → Type 0
 MailStays m n = (connection : ℕ) → mail_at n connection ≡ mail_at m connection
 
--- nobody is inside a call behind one that no other overlapped, so that the next one may be another such call
+-- After a call that no other call overlaps, nobody is inside a call, so the next one may be such a call, too.
 abbrev pub CallsEndInTurn : Type 0
 CallsEndInTurn = (m : World) (party : Party) (c : Call) (n : World) → IsInTurn m party c n → CameTo n × AllBetween n

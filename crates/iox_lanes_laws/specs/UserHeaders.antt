@@ -17,26 +17,26 @@ use Rattle.iox_lanes_laws.specs.Messages.{MessageState, begun_messages, last_in}
 use Rattle.iox_lanes_laws.specs.Turns.{IsInTurn}
 use Rattle.iox_lanes_laws.specs.WholeMessages.{SendsThrough}
 
--- A publisher keeps for a slot the first three words that it kept for it, and behind them just this user header; for each other slot of its
--- own it keeps what it kept; and it gave the same number last.
+-- The publisher keeps for the slot the first three words that it kept for it, followed by exactly this user header; for each other slot of
+-- its own it keeps what it kept; and its last sequence number is the same.
 pub record KeepsUserHeader (before after : PublisherLaneState) (slot : ℕ) (user_header : List ℕ) : Type 0 where
   pub own : kept_head slot after ≡ take 3 (kept_head slot before) ++ user_header
   pub others : (other : ℕ) → IsOwn before.port.book other → (other ≡ slot → ⊥) → kept_head other after ≡ kept_head other before
   pub last : after.last ≡ before.last
 
--- So does the publisher of a write behind it: the user header is the one that the write named.
+-- After a write that no other call overlaps, its publisher keeps the user header that the write was given (`KeepsUserHeader`).
 abbrev pub WritesKeepUserHeaders : Type 0
 WritesKeepUserHeaders = (m n : World) (place slot : ℕ) (payload user_header : Vec ℕ) (before after : PublisherLaneState)
     → IsInTurn m (Publisher place) (call.Write slot payload user_header) n → slice_get m.publishers place ≡ Some before
     → slice_get n.publishers place ≡ Some after → KeepsUserHeader before after slot user_header.items
 
--- the words of the message that a publisher sends in a slot once these were written: the first three words that it keeps for the slot, the
--- user header, in whose first word the next number stands if messages have numbers, and the payload
+-- The words of the message that a publisher sends in a slot after these were written: the first three words that it keeps for the slot, the
+-- user header, whose first word becomes the next sequence number if messages have one, and the payload.
 abbrev pub written_words : ℕ → PublisherLaneState → List ℕ → List ℕ → List ℕ
 written_words slot lane user_header payload =
     with_number (number_after lane.last) (take 3 (kept_head slot lane) ++ user_header) ++ payload
 
--- A send that begins right behind a write of its slot sends just these words.
+-- A send that begins directly after such a write of its slot sends exactly these words (`written_words`).
 abbrev pub SendsBeginAsWritten : Type 0
 SendsBeginAsWritten = (m n : World) (place slot : ℕ) (payload user_header : Vec ℕ) (before : PublisherLaneState)
     → IsInTurn m (Publisher place) (call.Write slot payload user_header) n → slice_get m.publishers place ≡ Some before
@@ -47,8 +47,8 @@ SendsBeginAsWritten = (m n : World) (place slot : ℕ) (payload user_header : Ve
       words = written_words slot before user_header.items payload.items;
     } ∷ []
 
--- And whatever steps follow its begin: a read of the slot gives just these words; or, where a later send began in the slot, those of the
--- last one. So it is as long as at most 2^63 steps were made.
+-- Whatever steps follow the beginning of that send: a read of the slot returns exactly these words, or, if a later send began in the slot,
+-- those of the last one. It holds as long as at most 2^63 steps were made.
 abbrev pub ReadsGiveWhatWasWritten : Type 0
 ReadsGiveWhatWasWritten = (m n : World) (place slot : ℕ) (payload user_header : Vec ℕ) (before : PublisherLaneState)
     → IsInTurn m (Publisher place) (call.Write slot payload user_header) n → slice_get m.publishers place ≡ Some before

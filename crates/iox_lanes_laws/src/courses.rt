@@ -1,7 +1,7 @@
-//! The accesses of whole calls in any run of lanes, however the steps of other parties fall between them.
+//! Theorems on the accesses of whole calls in any run of lanes, however the steps of other parties come between them.
 //!
-//! Each law is the contract of a function that does nothing. A proof cites a law by a call of its function, which does nothing;
-//! what it states is then among the facts of the caller:
+//! Each theorem is the contract of a function that does nothing. A proof uses a theorem by calling its function; then the theorem is among
+//! the facts that the caller knows:
 //!
 //! ```
 //! publishers_keep_course();
@@ -14,54 +14,54 @@ ghost use Rattle.iox_lanes_laws.specs.OrderedTakes.{ReceivesStandInOrder, StepsT
 ghost use Rattle.iox_lanes_laws.specs.StandingSubscribers.{EntriesKeepLimits, RunsKeepLimits};
 ghost use Rattle.iox_lanes_laws.specs.Takes.{ReceivesTakeInOrder};
 
-/// A publisher's call makes just the accesses of its course, by what each was answered, whoever steps between them. It ends right
-/// behind the last one.
+/// A publisher's call makes exactly the accesses of its course, which the answers of these accesses determine, whoever makes steps in
+/// between. It ends directly after the last one.
 pub fn publishers_keep_course()
     ensures course { PublishersKeepCourse }
     ensures ends { PublishersEndAtOnce }
 {}
 
-/// A subscriber's call makes just the accesses of its course, by what each was answered, whoever steps between them. It ends right
-/// behind the last one.
+/// A subscriber's call makes exactly the accesses of its course, which the answers of these accesses determine, whoever makes steps in
+/// between. It ends directly after the last one.
 pub fn subscribers_keep_course()
     ensures course { SubscribersKeepCourse }
     ensures ends { SubscribersEndAtOnce }
 {}
 
-/// A release makes at most four steps between its begin and its last one.
+/// A release makes at most four steps between its beginning and its last one.
 pub fn releases_end_soon()
     ensures { ReleasesEndSoon }
 {}
 
-/// A receive takes or looks once at each connection, in their order, up to the first that gave a message, whoever steps between: it
-/// looks exactly where as many samples are borrowed as may be. Where none gave one it answers by these takes: `ExceedsMaxBorrows` if a
-/// look saw a message, else `Nothing`.
+/// A receive takes or looks once at each connection, in their order, up to the first that gives a message, whoever makes steps in between.
+/// It only looks exactly where as many samples are borrowed as may be. If no connection gives a message, its answer is `ExceedsMaxBorrows`
+/// if a look saw a message, and `Nothing` otherwise.
 pub fn receives_take_in_order()
     ensures { ReceivesTakeInOrder }
 {}
 
-/// So did each receive that ended, wherever steps brought the lanes: the call that `finished` lists began at its first moment, took or
-/// looked so by its own steps since, and answered by these takes at its last moment. So it is as long as at most 2^63 steps were made.
+/// Each receive that ended did so, wherever steps brought the lanes: the call in `finished` began at its first moment, took or looked so by
+/// its own steps from then on, and at its last moment answered what these takes say. It holds as long as at most 2^63 steps were made.
 pub fn finished_receives_follow()
     ensures { FinishedReceivesFollow }
 {}
 
-/// These takes and looks are those of the order of their connection, whoever steps between. A step brings into an order just those that
-/// the connection's subscriber makes there by it, at the moment of the step. So behind any entries the order's takes are those that it had,
-/// and then just those that its subscriber made there by these entries, in their order; this as long as at most 2^63 steps were made.
+/// The takes and looks of receives are those of the order of their connection, whoever makes steps in between. A step adds to an order only
+/// the takes and looks that the connection's subscriber makes there by this step, at the moment of the step. So after any entries the
+/// order's takes are those that it had, followed by exactly those that its subscriber made there by these entries, in their order; as long
+/// as at most 2^63 steps were made.
 pub fn takes_stand_in_order()
     ensures steps { StepsTakeNow }
     ensures entries { TakesStandInOrder }
 {}
 
-/// What a receive that ended took at a connection stands in its order as one piece, inside the call: behind what was taken there up to its
-/// first moment, and before what was taken from its last one on. So it is as long as at most 2^63 steps were made.
+/// What a receive that ended took at a connection is one piece of the connection's order, within the time of the call: after what was taken
+/// there up to its first moment, and before what was taken from its last moment on. It holds as long as at most 2^63 steps were made.
 pub fn receives_stand_in_order()
     ensures { ReceivesStandInOrder }
 {}
 
-/// However many samples a subscriber may borrow, it may borrow as many behind whatever was run, and it has the connections that it had, in
-/// their order. No subscriber comes, and none goes.
+/// No run changes how many samples a subscriber may borrow, nor its connections and their order. No subscriber is added or removed.
 pub fn borrow_limits_stay()
     ensures runs { RunsKeepLimits }
     ensures leads { EntriesKeepLimits }

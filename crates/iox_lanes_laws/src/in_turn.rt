@@ -1,7 +1,7 @@
-//! Calls on lanes that no other call overlaps: what each leaves is what the call of a port leaves beside which nobody works.
+//! Theorems on calls of lanes that no other call overlaps: each leaves what the call of a port leaves while nobody else works.
 //!
-//! Each law is the contract of a function that does nothing. A proof cites a law by a call of its function, which does nothing;
-//! what it states is then among the facts of the caller:
+//! Each theorem is the contract of a function that does nothing. A proof uses a theorem by calling its function; then the theorem is among
+//! the facts that the caller knows:
 //!
 //! ```
 //! publish_in_turn();
@@ -14,19 +14,19 @@ ghost use Rattle.iox_lanes_laws.specs.Subscribing.{ReceivesInTurn, ReadsInTurn, 
 ghost use Rattle.iox_lanes_laws.specs.Payloads.{PayloadsStayInTurn, WritesHoldInTurn, PublishersStayInTurn, SubscribersStayInTurn};
 ghost use Rattle.iox_lanes_laws.specs.UserHeaders.{ReadsGiveWhatWasWritten, SendsBeginAsWritten, WritesKeepUserHeaders};
 
-/// Where no call of a schedule overlaps another, each ends where the next may begin: nobody is inside a call. So what the other
-/// laws of this crate say of one call is true of each of them, one after the other; as long as at most 2^63 steps were made.
+/// If no call of a schedule overlaps another, nobody is inside a call when one ends, so the next one may begin. So what the other theorems
+/// of this module say of one call holds for each of them, one after the other; as long as at most 2^63 steps were made.
 pub fn end_in_turn()
     ensures { CallsEndInTurn }
 {}
 
-/// A call of a publisher that no other call overlaps changes no other port. A loan is refused just where as many loans are out as
-/// may be, finds no slot just where each is in use (a loan, in the history, or waiting or borrowed at a connection), and else
-/// gives one that isn't, and that isn't written yet. A write marks its loan as written. A send puts its slot into the mailbox of
-/// each connection, where a full one lets its oldest go or refuses, counts both, ends the loan and makes it the newest of the
-/// history. It is unable to deliver just where its publisher fails at a full mailbox and one refused. A loan that is given up is
-/// none any longer. What waits, what is borrowed and the other loans stay, written or not. So it is as long as at most 2^63 steps
-/// were made; of a loan, for slots that have numbers below 2^64.
+/// A call of a publisher that no other call overlaps changes no other port. A loan is refused exactly where as many loans are out as may
+/// be; it finds no slot exactly where each is in use (as a loan, in the history, or waiting or borrowed at a connection); otherwise it gets
+/// a slot that isn't in use, and that isn't written yet. A write marks its loan as written. A send puts its slot into the mailbox of each
+/// connection, where a full mailbox drops its oldest message or refuses the new one; it counts both, ends the loan, and makes the message
+/// the newest of the history. Its answer is `UnableToDeliver` exactly where its publisher fails at a full mailbox and a connection refused
+/// the message. A loan that is dropped isn't a loan any longer. What waits, what is borrowed, and the other loans, written or not, stay as
+/// they are. It holds as long as at most 2^63 steps were made; for a loan, also only for slots with numbers below 2^64.
 pub fn publish_in_turn()
     ensures loans { LoansInTurn }
     ensures writes { WritesInTurn }
@@ -34,19 +34,19 @@ pub fn publish_in_turn()
     ensures drops { DropsInTurn }
 {}
 
-/// A call of a subscriber that no other call overlaps changes no other port. A receive takes the oldest message of the first of
-/// its connections where one waits and fewer are borrowed than may be; else it takes nothing, and is refused just where a message
-/// waits at one of them. A read gives what its slot held when it began. A release gives its sample back. What waits and
-/// the other samples stay.
+/// A call of a subscriber that no other call overlaps changes no other port. A receive takes the oldest message from the first of its
+/// connections where one waits and fewer samples are borrowed than may be; otherwise it takes nothing, and is refused exactly where a
+/// message waits at one of them. A read returns what its slot contained when it began. A release returns its sample. What else waits, and
+/// the other samples, stay as they are.
 pub fn receive_in_turn()
     ensures receives { ReceivesInTurn }
     ensures reads { ReadsInTurn }
     ensures releases { ReleasesInTurn }
 {}
 
-/// A call that no other call overlaps changes the payload of no slot but the one that it writes, which holds just the words of the
-/// write then. Connections and sizes are what they were; so are a publisher's slots, how many it may lend and remember, and where
-/// its sends fail; and how many samples a subscriber may borrow. So it is as long as at most 2^63 steps were made.
+/// A call that no other call overlaps changes no payload except that of the slot that it writes, which then has exactly the words of the
+/// write. Connections and sizes stay as they are; so do a publisher's slots, how many loans may be out, its history size and whether its
+/// sends fail; and how many samples a subscriber may borrow. It holds as long as at most 2^63 steps were made.
 pub fn stay_in_turn()
     ensures payloads { PayloadsStayInTurn }
     ensures writes { WritesHoldInTurn }
@@ -54,11 +54,11 @@ pub fn stay_in_turn()
     ensures subscribers { SubscribersStayInTurn }
 {}
 
-/// A write that no other call overlaps keeps for its slot just the user header that it named, behind the three words of header that were
-/// kept; of each other slot of its publisher the same is kept as before. So a send that begins right behind it sends just this user header,
-/// in whose first word the next number stands if messages have numbers, and the payload of the write. And a read of the slot gives just
-/// these words, whoever steps between, or those of the last message whose send began in the slot since. So it is as long as at most 2^63
-/// steps were made.
+/// A write that no other call overlaps keeps for its slot exactly the user header that it was given, after the three words of header that
+/// were kept; for each other slot of its publisher the same is kept as before. So a send that begins directly after it sends exactly this
+/// user header, whose first word becomes the next sequence number if messages have one, and the payload of the write. A read of the slot
+/// returns exactly these words, whoever makes steps in between, or those of the last message whose send began in the slot since. It holds
+/// as long as at most 2^63 steps were made.
 pub fn writes_keep_user_headers()
     ensures keeps { WritesKeepUserHeaders }
     ensures sends { SendsBeginAsWritten }

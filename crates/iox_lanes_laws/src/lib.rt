@@ -1,10 +1,10 @@
-//! What lanes do, in other words than those of their steps.
+//! Theorems on lanes, and lanes that keep the messages sent on them.
 //!
-//! - [`calls`]: what the calls of ports do with shared words.
-//! - [`courses`]: what they do in any run, whoever steps between.
+//! - [`calls`]: the accesses that the calls of ports make.
+//! - [`courses`]: the accesses of calls in any run, whoever makes steps in between.
 //! - [`in_turn`]: calls that no other call overlaps.
-//! - [`messages`]: the messages that are sent, and that a read gives just that.
-//! - [`sequences`]: the sequence numbers of these messages, and what a gap among them tells.
+//! - [`messages`]: the messages that are sent; a read returns exactly what was sent.
+//! - [`sequences`]: the sequence numbers of these messages, and what a gap among them means.
 #![tactic(auto)]
 
 pub mod calls;

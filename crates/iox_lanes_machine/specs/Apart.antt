@@ -1,4 +1,4 @@
--- How little a step touches: one party, at most one shared word, at most one call that ended.
+-- How little a step touches: one party, at most one shared word, and at most one call that ends.
 use Rattle.std.specs.Prelude.{ℕ, ◌≡◌, ◌+◌, length, slice_get, Option, Some, None}
 use Rattle.iox_lanes_machine.specs.QueuesSteps.declared.schedule.Stepped.{Stepped}
 use Rattle.iox_lanes_machine.specs.QueuesSteps.declared.schedule.Stepped.TheVariants as stepped
@@ -16,63 +16,63 @@ use Rattle.iox_lanes_machine.specs.LanesParties.declared.call.Move.TheVariants.{
 use Rattle.iox_lanes_machine.specs.LanesParties.declared.call.Party.{Party}
 use Rattle.iox_lanes_machine.specs.LanesParties.declared.call.Party.TheVariants.{Publisher, Subscriber}
 
--- the next access of a publisher; one that is not there makes none
+-- The next access of a publisher; a local step if there is no such publisher.
 abbrev pub publisher_access : Option PublisherLaneState → SharedAccess
 publisher_access None = Local
 publisher_access (Some lane) = publisher_next lane.port.call
 
--- the next access of a subscriber; one that is not there makes none
+-- The next access of a subscriber; a local step if there is no such subscriber.
 abbrev pub subscriber_access : Option SubscriberLaneState → SharedAccess
 subscriber_access None = Local
 subscriber_access (Some lane) = subscriber_next lane.port.call
 
--- the next access of a party
+-- The next access of a party.
 abbrev pub party_access : World → Party → SharedAccess
 party_access m (Publisher place) = publisher_access (slice_get m.publishers place)
 party_access m (Subscriber place) = subscriber_access (slice_get m.subscribers place)
 
--- the access of a step; a begin makes none
+-- The access of a step; a beginning makes a local step.
 abbrev pub access_of : World → Party → Move → SharedAccess
 access_of m party (Begin call) = Local
 access_of m party GoOn = party_access m party
 
--- the access may change this word
+-- The access may change this word.
 abbrev pub MayChange : SharedAccess → SharedWord → Type 0
 MayChange (Load touched) word = ⊥
 MayChange (Store touched value) word = word ≡ touched
 MayChange (Exchange touched old new) word = word ≡ touched
 MayChange Local word = ⊥
 
--- every word of the service that the access may not change holds what it held
+-- Every word of the service that the access may not change has the same value after it.
 abbrev pub OthersHold : TableWords → SharedAccess → TableWords → Type 0
 OthersHold before access after = (word : SharedWord) → IsWord before.sizes word → (MayChange access word → ⊥)
     → held_by after word ≡ held_by before word
 
--- every other party stands where it stood
+-- Every other party is as it was.
 abbrev pub OthersStay : World → Party → World → Type 0
 OthersStay m (Publisher place) n =
     (n.subscribers ≡ m.subscribers) × ((other : ℕ) → (other ≡ place → ⊥) → slice_get n.publishers other ≡ slice_get m.publishers other)
 OthersStay m (Subscriber place) n =
     (n.publishers ≡ m.publishers) × ((other : ℕ) → (other ≡ place → ⊥) → slice_get n.subscribers other ≡ slice_get m.subscribers other)
 
--- how many calls ended: one where the last step of a call was made, else none
+-- How many calls ended: one if the step was the last one of a call, otherwise none.
 abbrev pub more_ended : Stepped → ℕ
 more_ended stepped.Went = 0
 more_ended stepped.Finished = 1
 more_ended stepped.Skipped = 0
 more_ended stepped.NoMemory = 0
 
--- the connection whose order may grow at a step; at a begin none grows
+-- The connection whose order may grow by the step; none if a call begins.
 abbrev pub grows_at : World → Party → Move → Option ℕ
 grows_at m party (Begin call) = None
 grows_at m party GoOn = connection_at m party
 
--- every other connection's order stays
+-- The orders of all other connections are as they were.
 abbrev pub OrdersStay : World → Option ℕ → World → Type 0
 OrdersStay m grown n = (other : ℕ) → (grown ≡ Some other → ⊥) → slice_get n.orders other ≡ slice_get m.orders other
 
--- a step changes no other party, no other connection's order, and no other word than that of its party's next access; one call
--- more ended exactly where the step was a last one
+-- A step changes no other party, no other connection's order, and no other word than that of its party's next access; one call more ended
+-- exactly if the step was a last one.
 pub record StaysApart (m : World) (party : Party) (step : Move) (answer : Stepped) (n : World) : Type 0 where
   pub words : OthersHold m.table (access_of m party step) n.table
   pub parties : OthersStay m party n

@@ -1,4 +1,4 @@
--- The calls of parties in time: each is answered in its own kind, and those of one party follow one another.
+-- The calls of parties in time: each has an answer of its own kind, and those of one party follow one another.
 use Rattle.std.specs.Prelude.{ℕ, ◌≡◌, ◌<◌, ◌≤◌, ◌^◌, false, List, [], ◌∷◌, slice_get, Some, None}
 use Rattle.std.specs.List.{All}
 use Rattle.iox_lanes_machine.specs.LanesBase.Answers.{push_answer}
@@ -18,7 +18,7 @@ use Rattle.iox_lanes_machine.specs.LanesParties.declared.call.Party.{Party}
 use Rattle.iox_lanes_machine.specs.LanesParties.declared.call.Party.TheVariants.{Publisher, Subscriber}
 use Rattle.iox_lanes_machine.specs.World.{World}
 
--- a call was answered in its own kind
+-- The answer is one of this call's kind.
 abbrev pub IsAnswerOf : CallName → Answer → Type 0
 IsAnswerOf call (answer.Lent loan) = call ≡ name.LoanUninit
 IsAnswerOf call answer.Written = (loan : ℕ) × (call ≡ name.Write loan)
@@ -28,27 +28,27 @@ IsAnswerOf call (answer.Received given) = call ≡ name.Receive
 IsAnswerOf call (answer.Read from) = (sample : ℕ) × (call ≡ name.Read sample)
 IsAnswerOf call (answer.Released done) = (sample : ℕ) × (call ≡ name.Release sample)
 
--- a call that ended: answered in its own kind, begun before its last step, and that before now
+-- A call that ended has an answer of its own kind, began before its last step, and made that before now.
 pub record IsEnded (moments : ℕ) (call : FinishedCall) : Type 0 where
   pub kind : IsAnswerOf call.call call.answer
   pub lasts : call.first < call.last
   pub past : call.last < moments
 
--- one call ended before another did; of one party, even before the other began
+-- One call ended before the other did, and if they are of one party, even before the other began.
 pub record IsBefore (earlier later : FinishedCall) : Type 0 where
   pub ended : earlier.last < later.last
   pub apart : earlier.party ≡ later.party → earlier.last < later.first
 
--- each call ended before those behind it
+-- Each call ended before those behind it.
 abbrev pub AreInTurn : List FinishedCall → Type 0
 AreInTurn [] = Unit {0}
 AreInTurn (call ∷ calls) = All (IsBefore call) calls × AreInTurn calls
 
--- the calls of a party ended before a moment
+-- The calls of the party ended before this moment.
 abbrev pub EndedBefore : Party → ℕ → List FinishedCall → Type 0
 EndedBefore party moment calls = All (λ call. call.party ≡ party → call.last < moment) calls
 
--- the stage of a publisher is one of the call that was asked for
+-- The stage of a publisher is one of the call that it began.
 abbrev pub IsStageOf : CallName → PublisherCall → Type 0
 IsStageOf call publishing.Idle = Unit {0}
 IsStageOf call (publishing.LoanReclaims place route pop) = call ≡ name.LoanUninit
@@ -62,7 +62,7 @@ IsStageOf call (publishing.Pushing slot place route push delivery) = (call ≡ n
 IsStageOf call (publishing.Sent slot delivery) = call ≡ name.Send slot
 IsStageOf call (publishing.Dropping slot) = call ≡ name.DropLoan slot
 
--- the stage of a subscriber is one of the call that was asked for
+-- The stage of a subscriber is one of the call that it began.
 abbrev pub IsReceiverStageOf : CallName → SubscriberCall → Type 0
 IsReceiverStageOf call subscribing.Idle = Unit {0}
 IsReceiverStageOf call (subscribing.Receiving place route pop waits) = call ≡ name.Receive
@@ -72,25 +72,25 @@ IsReceiverStageOf call (subscribing.WasRead slot) = call ≡ name.Read slot
 IsReceiverStageOf call (subscribing.Releasing place route push) = (sample : ℕ) × (call ≡ name.Release sample)
 IsReceiverStageOf call (subscribing.Released done) = (sample : ℕ) × (call ≡ name.Release sample)
 
--- the call that a party is in began behind all that it ended
+-- The call that the party is in began after all calls that it ended.
 pub record IsInHand (party : Party) (first moments : ℕ) (finished : List FinishedCall) : Type 0 where
   pub begun : first < moments
   pub behind : EndedBefore party first finished
 
--- a publisher is in the call that it began last
+-- A publisher is in the call that it began last.
 abbrev pub PublisherFollows : ℕ → List FinishedCall → ℕ → PublisherLaneState → Type 0
 PublisherFollows moments finished place lane =
     IsStageOf lane.call lane.port.call
     × (publisher_is_idle lane.port.call ≡ false → IsInHand (Publisher place) lane.first moments finished)
 
--- a subscriber is in the call that it began last
+-- A subscriber is in the call that it began last.
 abbrev pub SubscriberFollows : ℕ → List FinishedCall → ℕ → SubscriberLaneState → Type 0
 SubscriberFollows moments finished place lane =
     IsReceiverStageOf lane.call lane.port.call
     × (subscriber_is_idle lane.port.call ≡ false → IsInHand (Subscriber place) lane.first moments finished)
 
--- each call that ended was answered in its own kind; they ended one after the other, and those of one party don't overlap, nor
--- does the one that it is in
+-- Each call that ended has an answer of its own kind; the calls ended one after the other, and those of one party don't overlap, the one
+-- that it is in included.
 pub record CallsFollow (m : World) : Type 0 where
   pub ended : All (IsEnded m.moments) m.finished
   pub in_turn : AreInTurn m.finished
@@ -99,6 +99,6 @@ pub record CallsFollow (m : World) : Type 0 where
   pub subscribers : (place : ℕ) (lane : SubscriberLaneState) → slice_get m.subscribers place ≡ Some lane
       → SubscriberFollows m.moments m.finished place lane
 
--- so it is as long as at most 2^63 steps were made
+-- The calls follow one another (`CallsFollow`), as long as at most 2^63 steps were made.
 abbrev pub CallsKeepTime : World → Type 0
 CallsKeepTime m = m.moments ≤ 2 ^ 63 → CallsFollow m

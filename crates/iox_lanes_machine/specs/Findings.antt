@@ -1,5 +1,5 @@
--- What lanes may find before their first step, and what that makes of them: messages that wait, samples given back, histories,
--- what slots hold, buffers of connections, slots and headers of publishers, and places of connections.
+-- What lanes may find before their first step, and what they are then: messages that wait, samples in completion rings, histories, words of
+-- slots, buffers of connections, slots and headers of publishers, and places of connections.
 use Rattle.std.specs.Prelude.{ℕ, ◌≡◌, ◌-◌, ◌==◌, ◌&&◌, Bool, true, false, nat_lt, nat_le, List, [], ◌∷◌, ◌++◌, length, set, slice_get}
 use Rattle.std.specs.Prelude.{Option, Some, None, Option}
 use Rattle.iox_lanes_machine.specs.QueuesSteps.Access.{successor}
@@ -21,94 +21,95 @@ use Rattle.iox_lanes_machine.specs.World.{World}
 use Rattle.iox_lanes_machine.specs.declared.found.Found.{Found}
 use Rattle.iox_lanes_machine.specs.declared.found.Found.TheVariants as found
 
--- how many samples were found given back at a connection: the write position of their ring
+-- How many samples were found in the completion ring of a connection, which is its write position.
 abbrev pub back_found : TableWords → ℕ → ℕ
 back_found table connection = held_by table (Ring connection Completion Write)
 
--- a connection takes one more: together with those given back there are fewer than may be given back
+-- Whether a connection takes one slot more: waiting messages and samples in its completion ring are together fewer than this ring has
+-- cells.
 abbrev pub takes_more : World → ℕ → LinkState → Bool
 takes_more m connection link = nat_lt (length link.found) (m.table.sizes.completion_cells - back_found m.table connection)
 
--- one message more may wait at a connection
+-- Whether there is a connection, and one message more may wait there.
 abbrev pub may_wait : World → ℕ → Option LinkState → Bool
 may_wait m connection None = false
 may_wait m connection (Some link) = nat_lt (length link.found) link.limit && takes_more m connection link
 
--- one sample more may have been given back at a connection
+-- Whether there is a connection, and one sample more may be in its completion ring.
 abbrev pub may_be_back : World → ℕ → Option LinkState → Bool
 may_be_back m connection None = false
 may_be_back m connection (Some link) = takes_more m connection link
 
--- a slot may be found to wait at the connection at a place of a publisher
+-- Whether the slot may be found to wait at the connection of this place of a publisher.
 abbrev pub waits_at : World → ℕ → ℕ → PublisherLaneState → Option Route → Bool
 waits_at m place slot lane None = false
 waits_at m place slot lane (Some route) = may_have place slot lane.port.book
     && may_wait m route.connection (slice_get m.links route.connection)
 
--- or to have been given back there
+-- Whether the slot may be found in the completion ring of the connection of this place of a publisher.
 abbrev pub back_at : World → ℕ → ℕ → PublisherLaneState → Option Route → Bool
 back_at m place slot lane None = false
 back_at m place slot lane (Some route) = may_have place slot lane.port.book
     && may_be_back m route.connection (slice_get m.links route.connection)
 
--- of a publisher; one that is not there has no slots
+-- Whether there is a publisher, and the slot may be found to wait at its connection of this place.
 abbrev pub waits_of : World → ℕ → ℕ → Option PublisherLaneState → Bool
 waits_of m place slot None = false
 waits_of m place slot (Some lane) = waits_at m place slot lane (slice_get lane.port.routes place)
 
--- a slot may be found to have been given back to a publisher that is there
+-- Whether there is a publisher, and the slot may be found in the completion ring of its connection of this place.
 abbrev pub back_of : World → ℕ → ℕ → Option PublisherLaneState → Bool
 back_of m place slot None = false
 back_of m place slot (Some lane) = back_at m place slot lane (slice_get lane.port.routes place)
 
--- a slot may be found to be the newest of the history of a publisher that is there
+-- Whether there is a publisher, and the slot may be found to be the newest of its history.
 abbrev pub newest_of : ℕ → Option PublisherLaneState → Bool
 newest_of slot None = false
 newest_of slot (Some lane) = may_remember slot lane.port.book
 
--- a connection may have a buffer of so many messages: of one at least and of no more than may wait there, where nothing waits and
--- nothing was given back
+-- Whether a connection may have a buffer of this many messages: at least one and no more than may wait there, where nothing waits and no
+-- sample is in the completion ring.
 abbrev pub takes_buffer : TableWords → ℕ → ℕ → LinkState → Bool
 takes_buffer table connection messages link = nat_lt 0 messages && nat_le messages link.limit && (length link.found == 0)
     && (back_found table connection == 0)
 
--- so it may be at a connection that is there
+-- Whether there is a connection, and it may have a buffer of this many messages.
 abbrev pub may_buffer : World → ℕ → ℕ → Option LinkState → Bool
 may_buffer m connection messages None = false
 may_buffer m connection messages (Some link) = takes_buffer m.table connection messages link
 
--- at a place of a publisher
+-- Whether there is a connection at a publisher's place, and it may have a buffer of this many messages.
 abbrev pub buffers_at : World → ℕ → Option Route → Bool
 buffers_at m messages None = false
 buffers_at m messages (Some route) = may_buffer m route.connection messages (slice_get m.links route.connection)
 
--- of a publisher; one that is not there has no connections
+-- Whether there is a publisher, and its connection of this place may have a buffer of this many messages.
 abbrev pub buffers_of : World → ℕ → ℕ → Option PublisherLaneState → Bool
 buffers_of m place messages None = false
 buffers_of m place messages (Some lane) = buffers_at m messages (slice_get lane.port.routes place)
 
--- a publisher that is there may have so many slots
+-- Whether there is a publisher, and it may be cut to this many slots.
 abbrev pub resizes_of : ℕ → Option PublisherLaneState → Bool
 resizes_of slots None = false
 resizes_of slots (Some lane) = may_resize slots lane.port.book
 
--- a publisher is there
+-- Whether there is a publisher.
 abbrev pub is_there : Option PublisherLaneState → Bool
 is_there None = false
 is_there (Some lane) = true
 
--- a subscriber that is there has connections at two places
+-- Whether there is a subscriber, and it has connections at both places.
 abbrev pub swaps_of : ℕ → ℕ → Option SubscriberLaneState → Bool
 swaps_of one other None = false
 swaps_of one other (Some lane) = nat_lt one (length lane.port.routes) && nat_lt other (length lane.port.routes)
 
--- a slot has the word
+-- Whether a slot has the word.
 abbrev pub has_word : TableSizes → SlotWord → Bool
 has_word sizes (Header word) = nat_lt word 3
 has_word sizes (UserHeader word) = nat_lt word sizes.user_header_words
 has_word sizes (Payload word) = nat_lt word sizes.payload_words
 
--- what may be found, if it is before the first step
+-- Whether this may be found, apart from the condition that no step was made.
 abbrev pub finds_now : World → Found → Bool
 finds_now m (found.Waiting publisher place slot) = waits_of m place slot (slice_get m.publishers publisher)
 finds_now m (found.GivenBack publisher place slot) = back_of m place slot (slice_get m.publishers publisher)
@@ -119,16 +120,16 @@ finds_now m (found.Slots publisher slots most_loans) = resizes_of slots (slice_g
 finds_now m (found.Sender publisher node_id publisher_id fails last) = is_there (slice_get m.publishers publisher)
 finds_now m (found.Swapped subscriber one other) = swaps_of one other (slice_get m.subscribers subscriber)
 
--- what may be found: before the first step alone
+-- Whether this may be found, which is so only before the first step.
 abbrev pub finds : World → Found → Bool
 finds m f = (m.moments == 0) && finds_now m f
 
--- a slot lies in a cell of a ring, and the write position is behind it
+-- The table after the slot was stored in a cell of a ring, and the write position after it.
 abbrev pub laid : TableWords → ℕ → ConnectionRing → ℕ → ℕ → TableWords
 laid table connection ring cell slot
     = stored_in (stored_in table (Ring connection ring (Cell cell)) slot) (Ring connection ring Write) (successor cell)
 
--- a message waits at a connection, behind those found there before
+-- The lanes after a message was found to wait at a connection, behind those found there before.
 abbrev pub waiting_in : World → ℕ → ℕ → ℕ → PublisherLaneState → ℕ → Option LinkState → World
 waiting_in m publisher place slot lane connection None = m
 waiting_in m publisher place slot lane connection (Some link) = record m {
@@ -137,18 +138,18 @@ waiting_in m publisher place slot lane connection (Some link) = record m {
   publishers = set m.publishers publisher (lane_found place slot lane);
 }
 
--- a message waits at a place of a publisher, whose record then has the slot
+-- The lanes after a message was found to wait at the connection of a publisher's place; the publisher's record then has the slot.
 abbrev pub waiting_at : World → ℕ → ℕ → ℕ → PublisherLaneState → Option Route → World
 waiting_at m publisher place slot lane None = m
 waiting_at m publisher place slot lane (Some route)
     = waiting_in m publisher place slot lane route.connection (slice_get m.links route.connection)
 
--- a message waits at a connection of a publisher that is there
+-- The lanes after a message was found to wait at a connection of this publisher, if there is one.
 abbrev pub waiting_of : World → ℕ → ℕ → ℕ → Option PublisherLaneState → World
 waiting_of m publisher place slot None = m
 waiting_of m publisher place slot (Some lane) = waiting_at m publisher place slot lane (slice_get lane.port.routes place)
 
--- a sample was given back at a connection, behind those found there before
+-- The lanes after a sample was found in the completion ring of a connection, behind those found there before.
 abbrev pub given_at : World → ℕ → ℕ → ℕ → PublisherLaneState → Option Route → World
 given_at m publisher place slot lane None = m
 given_at m publisher place slot lane (Some route) = record m {
@@ -156,26 +157,26 @@ given_at m publisher place slot lane (Some route) = record m {
   publishers = set m.publishers publisher (lane_found place slot lane);
 }
 
--- a sample was given back at a connection of a publisher that is there
+-- The lanes after a sample was found in the completion ring of a connection of this publisher, if there is one.
 abbrev pub given_of : World → ℕ → ℕ → ℕ → Option PublisherLaneState → World
 given_of m publisher place slot None = m
 given_of m publisher place slot (Some lane) = given_at m publisher place slot lane (slice_get lane.port.routes place)
 
--- a slot is the newest of its publisher's history
+-- The lanes after a slot was found to be the newest of its publisher's history.
 abbrev pub remembered_of : World → ℕ → ℕ → Option PublisherLaneState → World
 remembered_of m publisher slot None = m
 remembered_of m publisher slot (Some lane) = record m { publishers = set m.publishers publisher (lane_remembers slot lane) }
 
--- a connection as its ends know it with a buffer of so many messages, whose ring has just the cells that it needs
+-- The connection as its ends know it, with a buffer of this many messages and exactly the cells that these need.
 abbrev pub with_buffer : ℕ → Route → Route
 with_buffer messages route = record route { limit = messages; submission_cells = cells_of route.kind messages }
 
--- the subscribers, one of which knows a connection anew; one that is not there knows none
+-- The subscribers, after this one's connection with this one's number was replaced, if there is such a subscriber.
 abbrev pub subscribers_meet : List SubscriberLaneState → ℕ → Route → Option SubscriberLaneState → List SubscriberLaneState
 subscribers_meet subscribers who route None = subscribers
 subscribers_meet subscribers who route (Some lane) = set subscribers who (receiver_meets route lane)
 
--- a connection has a buffer of so many messages, and both its ends know it
+-- The lanes after a connection was found to have a buffer of this many messages, which both its ends know.
 abbrev pub buffered_in : World → ℕ → ℕ → PublisherLaneState → Route → Option LinkState → World
 buffered_in m publisher messages lane route None = m
 buffered_in m publisher messages lane route (Some link) = record m {
@@ -184,35 +185,36 @@ buffered_in m publisher messages lane route (Some link) = record m {
   subscribers = subscribers_meet m.subscribers link.subscriber (with_buffer messages route) (slice_get m.subscribers link.subscriber);
 }
 
--- the connection at a place of a publisher has it
+-- The lanes after the connection of a publisher's place was found to have a buffer of this many messages.
 abbrev pub buffered_at : World → ℕ → ℕ → PublisherLaneState → Option Route → World
 buffered_at m publisher messages lane None = m
 buffered_at m publisher messages lane (Some route) = buffered_in m publisher messages lane route (slice_get m.links route.connection)
 
--- the connection at a place of a publisher that is there has it
+-- The lanes after a connection of this publisher, if there is one, was found to have a buffer of this many messages.
 abbrev pub buffered_of : World → ℕ → ℕ → ℕ → Option PublisherLaneState → World
 buffered_of m publisher place messages None = m
 buffered_of m publisher place messages (Some lane) = buffered_at m publisher messages lane (slice_get lane.port.routes place)
 
--- a publisher has just its first slots, and so many of its loans may be out
+-- The lanes after a publisher was found to have only its first slots, and this many loans that may be out.
 abbrev pub resized_of : World → ℕ → ℕ → ℕ → Option PublisherLaneState → World
 resized_of m publisher slots most_loans None = m
 resized_of m publisher slots most_loans (Some lane) = record m
     { publishers = set m.publishers publisher (lane_resized slots most_loans lane) }
 
--- the headers of a publisher's messages say this node and this publisher, and its sends fail at a full mailbox or don't
+-- The lanes after it was found what the headers of a publisher's messages name, whether its sends fail at a full mailbox, and what its last
+-- sequence number is.
 abbrev pub named_of : World → ℕ → ℕ → ℕ → Bool → Option ℕ → Option PublisherLaneState → World
 named_of m publisher node_id publisher_id fails last None = m
 named_of m publisher node_id publisher_id fails last (Some lane) = record m {
   publishers = set m.publishers publisher (lane_named node_id publisher_id fails last lane);
 }
 
--- two connections of a subscriber change places
+-- The lanes after two connections of a subscriber were found swapped.
 abbrev pub swapped_of : World → ℕ → ℕ → ℕ → Option SubscriberLaneState → World
 swapped_of m subscriber one other None = m
 swapped_of m subscriber one other (Some lane) = record m { subscribers = set m.subscribers subscriber (receiver_swapped one other lane) }
 
--- the lanes with what was found
+-- The lanes after this was found.
 abbrev pub with_found : World → Found → World
 with_found m (found.Waiting publisher place slot) = waiting_of m publisher place slot (slice_get m.publishers publisher)
 with_found m (found.GivenBack publisher place slot) = given_of m publisher place slot (slice_get m.publishers publisher)
@@ -224,12 +226,12 @@ with_found m (found.Sender publisher node_id publisher_id fails last) =
     named_of m publisher node_id publisher_id fails last (slice_get m.publishers publisher)
 with_found m (found.Swapped subscriber one other) = swapped_of m subscriber one other (slice_get m.subscribers subscriber)
 
--- what a finding answers, and what it leaves
+-- What lanes answer when something is found, and what they are then.
 abbrev pub FindsTo : World → Found → Bool → World → Type 0
 FindsTo m f true n = (finds m f ≡ true) × (n ≡ with_found m f)
 FindsTo m f false n = (finds m f ≡ false) × (n ≡ m)
 
--- a list of findings, each of which may be found where it stands
+-- The lanes after a list of findings, each of which may be found in its turn.
 abbrev pub AreFound : World → List Found → World → Type 0
 AreFound m [] n = n ≡ m
 AreFound m (f ∷ fs) n = (finds m f ≡ true) × AreFound (with_found m f) fs n

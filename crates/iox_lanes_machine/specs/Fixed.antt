@@ -3,14 +3,14 @@ use Rattle.std.specs.Prelude.{ℕ, ◌≡◌, length, slice_get, Option, option_
 use Rattle.iox_lanes_machine.specs.LanesParties.Parties.{PublisherLaneState}
 use Rattle.iox_lanes_machine.specs.World.{World}
 
--- of a publisher's slots: the number of the first, how many there are, how many may be lent at once, and how many its history may have
+-- A publisher's slots: the number of the first one, how many there are, how many loans may be out, and the history size.
 pub record FixedSlots : Type 0 where
   pub first : ℕ
   pub slots : ℕ
   pub most_loans : ℕ
   pub kept : ℕ
 
--- these numbers of a publisher
+-- The number of a publisher's first slot, how many slots it has, how many loans may be out, and its history size.
 abbrev pub fixed_slots : PublisherLaneState → FixedSlots
 fixed_slots lane = record {
   first = lane.port.book.first;
@@ -19,11 +19,12 @@ fixed_slots lane = record {
   kept = lane.port.book.kept;
 }
 
--- these numbers of the publisher at a place, if there is one
+-- The fixed numbers of the slots of the publisher at this place, if there is one.
 abbrev pub slots_at : World → ℕ → Option FixedSlots
 slots_at m place = option_map fixed_slots (slice_get m.publishers place)
 
--- the connections stay, as do the sizes of the words, these numbers of each publisher, and how many publishers and subscribers there are
+-- Connections, sizes of the words, fixed numbers of each publisher's slots, and how many publishers and subscribers there are, are the same
+-- before and after.
 pub record StaysFixed (m n : World) : Type 0 where
   pub links : n.links ≡ m.links
   pub sizes : n.table.sizes ≡ m.table.sizes

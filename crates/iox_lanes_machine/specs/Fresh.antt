@@ -1,4 +1,4 @@
--- Lanes before their first step, whatever waits, was kept or was given back when they begin.
+-- Lanes before their first step, with what they found.
 use Rattle.std.specs.Prelude.{ℕ, ◌≡◌, ◌+◌, ◌<◌, ◌≤◌, ◌^◌, false, List, [], length, get_or, slice_get, slice_index, Some, None}
 use Rattle.iox_lanes_machine.specs.QueuesSteps.declared.order.Placed.{Placed}
 use Rattle.iox_lanes_machine.specs.QueuesSteps.Ends.{cells_of}
@@ -22,13 +22,13 @@ use Rattle.iox_lanes_machine.specs.Slots.{SlotsInRows}
 use Rattle.iox_lanes_machine.specs.Uses.{given_back}
 use Rattle.iox_lanes_machine.specs.World.{World}
 
--- a publisher's record says of a connection that it has the slots that wait there or were given back, each once
+-- A publisher's record says of each connection that it has the slots that wait there or are in its completion ring, each once.
 abbrev pub HasFound : World → PublisherLaneState → Type 0
 HasFound m lane = (place : ℕ) (route : Route) (link : LinkState) → slice_get lane.port.routes place ≡ Some route
     → slice_get m.links route.connection ≡ Some link
     → (slot : ℕ) → count slot link.found + count slot (given_back m.table route.connection) ≡ one_if (refers_to lane.port.book place slot)
 
--- a publisher between calls, with all its connections, whose record counts the uses of its slots; no loan is out
+-- A publisher between calls, with all its connections, whose record counts the uses of its slots, and of which no loan is out.
 pub record IsFreshPublisher (m : World) (who : ℕ) (lane : PublisherLaneState) : Type 0 where
   pub idle : lane.port.call ≡ publishing.Idle
   pub connections : HasConnections m.links who lane.port.routes
@@ -39,7 +39,7 @@ pub record IsFreshPublisher (m : World) (who : ℕ) (lane : PublisherLaneState) 
   pub unlent : (slot : ℕ) → is_out (entry lane.port.book.first lane.port.book.loans slot mark.No) ≡ false
   pub has : HasFound m lane
 
--- a subscriber between calls, with all its connections, that borrows nothing
+-- A subscriber between calls, with all its connections, that borrows nothing.
 pub record IsFreshSubscriber (m : World) (who : ℕ) (lane : SubscriberLaneState) : Type 0 where
   pub idle : lane.port.call ≡ subscribing.Idle
   pub connections : HasReceived m.links who lane.port.routes
@@ -49,8 +49,8 @@ pub record IsFreshSubscriber (m : World) (who : ℕ) (lane : SubscriberLaneState
   pub borrowed : (place : ℕ) → place < length lane.port.routes → slice_get lane.port.borrowed place ≡ Some 0
   pub words : length lane.port.words ≡ width m.table.sizes
 
--- a connection whose two rings hold, from their first cells on, what waits and what was given back: no more than may wait, and
--- together no more than may be given back
+-- A connection whose two rings have, from their first cells on, what waits and what was returned: no more messages than may wait, and
+-- together no more than the completion ring has cells.
 pub record IsFreshLink (m : World) (connection : ℕ) (link : LinkState) : Type 0 where
   pub some : 0 < link.limit
   pub small : link.limit < 2 ^ 62
@@ -62,7 +62,7 @@ pub record IsFreshLink (m : World) (connection : ℕ) (link : LinkState) : Type 
   pub sender : link.publisher < length m.publishers
   pub cells : link.limit + may_borrow (slice_get m.subscribers link.subscriber) < m.table.sizes.completion_cells
 
--- lanes before their first step: no call ended, no order has begun, each port and each connection is as it is when they begin
+-- Lanes before their first step: no call ended, each order is empty, and each port and each connection is as at the beginning.
 pub record IsFresh (m : World) : Type 0 where
   pub finished : m.finished ≡ []
   pub read : m.read ≡ []

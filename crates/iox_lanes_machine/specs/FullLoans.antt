@@ -1,4 +1,4 @@
--- A loan finds no slot only where all slots of its publisher were in use when it began.
+-- A loan finds no slot only if all slots of its publisher were used when it began.
 use Rattle.std.specs.Prelude.{ℕ, ◌≡◌, ◌+◌, ◌<◌, ◌≤◌, ◌^◌, ◌⊎◌, true, List, [], ◌∷◌, ◌++◌, slice_get, Some}
 use Rattle.iox_lanes_machine.specs.QueuesSteps.declared.order.Placed.{Placed}
 use Rattle.iox_lanes_machine.specs.LanesParties.PublisherKeeping.{loan_of}
@@ -19,7 +19,7 @@ use Rattle.iox_lanes_machine.specs.WholeReads.{CameTo}
 use Rattle.iox_lanes_machine.specs.World.{World, fits, happens, publisher_stage}
 use Rattle.iox_lanes_machine.specs.Links.{LinkState}
 
--- a slot waits at a connection, lies aside there, or is borrowed of it
+-- The slot waits at a connection, lies aside there, or is borrowed from it.
 pub record IsHeld (m : World) (slot : ℕ) : Type 0 where
   pub connection : ℕ
   pub link : LinkState
@@ -30,13 +30,13 @@ pub record IsHeld (m : World) (slot : ℕ) : Type 0 where
       (aside_at m.table connection link (publisher_stage (slice_get m.publishers link.publisher))) + one_if
       (borrows connection slot (slice_get m.subscribers link.subscriber))
 
--- a slot of a publisher is in use: it is a loan, stands in the history, or waits, lies aside or is borrowed somewhere; one that
--- was given back no longer is
+-- The slot of a publisher is in use: it is a loan, is in the history, or waits, lies aside or is borrowed somewhere. A slot in a completion
+-- ring isn't in use any longer.
 abbrev pub IsInUse : World → PublisherLaneState → ℕ → Type 0
 IsInUse m lane slot = (is_out (loan_of slot lane.port.book) ≡ true) ⊎ ((0 < count slot lane.port.book.history) ⊎ IsHeld m slot)
 
--- If a loan ends without a slot, then each slot of its publisher was in use when it began, whatever was done in between; as long
--- as at most 2^63 steps were made.
+-- If a loan ends without a slot, then each slot of its publisher was in use when it began, whatever was done in between; as long as at most
+-- 2^63 steps were made.
 abbrev pub LoansFindAllUsed : Type 0
 LoansFindAllUsed = (m : World) → CameTo m → (place : ℕ) (entries : List Entry) → fits m (Publisher place) (Begin call.LoanUninit) ≡ true
     → (led (happens m (Publisher place) (Begin call.LoanUninit)) entries).moments ≤ 2 ^ 63

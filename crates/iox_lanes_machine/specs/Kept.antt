@@ -1,4 +1,4 @@
--- What every step of lanes keeps.
+-- The invariant of lanes, which every step keeps.
 use Rattle.std.specs.Prelude.{ℕ, ◌≡◌, ◌+◌, ◌<◌, ◌≤◌, ◌^◌, List, length, slice_get, Option, Some, None}
 use Rattle.std.specs.List.{All}
 use Rattle.iox_lanes_machine.specs.QueuesSteps.Order.{Acts, acts_of, Rises}
@@ -28,15 +28,15 @@ use Rattle.iox_lanes_machine.specs.Uses.{UsesFollow}
 use Rattle.iox_lanes_machine.specs.World.{World, publisher_stage, subscriber_stage}
 use Rattle.iox_lanes_machine.specs.Links.{LinkState}
 
--- the port of a link that sends
+-- The publisher of a link.
 abbrev pub sender : LinkState → ℕ
 sender link = link.publisher
 
--- the port of a link that receives
+-- The subscriber of a link.
 abbrev pub receiver : LinkState → ℕ
 receiver link = link.subscriber
 
--- a connection that a port has is a link of it, whose ring has just the cells that it needs
+-- A port's connection is a link whose end is this port, and its submission ring has exactly the cells that it needs.
 pub record IsLinkOf (links : List LinkState) (port : LinkState → ℕ) (place : ℕ) (route : Route) : Type 0 where
   pub link : LinkState
   pub found : slice_get links route.connection ≡ Some link
@@ -45,17 +45,17 @@ pub record IsLinkOf (links : List LinkState) (port : LinkState → ℕ) (place :
   pub limit : route.limit ≡ link.limit
   pub cells : route.submission_cells ≡ cells_of link.kind link.limit
 
--- a link has its ring among the words of the service
+-- The words of the link's submission ring are words of the service.
 pub record IsLink (sizes : TableSizes) (connection : ℕ) (link : LinkState) : Type 0 where
   pub connection_is : connection < sizes.connections
   pub cells : cells_of link.kind link.limit ≤ sizes.submission_cells
 
--- a call stands at a connection of the service, or at none
+-- The connection is one of the service, if there is one.
 abbrev pub StandsInService : TableSizes → Option ℕ → Type 0
 StandsInService sizes None = Unit {0}
 StandsInService sizes (Some connection) = connection < sizes.connections
 
--- ports, connections and words are those of one service
+-- Ports, connections and words are those of one service.
 pub record IsWithin (m : World) : Type 0 where
   pub publishers : All (IsPublisher m.table.sizes) m.publishers
   pub subscribers : All (IsSubscriber m.table.sizes) m.subscribers
@@ -67,13 +67,13 @@ pub record IsWithin (m : World) : Type 0 where
   pub orders : length m.orders ≡ length m.links
   pub words : length m.table.words ≡ words_of m.table.sizes
 
--- the order of a connection answers as its mailbox does, from what waited before the first step on, and its moments never fall
+-- The order of a connection answers as its mailbox does, beginning with what waited before the first step, and its moments never fall.
 pub record FollowsMailbox (link : LinkState) (order : List Placed) (moments : ℕ) : Type 0 where
   pub acts : Acts (overflows link.kind) link.limit link.found (acts_of order)
   pub rises : Rises 0 order moments
 
--- a connection has its order, and its ring holds what the order leaves; the calls are those of its two ports; the write position
--- is not so far beyond the steps made that it wraps
+-- A connection has its order, and its submission ring contains what the order leaves, with the calls of its two ports at their stages; the
+-- write position is less than 2^63 beyond the count of steps, so it doesn't wrap.
 pub record IsKeptAt (table : TableWords) (moments connection : ℕ) (link : LinkState) (order : List Placed) (sends : PublisherCall)
     (receives : SubscriberCall) : Type 0 where
   pub mailbox : FollowsMailbox link order moments
@@ -81,15 +81,15 @@ pub record IsKeptAt (table : TableWords) (moments connection : ℕ) (link : Link
       (push_on connection link.kind sends) (pop_on connection link.kind receives)
   pub few : (ring_in table connection (cells_of link.kind link.limit)).write < moments + 2 ^ 63
 
--- so it is at each connection
+-- Each connection has its order, and its submission ring contains what the order leaves (`IsKeptAt`).
 abbrev pub AreKept : World → Type 0
 AreKept m = (connection : ℕ) (link : LinkState) (order : List Placed) → slice_get m.links connection ≡ Some link
     → slice_get m.orders connection ≡ Some order
     → IsKeptAt m.table m.moments connection link order (publisher_stage (slice_get m.publishers link.publisher))
     (subscriber_stage (slice_get m.subscribers link.subscriber))
 
--- all of this; a position may not have wrapped while no more than 2^63 steps were made; and before the first step the lanes are
--- as they begin
+-- The invariant of lanes. Parts that need unwrapped positions hold while at most 2^63 steps were made; before the first step the lanes are
+-- as at the beginning.
 pub record IsKept (m : World) : Type 0 where
   pub within : IsWithin m
   pub rings : m.moments ≤ 2 ^ 63 → AreKept m

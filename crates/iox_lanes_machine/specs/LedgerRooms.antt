@@ -22,19 +22,19 @@ use Rattle.iox_lanes_parties.specs.Parties.{SubscriberLaneState, is_out}
 use Rattle.iox_lanes_machine.specs.Borrowing.{borrows}
 use Rattle.iox_lanes_machine.specs.LedgerUses.{total, refers_to}
 
--- how many slots the connection at a place has, by a publisher's own record
+-- How many slots the connection at this place has, by the publisher's own record.
 abbrev pub slots_at : BookState → ℕ → ℕ
 slots_at book place = total (λ index. refers_to book place (book.first + index)) (length book.uses)
 
--- how many slots of a publisher are loans
+-- How many slots of a publisher are loans.
 abbrev pub loans_out : BookState → ℕ
 loans_out book = total (λ index. is_out (get_or book.loans index mark.No)) (length book.loans)
 
--- how many samples a subscriber borrows of a connection
+-- How many samples a subscriber borrows from the connection.
 abbrev pub borrowed_of : ℕ → SubscriberLaneState → ℕ
 borrowed_of connection lane = total (λ slot. borrows connection slot (Some lane)) (length lane.port.samples)
 
--- a push has not stored its write position yet: on a ring that lets its oldest go
+-- A push on an overflowing ring is under way, and hasn't stored its write position yet.
 abbrev pub OverflowingWaits : overflowing_type.Push → Type 0
 OverflowingWaits overflowing.Idle = ⊥
 OverflowingWaits (overflowing.Begun limit value) = Unit {0}
@@ -45,7 +45,7 @@ OverflowingWaits (overflowing.Full value seen next) = ⊥
 OverflowingWaits (overflowing.SawOldest value seen next oldest) = ⊥
 OverflowingWaits (overflowing.Pushed value answer) = ⊥
 
--- on a ring that refuses
+-- A push on a refusing ring is under way, and hasn't stored its write position yet.
 abbrev pub RefusingWaits : refusing_type.Push → Type 0
 RefusingWaits refusing.Idle = ⊥
 RefusingWaits (refusing.Begun limit value) = Unit {0}
@@ -54,12 +54,12 @@ RefusingWaits (refusing.SawRoom value write next) = Unit {0}
 RefusingWaits (refusing.Filled value next) = Unit {0}
 RefusingWaits (refusing.Pushed value answer) = ⊥
 
--- on a ring of either kind
+-- A push on a ring of either kind is under way, and hasn't stored its write position yet.
 abbrev pub PushWaits : Push → Type 0
 PushWaits (ring.Overflowing push) = OverflowingWaits push
 PushWaits (ring.Refusing push) = RefusingWaits push
 
--- a call has taken back all samples of the connection at a place, and has put nothing there since
+-- The call has taken back all samples of the connection at this place, and has put nothing there since.
 abbrev pub HasSwept : PublisherCall → ℕ → Type 0
 HasSwept publishing.Idle place = ⊥
 HasSwept (publishing.LoanReclaims at route pop) place = place < at
@@ -73,7 +73,7 @@ HasSwept (publishing.Pushing slot at route push delivery) place = (at < place) �
 HasSwept (publishing.Sent slot delivery) place = ⊥
 HasSwept (publishing.Dropping slot) place = ⊥
 
--- a pop that takes back is under way; one that found something to take back has something to take back
+-- A pop that takes back is under way; if it found a sample, the connection has at least one slot.
 abbrev pub TakesSome : ℕ → Pop → Type 0
 TakesSome slots pop.Idle = ⊥
 TakesSome slots pop.Begun = Unit {0}
@@ -85,7 +85,7 @@ TakesSome slots pop.LookBegun = ⊥
 TakesSome slots (pop.LookRead seen) = ⊥
 TakesSome slots (pop.Looked some) = ⊥
 
--- a push is under way: on a ring that lets its oldest go
+-- A push on an overflowing ring is under way.
 abbrev pub OverflowingGoes : overflowing_type.Push → Type 0
 OverflowingGoes overflowing.Idle = ⊥
 OverflowingGoes (overflowing.Begun limit value) = Unit {0}
@@ -96,12 +96,12 @@ OverflowingGoes (overflowing.Full value seen next) = Unit {0}
 OverflowingGoes (overflowing.SawOldest value seen next oldest) = Unit {0}
 OverflowingGoes (overflowing.Pushed value answer) = ⊥
 
--- on a ring of either kind
+-- A push on a ring of either kind is under way.
 abbrev pub PushGoes : Push → Type 0
 PushGoes (ring.Overflowing push) = OverflowingGoes push
 PushGoes (ring.Refusing push) = RefusingWaits push
 
--- so it is of a call that takes back or pushes
+-- If the call takes back or pushes, its pop or push is under way.
 abbrev pub CallGoes : BookState → PublisherCall → Type 0
 CallGoes book publishing.Idle = Unit {0}
 CallGoes book (publishing.LoanReclaims at route pop) = TakesSome (slots_at book at) pop
@@ -115,21 +115,22 @@ CallGoes book (publishing.Pushing slot at route push delivery) = PushGoes push
 CallGoes book (publishing.Sent slot delivery) = Unit {0}
 CallGoes book (publishing.Dropping slot) = Unit {0}
 
--- the loans of a publisher are counted, as long as it has fewer than 2^64 slots, and no more are out than may be; nor is the history longer
+-- The loans of a publisher are counted, if it has fewer than 2^64 slots; no more are out than may be, and the history isn't longer than it
+-- may be.
 pub record CountsLoans (book : BookState) : Type 0 where
   pub out : length book.loans < 2 ^ 64 → book.out ≡ loans_out book
   pub few : book.out ≤ book.most_loans
   pub kept : length book.history ≤ book.kept
 
--- A publisher's record, where its call stands: each of so many connections has at most as many slots as its ring of samples given
--- back has cells, and one fewer where the call has taken back all.
+-- What a publisher's record says at this stage of its call: each of the `connections` connections has at most as many slots as its
+-- completion ring has cells, and one fewer where the call has taken back all samples.
 pub record HasRooms (cells connections : ℕ) (book : BookState) (call : PublisherCall) : Type 0 where
   pub most : (place : ℕ) → place < connections → slots_at book place ≤ cells
   pub swept : (place : ℕ) → place < connections → HasSwept call place → slots_at book place < cells
   pub takes : CallGoes book call
   pub counts : CountsLoans book
 
--- a pop may take still: it is no look, and not over
+-- Whether a pop may still take a slot: it isn't a look, and isn't over.
 abbrev pub may_take : ring_pop.Pop → Bool
 may_take (rings.Overflowing overflowing_pop.Idle) = false
 may_take (rings.Overflowing overflowing_pop.Begun) = true
@@ -150,7 +151,7 @@ may_take (rings.Refusing pop.LookBegun) = false
 may_take (rings.Refusing (pop.LookRead seen)) = false
 may_take (rings.Refusing (pop.Looked some)) = false
 
--- a receive whose pop may take borrows fewer samples there than it may
+-- A receive whose pop may still take a slot borrows fewer samples from the connection than it may.
 abbrev pub MayBorrow : SubscriberLaneState → SubscriberCall → Type 0
 MayBorrow lane subscribing.Idle = Unit {0}
 MayBorrow lane (subscribing.Receiving place route p waits) = may_take p ≡ true → borrowed_of route.connection lane < lane.port.most_borrowed
@@ -160,7 +161,7 @@ MayBorrow lane (subscribing.WasRead slot) = Unit {0}
 MayBorrow lane (subscribing.Releasing place route push) = Unit {0}
 MayBorrow lane (subscribing.Released done) = Unit {0}
 
--- a release that is over gave its sample back
+-- A release that is over has returned its sample.
 abbrev pub ReleasesOk : SubscriberCall → Type 0
 ReleasesOk subscribing.Idle = Unit {0}
 ReleasesOk (subscribing.Receiving place route pop waits) = Unit {0}
@@ -170,7 +171,7 @@ ReleasesOk (subscribing.WasRead slot) = Unit {0}
 ReleasesOk (subscribing.Releasing place route push) = Unit {0}
 ReleasesOk (subscribing.Released done) = done ≡ true
 
--- A subscriber counts the samples that it borrows of each of its connections, and borrows no more than it may.
+-- A subscriber counts the samples that it borrows from each of its connections, and borrows no more than it may.
 pub record CountsBorrowed (lane : SubscriberLaneState) : Type 0 where
   pub numbers : (place : ℕ) (route : Route) → slice_get lane.port.routes place ≡ Some route
       → (slice_get lane.port.borrowed place ≡ Some (borrowed_of route.connection lane))

@@ -9,44 +9,44 @@ use Rattle.iox_lanes_parties.specs.declared.publisher.slot_book.LoanMark.{LoanMa
 use Rattle.iox_lanes_parties.specs.declared.publisher.slot_book.LoanMark.TheVariants as mark
 use Rattle.iox_lanes_parties.specs.Parties.{is_out}
 
--- one where a test holds, else none
+-- One if the test holds, otherwise 0.
 abbrev pub one_if : Bool → ℕ
 one_if true = 1
 one_if false = 0
 
--- how often a number stands in a list
+-- How often the number is in the list.
 abbrev pub count : ℕ → List ℕ → ℕ
 count value [] = 0
 count value (x ∷ xs) = one_if (x == value) + count value xs
 
--- at how many of the first places a test holds
+-- At how many of the first `places` places the test holds.
 abbrev pub total : (ℕ → Bool) → ℕ → ℕ
 total test zero = 0
 total test (suc places) = total test places + one_if (test places)
 
--- what a list says of a slot, if a publisher's slots begin at `first` and the list has one value for each
+-- The list's value for a slot, if a publisher's slots begin at `first` and the list has one value for each; `none` for any other slot.
 abbrev pub entry : {X : Type 0} → ℕ → List X → ℕ → X → X
 entry first list slot none = if nat_lt slot first then none else get_or list (slot - first) none
 
--- whether the connection at a place has a slot, if `referred` has a row of `width` for each connection
+-- Whether the connection at this place has the slot, if `referred` has a row of `width` marks for each connection.
 abbrev pub refers : ℕ → ℕ → List Bool → ℕ → ℕ → Bool
 refers first width referred place slot =
     if nat_lt slot first then false
     else if nat_lt (slot - first) width then get_or referred (place * width + (slot - first)) false
     else false
 
--- how many of the connections have a slot
+-- How many of the connections have the slot.
 abbrev pub references : ℕ → ℕ → List Bool → ℕ → ℕ → ℕ
 references first width referred connections slot = total (λ place. refers first width referred place slot) connections
 
--- A slot has one use as a loan, one in the history and one at each connection that has it. It stands in the history at most once;
--- a loan stands there at no place, and at no connection.
+-- A slot has one use as a loan, one in the history and one at each connection that has it. It is in the history at most once; a loan is
+-- neither in the history nor at a connection.
 pub record IsCounted (uses : ℕ) (loan : Bool) (history references : ℕ) : Type 0 where
   pub counted : uses ≡ one_if loan + history + references
   pub once : history ≤ 1
   pub alone : loan ≡ true → (history ≡ 0) × (references ≡ 0)
 
--- so it is of each slot, of so many; a publisher has fewer than 2^62 connections
+-- The uses of each of `slots` slots are counted so (`IsCounted`), and the publisher has fewer than 2^62 connections.
 pub record AreCounted (connections first slots : ℕ) (loans : List LoanMark) (history : List ℕ) (referred : List Bool) (uses : List ℕ) :
     Type 0 where
   pub loans_each : length loans ≡ slots
@@ -56,32 +56,33 @@ pub record AreCounted (connections first slots : ℕ) (loans : List LoanMark) (h
   pub each : (slot : ℕ) → IsCounted (entry first uses slot 0) (is_out (entry first loans slot mark.No)) (count slot history)
       (references first slots referred connections slot)
 
--- a publisher with so many connections counts the uses of its slots
+-- A publisher with this many connections counts the uses of its slots.
 abbrev pub UsesCounted : ℕ → BookState → Type 0
 UsesCounted connections book = AreCounted connections book.first (length book.uses) book.loans book.history book.referred book.uses
 
--- whether the connection at a place has a slot, by the publisher's own record
+-- Whether the connection at this place has the slot, by the publisher's own record.
 abbrev pub refers_to : BookState → ℕ → ℕ → Bool
 refers_to book place slot = refers book.first (length book.uses) book.referred place slot
 
--- the slot is one of a publisher's
+-- The slot is one of the publisher's.
 pub record IsOwn (book : BookState) (slot : ℕ) : Type 0 where
   pub above : book.first ≤ slot
   pub below : slot < book.first + length book.uses
 
--- a slot that the connection at a place has
+-- The connection at this place has the slot.
 pub record IsReferred (connections : ℕ) (book : BookState) (place slot : ℕ) : Type 0 where
   pub there : place < connections
   pub has : refers_to book place slot ≡ true
 
--- a slot that the connection at a place may be given: one of the publisher's, no loan, and not there yet
+-- The connection at this place may be given the slot: the slot is one of the publisher's, isn't a loan, and isn't there yet.
 pub record MayBeReferred (connections : ℕ) (book : BookState) (place slot : ℕ) : Type 0 where
   pub there : place < connections
   pub own : IsOwn book slot
   pub lacks : refers_to book place slot ≡ false
   pub not_out : is_out (entry book.first book.loans slot mark.No) ≡ false
 
--- a change fits: a loan is written, remembered or dropped, a connection is given what it lacks, and loses what it has
+-- The change fits: only a loan is written, remembered or dropped, a connection is given only a slot that it doesn't have, and loses only
+-- one that it has.
 abbrev pub ChangeFits : ℕ → BookState → PublisherChange → Type 0
 ChangeFits connections book Nothing = Unit {0}
 ChangeFits connections book Lend = Unit {0}
@@ -92,7 +93,7 @@ ChangeFits connections book (Put place slot) = MayBeReferred connections book pl
 ChangeFits connections book (LeftOut place slot) = IsReferred connections book place slot
 ChangeFits connections book (DropLoan slot) = is_out (entry book.first book.loans slot mark.No) ≡ true
 
--- a change that fits leaves the uses counted
+-- After a change that fits, the uses are still counted.
 abbrev pub ChangesKeepCount : Type 0
 ChangesKeepCount = (connections : ℕ) (book : BookState) (change : PublisherChange) → ChangeFits connections book change
     → UsesCounted connections book → UsesCounted connections (changed change book)

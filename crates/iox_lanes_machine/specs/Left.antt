@@ -12,19 +12,19 @@ use Rattle.iox_lanes_machine.specs.LanesParties.declared.call.FinishedCall.{Fini
 use Rattle.iox_lanes_machine.specs.LanesParties.declared.call.Party.TheVariants.{Publisher}
 use Rattle.iox_lanes_machine.specs.World.{World}
 
--- so many words of a payload are in a slot
+-- The first `words` words of the payload are in the slot.
 abbrev pub HoldsPayload : TableWords → ℕ → ℕ → List ℕ → Type 0
 HoldsPayload table slot words payload = (word : ℕ) → word < words → get_or payload word 0 ≡ held_by table (Slot slot (Payload word))
 
--- so many words of header and user header are in a slot
+-- The first `words` words of header and user header are in the slot.
 abbrev pub HoldsHead : TableWords → ℕ → ℕ → List ℕ → Type 0
 HoldsHead table slot words head = (word : ℕ) → word < words → get_or head word 0 ≡ held_by table (Slot slot (header_word word))
 
--- all words of header and user header are in a slot
+-- All words of header and user header are in the slot.
 abbrev pub HoldsAllHead : TableWords → ℕ → List ℕ → Type 0
 HoldsAllHead table slot head = HoldsHead table slot (3 + table.sizes.user_header_words) head
 
--- what a write or a send has stored so far is in its slot; `sends` says whether the call in hand stores the words of a send
+-- What a write or a send has stored so far is in its slot; `sends` says whether the call under way is a send.
 abbrev pub StoresHeld : TableWords → Bool → List ℕ → List ℕ → PublisherCall → Type 0
 StoresHeld table sends payload head publishing.Idle = Unit {0}
 StoresHeld table sends payload head (publishing.LoanReclaims place route pop) = Unit {0}
@@ -40,17 +40,17 @@ StoresHeld table sends payload head (publishing.Pushing slot place route push de
 StoresHeld table sends payload head (publishing.Sent slot delivery) = HoldsAllHead table slot head
 StoresHeld table sends payload head (publishing.Dropping slot) = Unit {0}
 
--- so it is of each publisher
+-- What each publisher's write or send has stored so far is in its slot.
 abbrev pub StoresHold : World → Type 0
 StoresHold m = (place : ℕ) (lane : PublisherLaneState) → slice_get m.publishers place ≡ Some lane
     → StoresHeld m.table lane.port.sends lane.port.payload lane.port.head lane.port.call
 
--- so it is as long as at most 2^63 steps were made
+-- What each publisher's write or send has stored so far is in its slot, as long as at most 2^63 steps were made.
 abbrev pub StoresFollow : World → Type 0
 StoresFollow m = m.moments ≤ 2 ^ 63 → StoresHold m
 
--- where a step ends a write, its slot has the payload that the write was given, and where it ends a send, the header and user
--- header that the send stored; so it is as long as at most 2^63 steps were made
+-- After a step that ends a write, its slot has the payload that the write was given; after one that ends a send, the header and user header
+-- that the send stored. Both hold as long as at most 2^63 steps were made.
 pub record StoresLeft (m n : World) : Type 0 where
   pub payload : m.moments ≤ 2 ^ 63 → (call : FinishedCall) (place loan : ℕ) (lane : PublisherLaneState)
       → n.finished ≡ m.finished ++ call ∷ [] → call.party ≡ Publisher place → slice_get m.publishers place ≡ Some lane

@@ -2,8 +2,8 @@
 use Rattle.std.specs.Prelude.{ℕ, List}
 use Rattle.iox_lanes_machine.specs.QueuesSteps.declared.rings.ends.RingKind.{RingKind}
 
--- A connection: which publisher sends to which subscriber, by their numbers; what its full ring of messages does with one more;
--- how many messages may wait; and the slots that waited before the first step, the oldest first.
+-- A connection: the numbers of its publisher and its subscriber; what its submission ring does with one message more when it is full; how
+-- many messages may wait; and the slots that waited before the first step, the oldest first.
 pub record LinkState : Type 0 where
   pub publisher : ℕ
   pub subscriber : ℕ

@@ -1,4 +1,4 @@
--- What a loan is answered, by what its publisher's slots are used for.
+-- The answer of a loan, by what its publisher's slots are used for.
 use Rattle.std.specs.Prelude.{ℕ, ◌≡◌, ◌+◌, ◌-◌, ◌*◌, ◌<◌, ◌≤◌, ◌^◌, ◌⊎◌, true, false, ◌∷◌, [], ◌++◌, length, slice_get, Some}
 use Rattle.iox_lanes_machine.specs.LanesParties.PublisherKeeping.{loan_of}
 use Rattle.iox_lanes_machine.specs.LanesParties.declared.publisher.slot_book.LoanAnswer.{LoanAnswer}
@@ -13,19 +13,18 @@ use Rattle.iox_lanes_machine.specs.Alone.{IsAtConnection}
 use Rattle.iox_lanes_machine.specs.Slots.{IsLoanAt}
 use Rattle.iox_lanes_machine.specs.World.{World}
 
--- a slot of a publisher has a use: it is a loan, stands in the history, or stands at a connection, where it waits, lies aside, is
--- borrowed or was given back
+-- The slot of a publisher has a use: it is a loan, is in the history, or is at a connection, where it waits, lies aside, is borrowed, or is
+-- in the completion ring.
 abbrev pub IsUsed : World → PublisherLaneState → ℕ → Type 0
 IsUsed m lane slot = (is_out (loan_of slot lane.port.book) ≡ true) ⊎ ((0 < count slot lane.port.book.history) ⊎ IsAtConnection m slot)
 
--- the worst case of a publisher's slots: at each connection as many as may wait and be borrowed, which is one fewer than its ring
--- of samples given back has cells; the history; and the loans
+-- How many slots a publisher needs in the worst case: at each connection as many as may wait and be borrowed, which is one fewer than its
+-- completion ring has cells; the history; and the loans.
 abbrev pub worst_case : World → PublisherLaneState → ℕ
 worst_case m lane = length lane.port.routes * (m.table.sizes.completion_cells - 1) + lane.port.book.kept + lane.port.book.most_loans
 
--- A loan is refused just where as many loans are out as may be; it finds no slot only where each has a use; the slot that it
--- gives is the publisher's own, was no loan, and is one now; and with fewer loans out and as many slots as the worst case it
--- gives one.
+-- A loan is refused exactly where as many loans are out as may be. It finds no slot only where each has a use. The slot that it gets is the
+-- publisher's own, wasn't a loan, and is one now. With fewer loans out, and as many slots as the worst case needs, it gets one.
 pub record IsLent (m n : World) (place : ℕ) (lane : PublisherLaneState) (given : LoanAnswer) : Type 0 where
   pub refused : given ≡ loan.ExceedsMaxLoans → loans_out lane.port.book ≡ lane.port.book.most_loans
   pub refuses : loans_out lane.port.book ≡ lane.port.book.most_loans → given ≡ loan.ExceedsMaxLoans
@@ -35,8 +34,8 @@ pub record IsLent (m n : World) (place : ℕ) (lane : PublisherLaneState) (given
   pub permitted : loans_out lane.port.book < lane.port.book.most_loans → worst_case m lane ≤ length lane.port.book.uses → (slot : ℕ)
       × (given ≡ loan.Slot slot)
 
--- so is each loan that a step ends, by what stood before the step; as long as at most 2^63 steps were made, and for slots that
--- have numbers below 2^64
+-- Each loan that a step ends has the answer that the state before the step demands (`IsLent`), as long as at most 2^63 steps were made, and
+-- for slots with numbers below 2^64.
 abbrev pub LoansLent : World → World → Type 0
 LoansLent m n = m.moments ≤ 2 ^ 63 → (call : FinishedCall) (place : ℕ) (lane : PublisherLaneState) (given : LoanAnswer)
     → n.finished ≡ m.finished ++ call ∷ [] → call.party ≡ Publisher place → slice_get m.publishers place ≡ Some lane

@@ -13,16 +13,16 @@ use Rattle.iox_lanes_machine.specs.World.{World}
 use Rattle.iox_lanes_machine.specs.Links.{LinkState}
 use Rattle.iox_lanes_machine.specs.declared.sizes.LaneSizes.{LaneSizes}
 
--- the values at 0, 1 and so on, so many of them
+-- The values of `f` for the first `count` numbers.
 abbrev pub listed : {X : Type 0} → (ℕ → X) → ℕ → List X
 listed f zero = []
 listed f (suc count) = listed f count ++ f count ∷ []
 
--- the cells of a ring of samples given back: one for each that may wait or be borrowed, and one more
+-- How many cells a completion ring has: one for each message that may wait or be borrowed, and one more.
 abbrev pub cells_back : LaneSizes → ℕ
 cells_back sizes = sizes.buffer + sizes.most_borrowed + 1
 
--- the sizes of the table: a ring of messages has the cells that its kind needs
+-- The sizes of the table; a submission ring has the cells that its kind needs.
 abbrev pub table_sizes : LaneSizes → TableSizes
 table_sizes sizes = record {
   connections = sizes.publishers * sizes.subscribers;
@@ -33,7 +33,7 @@ table_sizes sizes = record {
   payload_words = sizes.payload_words;
 }
 
--- connections are numbered publisher by publisher, and for each subscriber by subscriber
+-- The link of a connection. Connections are numbered publisher by publisher, and for each publisher subscriber by subscriber.
 abbrev pub link_at : LaneSizes → ℕ → LinkState
 link_at sizes connection = record {
   publisher = connection / sizes.subscribers;
@@ -43,7 +43,7 @@ link_at sizes connection = record {
   found = [];
 }
 
--- a connection as its ports know it
+-- A connection as its ports know it.
 abbrev pub route_to : LaneSizes → ℕ → Route
 route_to sizes connection = record {
   connection = connection;
@@ -53,19 +53,19 @@ route_to sizes connection = record {
   completion_cells = cells_back sizes;
 }
 
--- the connections of a publisher, in the order of the subscribers
+-- The connections of a publisher, in the order of the subscribers.
 abbrev pub sending_routes : LaneSizes → ℕ → ℕ → List Route
 sending_routes sizes publisher count = listed (λ subscriber. route_to sizes (publisher * sizes.subscribers + subscriber)) count
 
--- the connections of a subscriber, in the order of the publishers
+-- The connections of a subscriber, in the order of the publishers.
 abbrev pub receiving_routes : LaneSizes → ℕ → ℕ → List Route
 receiving_routes sizes subscriber count = listed (λ publisher. route_to sizes (publisher * sizes.subscribers + subscriber)) count
 
--- the header of a publisher's messages: no node, its own number, one element; behind it a blank user header
+-- The header of a publisher's messages, which names no node, its own number and one element, followed by a user header of zeros.
 abbrev pub first_head : LaneSizes → ℕ → List ℕ
 first_head sizes publisher = (0 ∷ publisher ∷ 1 ∷ []) ++ replicate sizes.user_header_words 0
 
--- a publisher whose slots follow those of the publishers before it, and that does not fail at a full mailbox
+-- A publisher whose slots follow those of the publishers before it, and whose sends don't fail at a full mailbox.
 abbrev pub publisher_at : LaneSizes → ℕ → PublisherLaneState
 publisher_at sizes publisher = record {
   port = new_publisher (sending_routes sizes publisher sizes.subscribers)
@@ -78,7 +78,7 @@ publisher_at sizes publisher = record {
   first = 0;
 }
 
--- a subscriber
+-- A subscriber that borrows nothing.
 abbrev pub subscriber_at : LaneSizes → ℕ → SubscriberLaneState
 subscriber_at sizes subscriber = record {
   port = new_subscriber (receiving_routes sizes subscriber sizes.publishers) (sizes.publishers * sizes.slots)
@@ -88,7 +88,7 @@ subscriber_at sizes subscriber = record {
   first = 0;
 }
 
--- lanes of these sizes
+-- Lanes of these sizes.
 abbrev pub start : LaneSizes → World
 start sizes = record {
   table = record { sizes = table_sizes sizes; words = replicate (words_of (table_sizes sizes)) 0 };

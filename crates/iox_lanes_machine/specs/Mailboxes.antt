@@ -11,16 +11,16 @@ use Rattle.iox_lanes_machine.specs.World.{World}
 use Rattle.iox_lanes_machine.specs.declared.link.Positions.{Positions}
 use Rattle.iox_lanes_machine.specs.Links.{LinkState}
 
--- an order of a connection answers as the connection's mailbox does
+-- The order answers as the connection's mailbox does, as long as at most 2^63 steps were made.
 abbrev pub OrderFollows : World → ℕ → List Placed → Type 0
 OrderFollows m connection order = m.moments ≤ 2 ^ 63 → (link : LinkState) → slice_get m.links connection ≡ Some link
     → FollowsMailbox link order m.moments
 
--- so does the order of each connection
+-- The order of each connection answers as its mailbox does, as long as at most 2^63 steps were made.
 abbrev pub OrdersFollow : World → Type 0
 OrdersFollow m = (connection : ℕ) (order : List Placed) → slice_get m.orders connection ≡ Some order → OrderFollows m connection order
 
--- the four positions of a connection are words of the table
+-- The four positions of a connection, which are words of the table.
 abbrev pub positions_of : TableWords → ℕ → Positions
 positions_of table connection = record {
   submission_write = held_by table (Ring connection Submission Write);
@@ -29,12 +29,12 @@ positions_of table connection = record {
   completion_read = held_by table (Ring connection Completion Read);
 }
 
--- no more messages stand between the two positions than may wait, and at most one more where the ring drops its oldest
+-- No more messages are between the two positions of the submission ring than may wait, and at most one more on an overflowing ring.
 pub record AreNear (link : LinkState) (positions : Positions) : Type 0 where
   pub behind : positions.submission_read ≤ positions.submission_write
   pub near : positions.submission_write ≤ positions.submission_read + link.limit + (if overflows link.kind then 1 else 0)
 
--- so it is at a connection
+-- The positions of this connection are near (`AreNear`), as long as at most 2^63 steps were made.
 abbrev pub PositionsNear : World → ℕ → Positions → Type 0
 PositionsNear m connection positions = m.moments ≤ 2 ^ 63 → (link : LinkState) → slice_get m.links connection ≡ Some link
     → AreNear link positions

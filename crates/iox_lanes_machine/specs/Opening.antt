@@ -1,5 +1,5 @@
--- What every step keeps for threads that take over: each cell names a slot, as does what a port has in hand to put into one, and
--- the word before all is 0.
+-- What every step keeps for the use of lanes in threads: each cell names a slot, as does what a port is about to put into a cell, and the
+-- first word of the table is 0.
 use Rattle.std.specs.Prelude.{ℕ, ◌≡◌, ◌<◌, slice_get, slice_index, Some}
 use Rattle.iox_lanes_machine.specs.QueuesSteps.declared.access.Word.TheVariants.{Cell}
 use Rattle.iox_lanes_machine.specs.QueuesSteps.declared.rings.overflowing.push.Push as overflowing_push_type
@@ -21,17 +21,17 @@ use Rattle.iox_lanes_machine.specs.LanesParties.Parties.{PublisherLaneState, Sub
 use Rattle.iox_lanes_machine.specs.World.{World}
 use Rattle.iox_lanes_machine.specs.Links.{LinkState}
 
--- a cell of a ring of a connection
+-- The word of a cell of a connection's ring.
 abbrev pub cell_of : ℕ → ConnectionRing → ℕ → SharedWord
 cell_of connection ring cell = Ring connection ring (Cell cell)
 
--- where there are slots, each cell names one
+-- If there are slots, each cell of a ring names one.
 abbrev pub CellsNameSlots : TableWords → Type 0
 CellsNameSlots table = 0 < table.sizes.slots → (connection : ℕ) (ring : ConnectionRing) (cell : ℕ)
     → IsWord table.sizes (cell_of connection ring cell)
     → held_by table (cell_of connection ring cell) < table.sizes.slots
 
--- what a push on a ring that overflows is yet to put names one of so many slots
+-- What a push on an overflowing ring is yet to put is one of `slots` slots.
 abbrev pub OverPuts : ℕ → overflowing_push_type.Push → Type 0
 OverPuts slots overflowing_push.Idle = Unit {0}
 OverPuts slots (overflowing_push.Begun limit value) = value < slots
@@ -42,7 +42,7 @@ OverPuts slots (overflowing_push.Full value read next) = Unit {0}
 OverPuts slots (overflowing_push.SawOldest value read next oldest) = Unit {0}
 OverPuts slots (overflowing_push.Pushed value answer) = Unit {0}
 
--- likewise on a ring that refuses
+-- What a push on a refusing ring is yet to put is one of `slots` slots.
 abbrev pub LonePuts : ℕ → refusing_push_type.Push → Type 0
 LonePuts slots refusing_push.Idle = Unit {0}
 LonePuts slots (refusing_push.Begun limit value) = value < slots
@@ -51,12 +51,12 @@ LonePuts slots (refusing_push.SawRoom value write next) = value < slots
 LonePuts slots (refusing_push.Filled value next) = Unit {0}
 LonePuts slots (refusing_push.Pushed value answer) = Unit {0}
 
--- likewise on either
+-- What a push on a ring of either kind is yet to put is one of `slots` slots.
 abbrev pub Puts : ℕ → Push → Type 0
 Puts slots (push.Overflowing own) = OverPuts slots own
 Puts slots (push.Refusing own) = LonePuts slots own
 
--- a publisher sends one of so many slots
+-- A publisher sends one of `slots` slots.
 abbrev pub SendsSlot : ℕ → PublisherCall → Type 0
 SendsSlot slots publishing.Idle = Unit {0}
 SendsSlot slots (publishing.LoanReclaims place route pop) = Unit {0}
@@ -70,7 +70,7 @@ SendsSlot slots (publishing.Pushing slot place route push delivery) = (slot < sl
 SendsSlot slots (publishing.Sent slot delivery) = Unit {0}
 SendsSlot slots (publishing.Dropping slot) = Unit {0}
 
--- a subscriber gives one of so many slots back
+-- A subscriber returns one of `slots` slots.
 abbrev pub GivesSlot : ℕ → SubscriberCall → Type 0
 GivesSlot slots subscribing.Idle = Unit {0}
 GivesSlot slots (subscribing.Receiving place route pop waits) = Unit {0}
@@ -80,7 +80,8 @@ GivesSlot slots (subscribing.WasRead slot) = Unit {0}
 GivesSlot slots (subscribing.Releasing place route push) = LonePuts slots push
 GivesSlot slots (subscribing.Released done) = Unit {0}
 
--- what lanes keep of it; and at each connection a message may wait
+-- The first word of the table is 0, each cell and each slot that a party is about to put names a slot, and at least one message may wait at
+-- each connection.
 pub record SlotsNamed (m : World) : Type 0 where
   pub spare : slice_index m.table.words 0 ≡ 0
   pub cells : CellsNameSlots m.table

@@ -1,4 +1,4 @@
--- How many steps a loan and a send take, however the steps of others fall between theirs.
+-- How many steps a loan and a send take, however the steps of others come between theirs.
 use Rattle.std.specs.Prelude.{ℕ, ◌≡◌, ◌+◌, ◌*◌, ◌<◌, ◌≤◌, ◌^◌, Bool, true, false, List, [], ◌∷◌, slice_get, Some}
 use Rattle.iox_lanes_machine.specs.LanesBase.Publishing.{publisher_is_idle}
 use Rattle.iox_lanes_machine.specs.LanesParties.Parties.{PublisherLaneState}
@@ -12,38 +12,38 @@ use Rattle.iox_lanes_machine.specs.Sends.{is_sender}
 use Rattle.iox_lanes_machine.specs.WholeReads.{CameTo}
 use Rattle.iox_lanes_machine.specs.World.{World, fits, happens}
 
--- the lanes after an entry, which is made if it fits
+-- The lanes after an entry, which is made if it fits.
 abbrev pub after_entry : Bool → World → Entry → World
 after_entry true m entry = happens m entry.party entry.step
 after_entry false m entry = m
 
--- where some entries lead
+-- The lanes after these entries.
 abbrev pub led : World → List Entry → World
 led m [] = m
 led m (entry ∷ entries) = led (after_entry (fits m entry.party entry.step) m entry) entries
 
--- one, if an entry is made and is this publisher's
+-- One if an entry is made and is this publisher's, otherwise 0.
 abbrev pub one_of : Bool → ℕ → Party → ℕ
 one_of true place party = one_if (is_sender party place)
 one_of false place party = 0
 
--- how many of some entries a publisher makes
+-- How many of these entries a publisher makes.
 abbrev pub own_steps : World → ℕ → List Entry → ℕ
 own_steps m place [] = 0
 own_steps m place (entry ∷ entries)
     = one_of (fits m entry.party entry.step) place entry.party + own_steps (after_entry (fits m entry.party entry.step) m entry) place
     entries
 
--- a publisher is still in the call that it began at this moment
+-- The publisher is still in the call that it began at this moment.
 pub record IsInCall (m : World) (place first : ℕ) : Type 0 where
   pub lane : PublisherLaneState
   pub found : slice_get m.publishers place ≡ Some lane
   pub since : lane.first ≡ first
   pub busy : publisher_is_idle lane.port.call ≡ false
 
--- A loan that is not over yet: its begin, the steps that its publisher made since then and the next one are at most 4 * S * (B +
--- R + 2) + 2, for S subscribers that buffer B messages and borrow R, whatever other parties do between them. So no loan takes
--- more steps. So it is as long as at most 2^63 steps were made.
+-- A loan that isn't over yet: its beginning, the steps that its publisher made since then and the next one are at most 4 * S * (B + R + 2)
+-- + 2, for S subscribers that buffer B messages and borrow R samples, whatever other parties do in between. So no loan takes more steps. It
+-- holds as long as at most 2^63 steps were made.
 abbrev pub LoansEndSoon : Type 0
 LoansEndSoon = (m : World) (came : CameTo m) (place : ℕ) (entries : List Entry) → fits m (Publisher place) (Begin call.LoanUninit) ≡ true
     → (led (happens m (Publisher place) (Begin call.LoanUninit)) entries).moments ≤ 2 ^ 63
@@ -51,8 +51,9 @@ LoansEndSoon = (m : World) (came : CameTo m) (place : ℕ) (entries : List Entry
     → 1 + own_steps (happens m (Publisher place) (Begin call.LoanUninit)) place entries + 1
     ≤ 4 * came.sizes.subscribers * (came.sizes.buffer + came.sizes.most_borrowed + 2) + 2
 
--- Nor does a send take more than 4 * S * (B + R + 3) + W + 7, where W words lie between the three of a header and the payload, fewer than
--- 2^61: those of a user header, and the number, where messages have numbers. So it is at most U + 8 for a user header of U words.
+-- A send that isn't over yet: its beginning, the steps that its publisher made since then and the next one are at most 4 * S * (B + R + 3)
+-- + W + 7, for W words, fewer than 2^61, between the three words of the header and the payload: those of a user header, and the sequence
+-- number, where messages have one. For a user header of U words, W + 7 is at most U + 8.
 abbrev pub SendsEndSoon : Type 0
 SendsEndSoon = (m : World) (came : CameTo m) (place loan : ℕ) (entries : List Entry) → came.sizes.user_header_words < 2 ^ 61
     → fits m (Publisher place) (Begin (call.Send loan)) ≡ true

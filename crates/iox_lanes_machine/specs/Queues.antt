@@ -1,5 +1,5 @@
--- The samples given back at a connection are a queue: its subscriber's releases put what they borrowed behind the others, and its
--- publisher's calls take the first.
+-- The completion ring of a connection is a queue: its subscriber's releases put their samples behind the others, and its publisher's calls
+-- take the first.
 use Rattle.std.specs.Prelude.{ℕ, ◌≡◌, ◌≤◌, ◌^◌, ◌⊎◌, true, false, [], ◌∷◌, ◌++◌, slice_get, Some}
 use Rattle.iox_lanes_machine.specs.LanesBase.declared.calls.route.Route.{Route}
 use Rattle.iox_lanes_machine.specs.LanesParties.Parties.{PublisherLaneState}
@@ -11,7 +11,7 @@ use Rattle.iox_lanes_machine.specs.Uses.{given_back}
 use Rattle.iox_lanes_machine.specs.World.{World}
 use Rattle.iox_lanes_machine.specs.Links.{LinkState}
 
--- a publisher's record says before a step that a connection has a slot, and behind it no longer
+-- The publisher's record says before a step that the connection has the slot, and after it no longer.
 pub record IsTakenBack (m n : World) (who connection slot : ℕ) : Type 0 where
   pub before : PublisherLaneState
   pub after : PublisherLaneState
@@ -24,8 +24,8 @@ pub record IsTakenBack (m n : World) (who connection slot : ℕ) : Type 0 where
   pub had : refers_to before.port.book place slot ≡ true
   pub lacks : refers_to after.port.book place slot ≡ false
 
--- a step leaves the samples given back at a connection; or its subscriber puts one behind them, which it borrowed until then; or
--- its publisher takes the first
+-- A step leaves the samples in the completion ring as they are; or the subscriber puts one behind them, which it borrowed until then; or
+-- the publisher takes the first.
 abbrev pub QueueMoves : World → Party → World → ℕ → LinkState → Type 0
 QueueMoves m party n connection link =
     (given_back n.table connection ≡ given_back m.table connection)
@@ -35,7 +35,7 @@ QueueMoves m party n connection link =
     ⊎ ((sample : ℕ) × (party ≡ Publisher link.publisher) × (given_back m.table connection ≡ sample ∷ given_back n.table connection)
     × IsTakenBack m n link.publisher connection sample))
 
--- so it is at each connection, as long as at most 2^63 steps were made
+-- A step moves the queue of each connection so (`QueueMoves`), as long as at most 2^63 steps were made.
 abbrev pub GivenBackInTurn : World → Party → World → Type 0
 GivenBackInTurn m party n = n.moments ≤ 2 ^ 63 → (connection : ℕ) (link : LinkState) → slice_get m.links connection ≡ Some link
     → QueueMoves m party n connection link

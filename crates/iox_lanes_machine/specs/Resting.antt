@@ -12,16 +12,16 @@ use Rattle.iox_lanes_machine.specs.World.{World, publisher_stage, subscriber_sta
 use Rattle.iox_lanes_machine.specs.declared.resting.Unrest.{Unrest}
 use Rattle.iox_lanes_machine.specs.declared.resting.Unrest.TheVariants as unrest
 
--- the slots of what waits at a connection by its order, the oldest first; none where there is no connection
+-- The slots that wait at a connection by its order, the oldest first; none if there is no connection.
 abbrev pub mail_by : Option LinkState → List Placed → List ℕ
 mail_by None order = []
 mail_by (Some link) order = waiting link order
 
--- the slots of what waits at a connection of a number, by its order
+-- The slots that wait at the connection with this number by its order, the oldest first.
 abbrev pub mail_at : World → ℕ → List ℕ
 mail_at m connection = mail_by (slice_get m.links connection) (get_or m.orders connection [])
 
--- at most 2^63 steps were made, and the publisher and the subscriber of a connection are between calls
+-- The connection is at rest: at most 2^63 steps were made, and its publisher and its subscriber are between calls.
 pub record Rests (m : World) (connection : ℕ) : Type 0 where
   pub few : m.moments ≤ 2 ^ 63
   pub sender : (link : LinkState) → slice_get m.links connection ≡ Some link
@@ -29,17 +29,17 @@ pub record Rests (m : World) (connection : ℕ) : Type 0 where
   pub receiver : (link : LinkState) → slice_get m.links connection ≡ Some link
       → subscriber_is_idle (subscriber_stage (slice_get m.subscribers link.subscriber)) ≡ true
 
--- no party is inside a call
+-- No party is inside a call.
 pub record AllBetween (m : World) : Type 0 where
   pub publishers : All (λ lane. publisher_is_idle lane.port.call ≡ true) m.publishers
   pub subscribers : All (λ lane. subscriber_is_idle lane.port.call ≡ true) m.subscribers
 
--- no slot is a loan, and none is a sample
+-- No loan and no sample is out.
 pub record NoneOut (m : World) : Type 0 where
   pub loans : All (λ lane. (slot : ℕ) → is_out (loan_of slot lane.port.book) ≡ false) m.publishers
   pub samples : All (λ lane. (slot : ℕ) → is_borrowed (place_of slot lane) ≡ false) m.subscribers
 
--- why lanes can't be handed on: a party is inside a call, or none is and something is out
+-- Why lanes can't be handed on: a party is inside a call, or no party is and something is out.
 abbrev pub IsUnrest : Unrest → World → Type 0
 IsUnrest unrest.PartyInCall m = AllBetween m → ⊥
 IsUnrest unrest.SamplesOut m = AllBetween m × (NoneOut m → ⊥)

@@ -1,4 +1,4 @@
--- The ring of samples given back at a connection, and what every step keeps of it.
+-- The completion ring of a connection, and what every step keeps of it.
 use Rattle.std.specs.Prelude.{ℕ, ◌≡◌, ◌+◌, ◌<◌, ◌≤◌, ◌^◌, ◌==◌, if◌then◌else◌, List, take, drop, slice_get, Some}
 use Rattle.std.specs.List.{All}
 use Rattle.iox_lanes_machine.specs.QueuesSteps.Access.{RingWords}
@@ -24,15 +24,15 @@ use Rattle.iox_lanes_machine.specs.World.{World, publisher_stage, subscriber_sta
 use Rattle.iox_lanes_machine.specs.Links.{LinkState}
 use Rattle.iox_lanes_machine.specs.declared.link.Positions.{Positions}
 
--- a word of the ring of samples given back at a connection
+-- A word of the completion ring of a connection.
 abbrev pub back_word : ℕ → Word → SharedWord
 back_word connection word = Ring connection Completion word
 
--- the cells of that ring, if there are so many
+-- The first `cells` cells of the completion ring of a connection.
 abbrev pub back_cells : TableWords → ℕ → ℕ → List ℕ
 back_cells table connection cells = take cells (drop (number_of table.sizes (back_word connection (Cell 0))) table.words)
 
--- that ring
+-- The completion ring of a connection, with this many cells.
 abbrev pub back_ring : TableWords → ℕ → ℕ → RingWords
 back_ring table connection cells = record {
   cells = back_cells table connection cells;
@@ -40,7 +40,7 @@ back_ring table connection cells = record {
   read = held_by table (back_word connection Read);
 }
 
--- the pop of a publisher that takes back at a connection; one that stands elsewhere makes none there
+-- The pop by which a publisher takes samples back at this connection; an idle one if it makes none there.
 abbrev pub reclaim_on : ℕ → PublisherCall → Pop
 reclaim_on connection publishing.Idle = pop.Idle
 reclaim_on connection (publishing.LoanReclaims place route p) = if route.connection == connection then p else pop.Idle
@@ -54,7 +54,7 @@ reclaim_on connection (publishing.Pushing slot place route push delivery) = pop.
 reclaim_on connection (publishing.Sent slot delivery) = pop.Idle
 reclaim_on connection (publishing.Dropping slot) = pop.Idle
 
--- the push of a subscriber that gives back at a connection; one that stands elsewhere makes none there
+-- The push by which a subscriber returns a sample at this connection; an idle one if it makes none there.
 abbrev pub release_on : ℕ → SubscriberCall → Push
 release_on connection subscribing.Idle = push.Idle
 release_on connection (subscribing.Receiving place route pop waits) = push.Idle
@@ -64,24 +64,25 @@ release_on connection (subscribing.WasRead slot) = push.Idle
 release_on connection (subscribing.Releasing place route p) = if route.connection == connection then p else push.Idle
 release_on connection (subscribing.Released done) = push.Idle
 
--- the ring holds a list of samples that were given back and not taken back, which its two ends know
+-- The completion ring contains a list of samples, which its two ends know, and its write position is less than 2^63 beyond the count of
+-- steps.
 pub record IsReturning (cells : ℕ) (table : TableWords) (moments connection : ℕ) (sends : PublisherCall) (receives : SubscriberCall) :
     Type 0 where
   pub list : List ℕ
   pub shape : Shape cells (back_ring table connection cells) list (release_on connection receives) (reclaim_on connection sends)
   pub few : (back_ring table connection cells).write < moments + 2 ^ 63
 
--- so it is at each connection
+-- The completion ring of each connection contains a list of samples, which its two ends know (`IsReturning`).
 abbrev pub AreReturning : World → Type 0
 AreReturning m = (connection : ℕ) (link : LinkState) → slice_get m.links connection ≡ Some link
     → IsReturning m.table.sizes.completion_cells m.table m.moments connection (publisher_stage (slice_get m.publishers link.publisher))
     (subscriber_stage (slice_get m.subscribers link.subscriber))
 
--- both ends go round as many cells as the ring has
+-- The connections of a port have completion rings with this many cells.
 abbrev pub GoesRound : ℕ → List Route → Type 0
 GoesRound cells routes = All (λ route. route.completion_cells ≡ cells) routes
 
--- what every step keeps of the samples given back
+-- What every step keeps of the completion rings.
 pub record ReturnsKept (m : World) : Type 0 where
   pub some : 0 < m.table.sizes.completion_cells
   pub publishers : (place : ℕ) (lane : PublisherLaneState) → slice_get m.publishers place ≡ Some lane
@@ -90,11 +91,11 @@ pub record ReturnsKept (m : World) : Type 0 where
       → GoesRound m.table.sizes.completion_cells lane.port.routes
   pub rings : m.moments ≤ 2 ^ 63 → AreReturning m
 
--- no more samples stand given back and not taken back than there are cells
+-- No more samples are between the two positions of the completion ring than it has cells.
 pub record BackNear (cells : ℕ) (positions : Positions) : Type 0 where
   pub behind : positions.completion_read ≤ positions.completion_write
   pub near : positions.completion_write ≤ positions.completion_read + cells
 
--- so it is at a connection
+-- The positions of the completion ring are near (`BackNear`), as long as at most 2^63 steps were made.
 abbrev pub ReturnsNear : World → Positions → Type 0
 ReturnsNear m positions = m.moments ≤ 2 ^ 63 → BackNear m.table.sizes.completion_cells positions

@@ -1,4 +1,4 @@
--- The ring of messages of a connection, as it lies in the table of all words, and the two ends that stand at it.
+-- The submission ring of a connection, as it lies in the table of all words, and its two ends.
 use Rattle.std.specs.Prelude.{ℕ, ◌==◌, if◌then◌else◌, List, take, drop}
 use Rattle.iox_lanes_machine.specs.QueuesSteps.Access.{RingWords}
 use Rattle.iox_lanes_machine.specs.QueuesSteps.Order.{after_acts, acts_of}
@@ -20,15 +20,15 @@ use Rattle.iox_lanes_machine.specs.LanesBase.declared.calls.subscriber.Subscribe
 use Rattle.iox_lanes_machine.specs.LanesBase.declared.calls.subscriber.SubscriberCall.TheVariants as subscribing
 use Rattle.iox_lanes_machine.specs.Links.{LinkState}
 
--- a word of the ring of messages of a connection
+-- A word of the submission ring of a connection.
 abbrev pub sent_word : ℕ → Word → SharedWord
 sent_word connection word = Ring connection Submission word
 
--- the cells of that ring, if there are so many
+-- The first `cells` cells of the submission ring of a connection.
 abbrev pub cells_in : TableWords → ℕ → ℕ → List ℕ
 cells_in table connection cells = take cells (drop (number_of table.sizes (sent_word connection (Cell 0))) table.words)
 
--- that ring
+-- The submission ring of a connection, with this many cells.
 abbrev pub ring_in : TableWords → ℕ → ℕ → RingWords
 ring_in table connection cells = record {
   cells = cells_in table connection cells;
@@ -36,11 +36,11 @@ ring_in table connection cells = record {
   read = held_by table (sent_word connection Read);
 }
 
--- what waits at a connection, by what waited before the first step and by its order
+-- What waits at a connection, by what waited before the first step and by its order.
 abbrev pub waiting : LinkState → List Placed → List ℕ
 waiting link order = after_acts (overflows link.kind) link.limit link.found (acts_of order)
 
--- the push of a call on a connection; a call that stands elsewhere makes none there
+-- The push that a call makes on this connection; an idle one if it makes none there.
 abbrev pub push_on : ℕ → RingKind → PublisherCall → Push
 push_on connection kind publishing.Idle = push_idle kind
 push_on connection kind (publishing.LoanReclaims place route pop) = push_idle kind
@@ -55,7 +55,7 @@ push_on connection kind (publishing.Pushing slot place route push delivery) =
 push_on connection kind (publishing.Sent slot delivery) = push_idle kind
 push_on connection kind (publishing.Dropping slot) = push_idle kind
 
--- the pop or look of a call on a connection; a call that stands elsewhere makes none there
+-- The pop or look that a call makes on this connection; an idle one if it makes none there.
 abbrev pub pop_on : ℕ → RingKind → SubscriberCall → Pop
 pop_on connection kind subscribing.Idle = pop_idle kind
 pop_on connection kind (subscribing.Receiving place route pop waits) =

@@ -1,5 +1,5 @@
--- Room at each connection: no more slots stand there than the ring of samples given back has cells, and one fewer once a call
--- took back all; so no release is refused.
+-- How many slots are at each connection: at most as many as its completion ring has cells, and one fewer once a call took all back; so no
+-- release is refused.
 use Rattle.std.specs.Prelude.{ℕ, ◌≡◌, ◌+◌, ◌<◌, ◌≤◌, ◌^◌, true, List, length, slice_get, Option, Some, None}
 use Rattle.std.specs.List.{All}
 use Rattle.iox_lanes_machine.specs.LanesBase.declared.calls.route.Route.{Route}
@@ -11,19 +11,19 @@ use Rattle.iox_lanes_machine.specs.Sends.{IsAmong}
 use Rattle.iox_lanes_machine.specs.World.{World}
 use Rattle.iox_lanes_machine.specs.Links.{LinkState}
 
--- how many samples of a connection a subscriber may borrow; one that is not there borrows none
+-- How many samples of each connection a subscriber may borrow; 0 if there is no subscriber.
 abbrev pub may_borrow : Option SubscriberLaneState → ℕ
 may_borrow None = 0
 may_borrow (Some lane) = lane.port.most_borrowed
 
--- the list has each connection of a subscriber, and each but once
+-- The list has each connection of the subscriber, and each only once.
 pub record HasReceived (links : List LinkState) (who : ℕ) (routes : List Route) : Type 0 where
   pub each : (connection : ℕ) (link : LinkState) → slice_get links connection ≡ Some link → link.subscriber ≡ who
       → IsAmong routes connection
   pub once : (i j : ℕ) (one other : Route) → slice_get routes i ≡ Some one → slice_get routes j ≡ Some other
       → one.connection ≡ other.connection → i ≡ j
 
--- a release gave its sample back
+-- If the answer is a release's, the sample went back.
 abbrev pub GaveBack : Answer → Type 0
 GaveBack (answer.Lent loan) = Unit {0}
 GaveBack answer.Written = Unit {0}
@@ -33,15 +33,16 @@ GaveBack (answer.Received given) = Unit {0}
 GaveBack (answer.Read from) = Unit {0}
 GaveBack (answer.Released done) = done ≡ true
 
--- each release that ended gave its sample back
+-- Each release that ended returned its sample.
 abbrev pub ReleasesGaveBack : World → Type 0
 ReleasesGaveBack m = All (λ call. GaveBack call.answer) m.finished
 
--- so it is as long as at most 2^63 steps were made
+-- Each release that ended returned its sample, as long as at most 2^63 steps were made.
 abbrev pub ReleasesFollow : World → Type 0
 ReleasesFollow m = m.moments ≤ 2 ^ 63 → ReleasesGaveBack m
 
--- what every step keeps of the room at connections: the cells are more than may wait and be borrowed
+-- What every step keeps of the counts at connections: publishers' records and subscribers' counts stay within the cells, which are more
+-- than may wait and be borrowed together.
 pub record RoomsKept (m : World) : Type 0 where
   pub publishers : (place : ℕ) (lane : PublisherLaneState) → slice_get m.publishers place ≡ Some lane
       → HasRooms m.table.sizes.completion_cells (length lane.port.routes) lane.port.book lane.port.call
@@ -52,6 +53,6 @@ pub record RoomsKept (m : World) : Type 0 where
       → link.limit + may_borrow (slice_get m.subscribers link.subscriber) < m.table.sizes.completion_cells
   pub releases : ReleasesGaveBack m
 
--- so it is as long as at most 2^63 steps were made
+-- The counts at connections stay within the cells (`RoomsKept`), as long as at most 2^63 steps were made.
 abbrev pub RoomsFollow : World → Type 0
 RoomsFollow m = m.moments ≤ 2 ^ 63 → RoomsKept m

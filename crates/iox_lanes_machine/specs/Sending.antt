@@ -1,4 +1,4 @@
--- What a send that is under way knows of its slot: the connections that it has not come to lack it.
+-- What a send under way knows of its slot: the connections that it hasn't come to don't have the slot.
 use Rattle.std.specs.Prelude.{ℕ, ◌≡◌, ◌+◌, ◌<◌, ◌≤◌, false}
 use Rattle.iox_lanes_parties.specs.QueuesSteps.declared.rings.overflowing.push.Push as overflowing_type
 use Rattle.iox_lanes_parties.specs.QueuesSteps.declared.rings.overflowing.push.Push.TheVariants as overflowing
@@ -12,17 +12,17 @@ use Rattle.iox_lanes_parties.specs.PublisherKeeping.{BookState, loan_of}
 use Rattle.iox_lanes_parties.specs.Parties.{is_out}
 use Rattle.iox_lanes_machine.specs.LedgerUses.{refers_to, IsOwn}
 
--- a slot that a send puts is the publisher's, and no loan any longer
+-- The slot that a send puts is the publisher's, and isn't a loan any longer.
 pub record IsSending (book : BookState) (slot : ℕ) : Type 0 where
   pub own : IsOwn book slot
   pub not_out : is_out (loan_of slot book) ≡ false
 
--- the value that a push has not stored yet is the slot of the send, which the connection lacks
+-- The value that a push hasn't stored yet is the slot of the send, which the connection doesn't have.
 pub record IsLacking (book : BookState) (place slot value : ℕ) : Type 0 where
   pub same : value ≡ slot
   pub lacks : refers_to book place slot ≡ false
 
--- until a push stores its value, the connection lacks it: on a ring that lets its oldest go
+-- Until a push on an overflowing ring stores its value, the connection doesn't have it.
 abbrev pub OverflowingLacks : BookState → ℕ → ℕ → overflowing_type.Push → Type 0
 OverflowingLacks book place slot overflowing.Idle = Unit {0}
 OverflowingLacks book place slot (overflowing.Begun limit value) = IsLacking book place slot value
@@ -33,7 +33,7 @@ OverflowingLacks book place slot (overflowing.Full value seen next) = Unit {0}
 OverflowingLacks book place slot (overflowing.SawOldest value seen next oldest) = Unit {0}
 OverflowingLacks book place slot (overflowing.Pushed value answer) = Unit {0}
 
--- on a ring that refuses
+-- Until a push on a refusing ring stores its value, the connection doesn't have it.
 abbrev pub RefusingLacks : BookState → ℕ → ℕ → refusing_type.Push → Type 0
 RefusingLacks book place slot refusing.Idle = Unit {0}
 RefusingLacks book place slot (refusing.Begun limit value) = IsLacking book place slot value
@@ -42,16 +42,16 @@ RefusingLacks book place slot (refusing.SawRoom value write next) = IsLacking bo
 RefusingLacks book place slot (refusing.Filled value next) = IsLacking book place slot value
 RefusingLacks book place slot (refusing.Pushed value answer) = Unit {0}
 
--- on a ring of either kind
+-- Until a push on a ring of either kind stores its value, the connection doesn't have it.
 abbrev pub PushLacks : BookState → ℕ → ℕ → Push → Type 0
 PushLacks book place slot (ring.Overflowing push) = OverflowingLacks book place slot push
 PushLacks book place slot (ring.Refusing push) = RefusingLacks book place slot push
 
--- the connections from a place on lack a slot
+-- The connections from this place on don't have the slot.
 abbrev pub LacksFrom : ℕ → BookState → ℕ → ℕ → Type 0
 LacksFrom connections book place slot = (later : ℕ) → place ≤ later → later < connections → refers_to book later slot ≡ false
 
--- the connections that a send has not come to lack its slot
+-- The connections that a send hasn't come to don't have its slot.
 abbrev pub SendsLacking : ℕ → BookState → PublisherCall → Type 0
 SendsLacking connections book publishing.Idle = Unit {0}
 SendsLacking connections book (publishing.LoanReclaims place route pop) = Unit {0}

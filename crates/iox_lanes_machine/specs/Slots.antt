@@ -12,27 +12,27 @@ use Rattle.iox_lanes_machine.specs.LanesParties.declared.call.Party.{Party}
 use Rattle.iox_lanes_machine.specs.LanesParties.declared.call.Party.TheVariants.{Publisher, Subscriber}
 use Rattle.iox_lanes_machine.specs.World.{World}
 
--- a slot is a loan of a publisher
+-- The slot is a loan of the publisher at this place.
 pub record IsLoanAt (m : World) (place slot : ℕ) : Type 0 where
   pub lane : PublisherLaneState
   pub found : slice_get m.publishers place ≡ Some lane
   pub out : is_out (loan_of slot lane.port.book) ≡ true
 
--- a slot is a loan of a party, which only a publisher has
+-- The slot is a loan of the party, which must be a publisher.
 abbrev pub IsLoanOf : World → Party → ℕ → Type 0
 IsLoanOf m (Publisher place) slot = IsLoanAt m place slot
 IsLoanOf m (Subscriber place) slot = ⊥
 
--- a step changes no word of a slot that is no loan of its party
+-- A step changes no word of a slot that isn't a loan of its party.
 abbrev pub SlotsStay : World → Party → World → Type 0
 SlotsStay m party n = (slot : ℕ) (word : SlotWord) → IsWord m.table.sizes (Slot slot word) → (IsLoanOf m party slot → ⊥)
     → held_by n.table (Slot slot word) ≡ held_by m.table (Slot slot word)
 
--- no slot is a loan of two publishers
+-- No slot is a loan of two publishers.
 abbrev pub LoansApart : World → Type 0
 LoansApart m = (one other slot : ℕ) → IsLoanAt m one slot → IsLoanAt m other slot → one ≡ other
 
--- a call that stores words of a slot, marks it, gives it to the history or drops it stands at a loan
+-- A call that stores words of a slot, marks it as written, puts it into the history or drops it has a loan.
 abbrev pub StandsAtLoan : BookState → PublisherCall → Type 0
 StandsAtLoan book publishing.Idle = Unit {0}
 StandsAtLoan book (publishing.LoanReclaims place route pop) = Unit {0}
@@ -46,13 +46,13 @@ StandsAtLoan book (publishing.Pushing slot place route push delivery) = Unit {0}
 StandsAtLoan book (publishing.Sent slot delivery) = Unit {0}
 StandsAtLoan book (publishing.Dropping slot) = is_out (loan_of slot book) ≡ true
 
--- the slots of a publisher lie before those of the publishers behind it
+-- The slots of a publisher come before those of later publishers.
 abbrev pub SlotsInRows : World → Type 0
 SlotsInRows m = (one other : ℕ) (lane behind : PublisherLaneState) → slice_get m.publishers one ≡ Some lane
     → slice_get m.publishers other ≡ Some behind → one < other
     → lane.port.book.first + length lane.port.book.loans ≤ behind.port.book.first
 
--- each publisher stands at a loan of its own slots
+-- Each publisher's call names only a loan of its own where it needs one, and the slots of publishers are in rows.
 pub record LoansStand (m : World) : Type 0 where
   pub stages : (place : ℕ) (lane : PublisherLaneState) → slice_get m.publishers place ≡ Some lane
       → StandsAtLoan lane.port.book lane.port.call

@@ -2,6 +2,7 @@
 use Rattle.iox_lanes_machine.specs.World.{World}
 use Rattle.iox_lanes_machine.specs.declared.state.State.{State}
 
+-- The state of lanes in the terms of `World`.
 abbrev pub world_of : State → World
 world_of s = record {
   table = s.table;

@@ -1,4 +1,4 @@
--- What a connection's two rings hold beside the messages that wait there: what lies aside, and what was given back.
+-- What a connection's two rings contain besides the messages that wait there: what lies aside, and the samples that came back.
 use Rattle.std.specs.Prelude.{ℕ, zero, suc, ◌+◌, ◌-◌, ◌%◌, List, [], ◌∷◌, ◌++◌, length, slice_index}
 use Rattle.iox_lanes_parties.specs.QueuesSteps.Access.{RingWords}
 use Rattle.iox_lanes_parties.specs.QueuesSteps.declared.order.Act.{Act}
@@ -8,27 +8,27 @@ use Rattle.iox_lanes_parties.specs.QueuesSteps.declared.order.PushAnswer.TheVari
 use Rattle.iox_lanes_parties.specs.QueuesSteps.Ends.{late_put}
 use Rattle.iox_lanes_parties.specs.QueuesSteps.declared.rings.ends.Push.{Push}
 
--- a value that was put, unless it was refused
+-- The value that was put, unless it was refused.
 abbrev pub taken_in : ℕ → PushAnswer → List ℕ
 taken_in value Kept = value ∷ []
 taken_in value (LeftOut oldest) = value ∷ []
 taken_in value Refused = []
 
--- the values of some puts that were taken in
+-- The values of these puts that were taken.
 abbrev pub put_in : List Act → List ℕ
 put_in [] = []
 put_in (Put value answer ∷ acts) = taken_in value answer ++ put_in acts
 put_in (Take answer ∷ acts) = put_in acts
 
--- what lies aside: a push has stored it, and its put waits for the next move of the read position
+-- What lies aside: the value that a push has stored, if its put waits for the next move of the read position.
 abbrev pub aside : ℕ → Push → List ℕ
 aside read push = put_in (late_put read push)
 
--- so many cells of a ring, from a position on
+-- The cells of a ring from a position on, as many as given.
 abbrev pub cells_from : RingWords → ℕ → ℕ → List ℕ
 cells_from words position zero = []
 cells_from words position (suc more) = slice_index words.cells (position % length words.cells) ∷ cells_from words (position + 1) more
 
--- what stands in a ring between its two positions
+-- What is in a ring between its two positions.
 abbrev pub between : RingWords → List ℕ
 between words = cells_from words words.read (words.write - words.read)

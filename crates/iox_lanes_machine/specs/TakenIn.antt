@@ -1,6 +1,6 @@
--- What it takes for lanes to take in a finding, and what it adds to what they hold: to the messages that wait at a connection,
--- the samples given back there, a history, a word of a slot, the buffer of a connection, the slots or the headers of a publisher
--- and whether its sends fail, or the places of a subscriber's connections.
+-- When lanes take a finding in, and what it adds: to the messages that wait at a connection, the samples in its completion ring, a history,
+-- a word of a slot, the buffer of a connection, the slots or the headers of a publisher and whether its sends fail, or the places of a
+-- subscriber's connections.
 use Rattle.std.specs.Prelude.{ℕ, ◌≡◌, ◌+◌, ◌<◌, ◌≤◌, ◌==◌, ◌&&◌, if◌then◌else◌, Bool, true, false, List, [], ◌∷◌, ◌++◌, length, get_or}
 use Rattle.std.specs.Prelude.{slice_get, Option, Some, None}
 use Rattle.iox_lanes_machine.specs.QueuesSteps.Access.{RingWords}
@@ -23,8 +23,8 @@ use Rattle.iox_lanes_machine.specs.World.{World}
 use Rattle.iox_lanes_machine.specs.declared.found.Found.{Found}
 use Rattle.iox_lanes_machine.specs.declared.found.Found.TheVariants as found
 
--- A slot may be found at the connection at a place of a publisher: it is the publisher's, neither waits there nor was given back
--- there, and those that do are together fewer than may be given back.
+-- A slot may be found at the connection of this place of a publisher: it is the publisher's, and neither waits there nor is in the
+-- completion ring; and the slots there are together fewer than this ring has cells.
 pub record MayStand (m : World) (who place slot : ℕ) : Type 0 where
   pub lane : PublisherLaneState
   pub publisher : slice_get m.publishers who ≡ Some lane
@@ -36,7 +36,8 @@ pub record MayStand (m : World) (who place slot : ℕ) : Type 0 where
   pub lacks : count slot link.found + count slot (given_back m.table route.connection) ≡ 0
   pub room : length link.found + length (given_back m.table route.connection) < m.table.sizes.completion_cells
 
--- a slot may be found to be the newest of a publisher's history: it is the publisher's, does not stand there yet, and fewer do than may
+-- A slot may be found to be the newest of a publisher's history: it is the publisher's and not yet in the history, which has fewer slots
+-- than it may.
 pub record MayBeNewest (m : World) (who slot : ℕ) : Type 0 where
   pub lane : PublisherLaneState
   pub publisher : slice_get m.publishers who ≡ Some lane
@@ -44,13 +45,13 @@ pub record MayBeNewest (m : World) (who slot : ℕ) : Type 0 where
   pub lacks : count slot lane.port.book.history ≡ 0
   pub room : length lane.port.book.history < lane.port.book.kept
 
--- a slot may be found to wait: it may stand there, and fewer messages wait than may
+-- A slot may be found to wait: it may be found at the connection (`MayStand`), and fewer messages wait there than may.
 pub record MayBeMessage (m : World) (who place slot : ℕ) : Type 0 where
   pub stands : MayStand m who place slot
   pub fewer : length stands.link.found < stands.link.limit
 
--- The connection at a place of a publisher may be found to have a buffer: for one message at least and for no more than may wait
--- there, and nothing waits there yet, nor was anything given back.
+-- The connection of this place of a publisher may be found to have a buffer: for at least one message and for no more than may wait there;
+-- nothing waits there yet, and its completion ring is empty.
 pub record MayHaveBuffer (m : World) (who place messages : ℕ) : Type 0 where
   pub lane : PublisherLaneState
   pub publisher : slice_get m.publishers who ≡ Some lane
@@ -63,8 +64,8 @@ pub record MayHaveBuffer (m : World) (who place messages : ℕ) : Type 0 where
   pub no_message : link.found ≡ []
   pub no_sample : given_back m.table route.connection ≡ []
 
--- A publisher may be found to have so many slots: no more than it has, and nothing was found of it yet: its history is empty, and
--- at its connections nothing waits, nor was anything given back.
+-- A publisher may be found to have this many slots: no more than it has, and nothing was found of it yet, so its history is empty, and at
+-- its connections nothing waits and the completion rings are empty.
 pub record MayHaveSlots (m : World) (who slots : ℕ) : Type 0 where
   pub lane : PublisherLaneState
   pub publisher : slice_get m.publishers who ≡ Some lane
@@ -73,15 +74,15 @@ pub record MayHaveSlots (m : World) (who slots : ℕ) : Type 0 where
   pub empty : (place : ℕ) (route : Route) (link : LinkState) → slice_get lane.port.routes place ≡ Some route
       → slice_get m.links route.connection ≡ Some link → (link.found ≡ []) × (given_back m.table route.connection ≡ [])
 
--- the connections at two places of a subscriber may change places: it has both
+-- The connections at two places of a subscriber may be swapped, since it has both.
 pub record MayChangePlaces (m : World) (who one other : ℕ) : Type 0 where
   pub lane : SubscriberLaneState
   pub subscriber : slice_get m.subscribers who ≡ Some lane
   pub has_one : one < length lane.port.routes
   pub has_other : other < length lane.port.routes
 
--- what may be found, if it is before the first step; of a word, all that it takes is that the slot has it, and of a sender that
--- the publisher is there
+-- This may be found, apart from the condition that no step was made. Of a word it needs only that the slot has the word, and of a sender
+-- that the publisher exists.
 abbrev pub MayBeFound : World → Found → Type 0
 MayBeFound m (found.Waiting publisher place slot) = MayBeMessage m publisher place slot
 MayBeFound m (found.GivenBack publisher place slot) = MayStand m publisher place slot
@@ -93,22 +94,22 @@ MayBeFound m (found.Sender publisher node_id publisher_id fails last) =
     (lane : PublisherLaneState) × (slice_get m.publishers publisher ≡ Some lane)
 MayBeFound m (found.Swapped subscriber one other) = MayChangePlaces m subscriber one other
 
--- what may be found: before the first step alone
+-- This may be found, which is so only before the first step.
 pub record IsFirst (m : World) (f : Found) : Type 0 where
   pub first : m.moments ≡ 0
   pub may : MayBeFound m f
 
--- the connection at a place of a publisher is the one of this number
+-- Whether the connection at this place of a publisher has this number.
 abbrev pub leads_of : Option PublisherLaneState → ℕ → ℕ → Bool
 leads_of None place connection = false
 leads_of (Some lane) place connection = is_at connection (slice_get lane.port.routes place)
 
--- a slot alone, if the test holds
+-- The slot alone if the test holds, otherwise no slot.
 abbrev pub slot_if : Bool → ℕ → List ℕ
 slot_if true slot = slot ∷ []
 slot_if false slot = []
 
--- what a finding adds to the messages that wait at a connection
+-- What a finding adds to the messages that wait at a connection.
 abbrev pub more_messages : World → Found → ℕ → List ℕ
 more_messages m (found.Waiting publisher place slot) connection
     = slot_if (leads_of (slice_get m.publishers publisher) place connection) slot
@@ -120,7 +121,7 @@ more_messages m (found.Slots publisher slots most_loans) connection = []
 more_messages m (found.Sender publisher node_id publisher_id fails last) connection = []
 more_messages m (found.Swapped subscriber one other) connection = []
 
--- what it adds to the samples given back there
+-- What a finding adds to the samples in the completion ring of a connection.
 abbrev pub more_samples : World → Found → ℕ → List ℕ
 more_samples m (found.Waiting publisher place slot) connection = []
 more_samples m (found.GivenBack publisher place slot) connection
@@ -132,7 +133,7 @@ more_samples m (found.Slots publisher slots most_loans) connection = []
 more_samples m (found.Sender publisher node_id publisher_id fails last) connection = []
 more_samples m (found.Swapped subscriber one other) connection = []
 
--- what it adds to the history of a publisher
+-- What a finding adds to the history of a publisher.
 abbrev pub more_history : Found → ℕ → List ℕ
 more_history (found.Waiting publisher place slot) who = []
 more_history (found.GivenBack publisher place slot) who = []
@@ -143,7 +144,7 @@ more_history (found.Slots publisher slots most_loans) who = []
 more_history (found.Sender publisher node_id publisher_id fails last) who = []
 more_history (found.Swapped subscriber one other) who = []
 
--- what it adds to what a publisher's record says that the connection at a place has
+-- What a finding adds to the slots that, by the publisher's record, the connection at a place has.
 abbrev pub more_referred : Found → ℕ → ℕ → List ℕ
 more_referred (found.Waiting publisher place slot) who at = slot_if ((publisher == who) && (place == at)) slot
 more_referred (found.GivenBack publisher place slot) who at = slot_if ((publisher == who) && (place == at)) slot
@@ -154,7 +155,7 @@ more_referred (found.Slots publisher slots most_loans) who at = []
 more_referred (found.Sender publisher node_id publisher_id fails last) who at = []
 more_referred (found.Swapped subscriber one other) who at = []
 
--- the slot of a publisher to which it adds a use
+-- The slot of a publisher to which a finding adds a use.
 abbrev pub more_uses : Found → ℕ → List ℕ
 more_uses (found.Waiting publisher place slot) who = slot_if (publisher == who) slot
 more_uses (found.GivenBack publisher place slot) who = slot_if (publisher == who) slot
@@ -165,12 +166,12 @@ more_uses (found.Slots publisher slots most_loans) who = []
 more_uses (found.Sender publisher node_id publisher_id fails last) who = []
 more_uses (found.Swapped subscriber one other) who = []
 
--- a number, if the test holds
+-- The number if the test holds, otherwise none.
 abbrev pub number_if : Bool → ℕ → Option ℕ
 number_if true number = Some number
 number_if false number = None
 
--- the buffer that a finding gives to a connection, if it gives it one
+-- The buffer size that a finding gives to a connection, if any.
 abbrev pub new_buffer : World → Found → ℕ → Option ℕ
 new_buffer m (found.Waiting publisher place slot) connection = None
 new_buffer m (found.GivenBack publisher place slot) connection = None
@@ -182,17 +183,17 @@ new_buffer m (found.Slots publisher slots most_loans) connection = None
 new_buffer m (found.Sender publisher node_id publisher_id fails last) connection = None
 new_buffer m (found.Swapped subscriber one other) connection = None
 
--- a number that a finding gives, or else the one that stood
+-- The number that a finding gives, or the number before if it gives none.
 abbrev pub number_with : Option ℕ → ℕ → ℕ
 number_with None number = number
 number_with (Some given) number = given
 
--- a connection as its port knows it then: so many messages may wait, and its ring has just the cells that it needs for them
+-- A connection as its port knows it after a finding: with this buffer size, if there is one, and exactly the cells that it needs.
 abbrev pub route_with : Option ℕ → Route → Route
 route_with None route = route
 route_with (Some messages) route = record route { limit = messages; submission_cells = cells_of route.kind messages }
 
--- how many slots a finding gives to a publisher, if it gives it any number of them
+-- The number of slots that a finding gives to a publisher, if any.
 abbrev pub new_slots : Found → ℕ → Option ℕ
 new_slots (found.Waiting publisher place slot) who = None
 new_slots (found.GivenBack publisher place slot) who = None
@@ -203,7 +204,7 @@ new_slots (found.Slots publisher slots most_loans) who = number_if (publisher ==
 new_slots (found.Sender publisher node_id publisher_id fails last) who = None
 new_slots (found.Swapped subscriber one other) who = None
 
--- how many of its loans may be out then
+-- The number of loans that may be out that a finding gives to a publisher, if any.
 abbrev pub new_loans : Found → ℕ → Option ℕ
 new_loans (found.Waiting publisher place slot) who = None
 new_loans (found.GivenBack publisher place slot) who = None
@@ -214,7 +215,7 @@ new_loans (found.Slots publisher slots most_loans) who = number_if (publisher ==
 new_loans (found.Sender publisher node_id publisher_id fails last) who = None
 new_loans (found.Swapped subscriber one other) who = None
 
--- the node that the headers of its messages say then
+-- The node that a finding gives to the headers of a publisher's messages, if any.
 abbrev pub new_node : Found → ℕ → Option ℕ
 new_node (found.Waiting publisher place slot) who = None
 new_node (found.GivenBack publisher place slot) who = None
@@ -225,7 +226,7 @@ new_node (found.Slots publisher slots most_loans) who = None
 new_node (found.Sender publisher node_id publisher_id fails last) who = number_if (publisher == who) node_id
 new_node (found.Swapped subscriber one other) who = None
 
--- and the publisher
+-- The publisher that a finding gives to the headers of a publisher's messages, if any.
 abbrev pub new_publisher : Found → ℕ → Option ℕ
 new_publisher (found.Waiting publisher place slot) who = None
 new_publisher (found.GivenBack publisher place slot) who = None
@@ -236,7 +237,7 @@ new_publisher (found.Slots publisher slots most_loans) who = None
 new_publisher (found.Sender publisher node_id publisher_id fails last) who = number_if (publisher == who) publisher_id
 new_publisher (found.Swapped subscriber one other) who = None
 
--- whether the sends of a publisher fail at a full mailbox behind a finding, if they did or didn't before
+-- Whether the sends of a publisher fail at a full mailbox after a finding, if `fails` says so before.
 abbrev pub fails_behind : Found → ℕ → Bool → Bool
 fails_behind (found.Waiting publisher place slot) who fails = fails
 fails_behind (found.GivenBack publisher place slot) who fails = fails
@@ -247,7 +248,7 @@ fails_behind (found.Slots publisher slots most_loans) who fails = fails
 fails_behind (found.Sender publisher node_id publisher_id given last) who fails = if publisher == who then given else fails
 fails_behind (found.Swapped subscriber one other) who fails = fails
 
--- the number that a publisher gave last, behind a finding, if it was this one before; none where messages have no numbers
+-- The last sequence number of a publisher after a finding, if it was `last` before; none where messages have none.
 abbrev pub last_behind : Found → ℕ → Option ℕ → Option ℕ
 last_behind (found.Waiting publisher place slot) who last = last
 last_behind (found.GivenBack publisher place slot) who last = last
@@ -258,16 +259,16 @@ last_behind (found.Slots publisher slots most_loans) who last = last
 last_behind (found.Sender publisher node_id publisher_id fails given) who last = if publisher == who then given else last
 last_behind (found.Swapped subscriber one other) who last = last
 
--- the place at which a connection stood that stands at a place now, if those at two places changed places
+-- The place before a swap of two places of the connection that is at this place after it.
 abbrev pub other_place : ℕ → ℕ → ℕ → ℕ
 other_place one other place = if place == one then other else if place == other then one else place
 
--- so it is if the test holds
+-- The place before a swap, if the test holds; otherwise the same place.
 abbrev pub place_if : Bool → ℕ → ℕ → ℕ → ℕ
 place_if true one other place = other_place one other place
 place_if false one other place = place
 
--- the place at which a connection of a subscriber stood that stands at a place behind a finding
+-- The place before a finding of the connection that is at this place of a subscriber after it.
 abbrev pub place_before : Found → ℕ → ℕ → ℕ
 place_before (found.Waiting publisher place slot) who at = at
 place_before (found.GivenBack publisher place slot) who at = at
@@ -278,40 +279,40 @@ place_before (found.Slots publisher slots most_loans) who at = at
 place_before (found.Sender publisher node_id publisher_id fails last) who at = at
 place_before (found.Swapped subscriber one other) who at = place_if (subscriber == who) one other at
 
--- so a port knows each of its connections, each at the place that it has then, and nothing else of them changes
+-- A port knows each of its connections at its place after the finding, with its buffer; nothing else of them changes.
 pub record RoutesKnow (m : World) (f : Found) (before : ℕ → ℕ) (was now : List Route) : Type 0 where
   pub each : (place : ℕ) (route : Route) → slice_get was (before place) ≡ Some route
       → slice_get now place ≡ Some (route_with (new_buffer m f route.connection) route)
   pub as_many : length now ≡ length was
 
--- these slots stand in a ring behind those that stood there, and it begins where it began
+-- The ring has these slots behind those that it had, and its read position is the same.
 pub record RingGrows (was now : RingWords) (more : List ℕ) : Type 0 where
   pub list : between now ≡ between was ++ more
   pub read : now.read ≡ was.read
   pub write : now.write ≡ was.write + length more
 
--- a link at which these slots wait too, and that may have another buffer
+-- The link, if there is one, with these slots waiting too, and with this buffer size, if there is one.
 abbrev pub link_with : List ℕ → Option ℕ → Option LinkState → Option LinkState
 link_with more buffer None = None
 link_with more buffer (Some link) = Some (record link { found = link.found ++ more; limit = number_with buffer link.limit })
 
--- a header says the node and the publisher that a finding gives it, if it gives it any; of its other words none changes
+-- A header names the node and the publisher that a finding gives it, if any; none of its other words changes.
 pub record HeadSays (node_id publisher_id : Option ℕ) (was now : List ℕ) : Type 0 where
   pub node : get_or now 0 0 ≡ number_with node_id (get_or was 0 0)
   pub publisher : get_or now 1 0 ≡ number_with publisher_id (get_or was 1 0)
   pub others : (word : ℕ) → 1 < word → get_or now word 0 ≡ get_or was word 0
   pub as_many : length now ≡ length was
 
--- so it is with the headers of a publisher's slots, of which there are as many as it has slots then
+-- The headers of a publisher's slots name what a finding gives them, and are as many as the slots.
 pub record HeadsSay (f : Found) (who : ℕ) (was now : List (List ℕ)) : Type 0 where
   pub each : (slot : ℕ) (before behind : List ℕ) → slice_get was slot ≡ Some before → slice_get now slot ≡ Some behind
       → HeadSays (new_node f who) (new_publisher f who) before behind
   pub as_many : length now ≡ number_with (new_slots f who) (length was)
 
--- The history of a publisher, what its record says of its connections and the uses of its slots have more; it has as many slots
--- as it is given, may have as many loans out, and no other slot becomes a loan; it knows the buffers of its connections, its
--- headers say what they are given, its sends fail as they are told, and its numbers go on behind the one that it is given. Nothing else
--- of it changes.
+-- A publisher after a finding. Its history, what its record says of its connections, and the uses of its slots grow by what the finding
+-- adds. It has the slots and the loan limit that it is given; which slots are loans stays the same. It knows the buffers of its
+-- connections; its headers name what they are given; its sends fail as was found; and its sequence numbers go on after the last one that
+-- it is given. Nothing else of it changes.
 pub record PublisherGrows (m : World) (f : Found) (who : ℕ) (was now : PublisherLaneState) : Type 0 where
   pub routes : RoutesKnow m f (λ place. place) was.port.routes now.port.routes
   pub history : now.port.book.history ≡ was.port.book.history ++ more_history f who
@@ -343,13 +344,13 @@ pub record PublisherGrows (m : World) (f : Found) (who : ℕ) (was now : Publish
     };
   }
 
--- a subscriber knows the buffers of its connections, each at its place; nothing else of it changes
+-- A subscriber after a finding knows the buffers of its connections, each at its place; nothing else of it changes.
 pub record SubscriberKnows (m : World) (f : Found) (who : ℕ) (was now : SubscriberLaneState) : Type 0 where
   pub routes : RoutesKnow m f (place_before f who) was.port.routes now.port.routes
   pub same : now ≡ record was { port = record was.port { routes = now.port.routes } }
 
--- Lanes that took in a finding: it stands at the end of the list that it is about, or the word that it is about holds what it
--- says, or the connection, the publisher or the subscriber that it is about has what it says; and all else is as it was.
+-- The lanes after they took in a finding: it is at the end of the list that it is about, or the word, connection, publisher or subscriber
+-- that it is about has what it says; all else is as it was.
 pub record IsTakenIn (m : World) (f : Found) (n : World) : Type 0 where
   pub links : (connection : ℕ) → slice_get n.links connection
       ≡ link_with (more_messages m f connection) (new_buffer m f connection) (slice_get m.links connection)
@@ -372,12 +373,12 @@ pub record IsTakenIn (m : World) (f : Found) (n : World) : Type 0 where
   pub same : n ≡ record m
       { table = record m.table { words = n.table.words }; links = n.links; publishers = n.publishers; subscribers = n.subscribers }
 
--- what a finding answers, and what it leaves: it is taken in just where it may be found
+-- What lanes answer when something is found, and what they are then: they take it in exactly if it may be found.
 abbrev pub TakesIn : World → Found → Bool → World → Type 0
 TakesIn m f true n = IsFirst m f × IsTakenIn m f n
 TakesIn m f false n = (IsFirst m f → ⊥) × (n ≡ m)
 
--- a finding is appended to what waited
+-- The finding is a waiting message, which is appended to a list.
 abbrev pub IsAppended : Found → Type 0
 IsAppended (found.Waiting publisher place slot) = Unit {0}
 IsAppended (found.GivenBack publisher place slot) = ⊥
@@ -388,6 +389,6 @@ IsAppended (found.Slots publisher slots most_loans) = ⊥
 IsAppended (found.Sender publisher node_id publisher_id fails last) = ⊥
 IsAppended (found.Swapped subscriber one other) = ⊥
 
--- memory may be wanting only for a finding that would be taken in, and is appended to what waited
+-- An allocation may fail only for a finding that would be taken in, and is appended to a list.
 abbrev pub WantsMemory : World → Found → Type 0
 WantsMemory m f = IsFirst m f × IsAppended f

@@ -1,4 +1,4 @@
--- What every step of lanes keeps of their words, ports and slots, whatever was told of the calls before.
+-- What every step of lanes keeps of their words, ports and slots, without the orders and the calls that ended.
 use Rattle.std.specs.Prelude.{◌≤◌, ◌^◌}
 use Rattle.iox_lanes_machine.specs.Held.{ReadsHold}
 use Rattle.iox_lanes_machine.specs.Kept.{IsWithin, AreKept}
@@ -9,9 +9,9 @@ use Rattle.iox_lanes_machine.specs.Slots.{LoansStand}
 use Rattle.iox_lanes_machine.specs.Uses.{UsesKept}
 use Rattle.iox_lanes_machine.specs.World.{World}
 
--- Words, ports and slots of lanes that made at most 2^63 steps hold together: both rings of each connection hold what their ends
--- know, publishers write into loans of their own alone, each connection has what its publisher's record says, and what a read
--- loaded so far is what its slot holds.
+-- Words, ports and slots of lanes that made at most 2^63 steps agree: both rings of each connection contain what their ends know,
+-- publishers write only into loans of their own, each connection has the slots that its publisher's record says, and what a read loaded so
+-- far is what its slot contains.
 pub record HoldTogether (m : World) : Type 0 where
   pub few : m.moments ≤ 2 ^ 63
   pub within : IsWithin m

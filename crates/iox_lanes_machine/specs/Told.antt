@@ -1,4 +1,4 @@
--- What a step tells of its party's calls: which call it began, and at which moment; which call it ended, with what, and when.
+-- What a step reports of its party's calls: which call it began, and at which moment; which call it ended, with which answer, and when.
 use Rattle.std.specs.Prelude.{ℕ, ◌≡◌, [], ◌∷◌, ◌++◌, slice_get, Option, Some, None}
 use Rattle.iox_lanes_machine.specs.QueuesSteps.Access.{successor}
 use Rattle.iox_lanes_machine.specs.QueuesSteps.declared.schedule.Stepped.{Stepped}
@@ -12,36 +12,36 @@ use Rattle.iox_lanes_machine.specs.LanesParties.declared.call.Party.{Party}
 use Rattle.iox_lanes_machine.specs.LanesParties.declared.call.Party.TheVariants.{Publisher, Subscriber}
 use Rattle.iox_lanes_machine.specs.World.{World}
 
--- a call that was asked for, and the moment of its begin
+-- A call that was asked for, and the moment of its beginning.
 pub record BegunCall : Type 0 where
   pub call : CallName
   pub first : ℕ
 
--- such a call
+-- The record of this call and moment.
 abbrev pub begun : CallName → ℕ → BegunCall
 begun call first = record { call = call; first = first }
 
--- the call that a publisher began last
+-- The call that a publisher began last.
 abbrev pub publisher_call : Option PublisherLaneState → Option BegunCall
 publisher_call None = None
 publisher_call (Some lane) = Some (begun lane.call lane.first)
 
--- the call that a subscriber began last
+-- The call that a subscriber began last.
 abbrev pub subscriber_call : Option SubscriberLaneState → Option BegunCall
 subscriber_call None = None
 subscriber_call (Some lane) = Some (begun lane.call lane.first)
 
--- the call that a party began last
+-- The call that a party began last.
 abbrev pub call_of : World → Party → Option BegunCall
 call_of m (Publisher place) = publisher_call (slice_get m.publishers place)
 call_of m (Subscriber place) = subscriber_call (slice_get m.subscribers place)
 
--- the call that the party begins is the one that was asked for, and its first moment is now; a step inside a call leaves it the same
+-- The call that the party begins is the one that was asked for, and its first moment is now; a step inside a call doesn't change it.
 abbrev pub CallTold : World → Party → Move → World → Type 0
 CallTold m party (Begin c) n = call_of n party ≡ Some (begun (name_of c) m.moments)
 CallTold m party GoOn n = call_of n party ≡ call_of m party
 
--- one call more ended: the one that the party began last, at the moment that is now
+-- One call more ended: the one that the party began last, at the present moment.
 pub record EndTold (m : World) (party : Party) (n : World) : Type 0 where
   pub call : FinishedCall
   pub more : n.finished ≡ m.finished ++ call ∷ []
@@ -49,7 +49,7 @@ pub record EndTold (m : World) (party : Party) (n : World) : Type 0 where
   pub of : call_of m party ≡ Some (begun call.call call.first)
   pub last : call.last ≡ m.moments
 
--- what a step tells; the moments are counted by the steps that were made
+-- What a step reports; moments count the steps that were made.
 abbrev pub Told : World → Party → Move → Stepped → World → Type 0
 Told m party step stepped.Went n = CallTold m party step n × (n.moments ≡ successor m.moments) × (n.finished ≡ m.finished)
 Told m party step stepped.Finished n = CallTold m party step n × (n.moments ≡ successor m.moments) × EndTold m party n

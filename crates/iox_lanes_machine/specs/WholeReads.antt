@@ -1,4 +1,4 @@
--- A read gives what its slot held when its message was sent, whatever steps lie between.
+-- A read returns what its slot contained when its message was sent, whatever steps were made in between.
 use Rattle.std.specs.Prelude.{ℕ, ◌≡◌, ◌+◌, ◌<◌, ◌≤◌, ◌^◌, ◌⊎◌, true, false, List, [], ◌∷◌, ◌++◌, length, get_or}
 use Rattle.iox_lanes_machine.specs.QueuesSteps.declared.schedule.Stepped.{Stepped}
 use Rattle.iox_lanes_machine.specs.LanesBase.Table.{held_by}
@@ -20,7 +20,7 @@ use Rattle.iox_lanes_machine.specs.World.{World, fits, happens, StepsTo, RunsTo}
 use Rattle.iox_lanes_machine.specs.declared.found.Found.{Found}
 use Rattle.iox_lanes_machine.specs.declared.sizes.LaneSizes.{LaneSizes}
 
--- lanes that were made, what they found before their first step, and where some steps brought them
+-- Lanes that were made, found something before their first step, and came here by steps.
 pub record CameTo (m : World) : Type 0 where
   pub sizes : LaneSizes
   pub some : 0 < sizes.buffer
@@ -33,16 +33,16 @@ pub record CameTo (m : World) : Type 0 where
   pub made : ℕ
   pub runs : RunsTo begun schedule made m
 
--- However a step is answered, lanes that were made and led somewhere are led by it to where it leaves them.
+-- Lanes that were made and came somewhere by steps (`CameTo`) are such lanes after a step, however it is answered.
 abbrev pub StepsComeOn : Type 0
 StepsComeOn = (m : World) → CameTo m → (party : Party) (step : Move) (answer : Stepped) (n : World) → StepsTo m party step answer n
     → CameTo n
 
--- So does a list of entries, however many of them were made.
+-- Lanes that were made and came somewhere by steps (`CameTo`) are such lanes after a list of entries, however many of them were made.
 abbrev pub RunsComeOn : Type 0
 RunsComeOn = (m : World) → CameTo m → (entries : List Entry) (made : ℕ) (n : World) → RunsTo m entries made n → CameTo n
 
--- a list of steps leads from one place to another, and before each of them the slot stands in a history or at a connection
+-- The entries lead from one state to the other, and before each of them the slot is in a history or at a connection.
 abbrev pub UsedThrough : ℕ → World → List Entry → World → Type 0
 UsedThrough slot m [] n = n ≡ m
 UsedThrough slot m (entry ∷ entries) n =
@@ -50,8 +50,8 @@ UsedThrough slot m (entry ∷ entries) n =
     × (((fits m entry.party entry.step ≡ false) × UsedThrough slot m entries n)
     ⊎ ((fits m entry.party entry.step ≡ true) × UsedThrough slot (happens m entry.party entry.step) entries n))
 
--- However lanes came to where they are, and whatever steps follow: if the slot has a use before each of them, then a read of it
--- that ends behind them gives just the words that the slot held at first. So it is as long as at most 2^63 steps were made.
+-- For lanes that came somewhere by steps, and whatever steps follow: if the slot has a use before each of them, a read of it that ends
+-- after them returns exactly the words that the slot had at first. It holds as long as at most 2^63 steps were made.
 abbrev pub ReadsGiveWhatStood : Type 0
 ReadsGiveWhatStood = (m : World) → CameTo m → (slot : ℕ) (entries : List Entry) (n : World) → UsedThrough slot m entries n
     → n.moments ≤ 2 ^ 63
@@ -59,7 +59,7 @@ ReadsGiveWhatStood = (m : World) → CameTo m → (slot : ℕ) (entries : List E
     → (happens n party step).finished ≡ n.finished ++ call ∷ [] → call.call ≡ name.Read slot
     → (happens n party step).read ≡ n.read ++ slot_held m.table slot
 
--- a list of steps leads from one place to another, and none of them that is made may change this word
+-- The entries lead from one state to the other, and none of them that is made may change this word.
 abbrev pub UntouchedThrough : SharedWord → World → List Entry → World → Type 0
 UntouchedThrough word m [] n = n ≡ m
 UntouchedThrough word m (entry ∷ entries) n =
@@ -67,9 +67,9 @@ UntouchedThrough word m (entry ∷ entries) n =
     ⊎ ((fits m entry.party entry.step ≡ true) × (MayChange (access_of m entry.party entry.step) word → ⊥)
     × UntouchedThrough word (happens m entry.party entry.step) entries n)
 
--- However lanes came to where they are, and whatever steps follow of which none may change a word of a slot: a read of the slot
--- that ends behind them gives, at the place of this word, just what it held at first, be it of the header, the user header or the
--- payload. So it is as long as at most 2^63 steps were made.
+-- For lanes that came somewhere by steps, and whatever steps follow, of which none may change a word of a slot: a read of the slot that
+-- ends after them returns, at the place of this word, exactly its value at first, be it a word of the header, the user header or the
+-- payload. It holds as long as at most 2^63 steps were made.
 abbrev pub ReadsGiveWhatWasStored : Type 0
 ReadsGiveWhatWasStored = (m : World) → CameTo m → (slot place : ℕ) → place < width m.table.sizes
     → (entries : List Entry) (n : World) → UntouchedThrough (Slot slot (word_at (extent_of m.table.sizes) place)) m entries n

@@ -32,8 +32,8 @@ use Rattle.iox_lanes_machine.specs.LanesParties.declared.call.Party.TheVariants.
 use Rattle.iox_lanes_machine.specs.Rings.{sent_word, ring_in, push_on}
 use Rattle.iox_lanes_machine.specs.Links.{LinkState}
 
--- The shared words, the links that the connections are, the parties, for each connection the order of its puts, takes and looks,
--- how many steps were made, the calls that ended, and the words that all finished reads loaded, one read after the other.
+-- The state of lanes: the shared words, the links of the connections, the parties, for each connection the order of its puts, takes and
+-- looks, how many steps were made, the calls that ended, and the words that all finished reads loaded, one read after the other.
 pub record World : Type 0 where
   pub table : TableWords
   pub links : List LinkState
@@ -44,58 +44,58 @@ pub record World : Type 0 where
   pub finished : List FinishedCall
   pub read : List ℕ
 
--- what fits a publisher; one that is not there does nothing
+-- Whether there is a publisher, and it may make this move.
 abbrev pub publisher_fits_at : Option PublisherLaneState → Move → Bool
 publisher_fits_at None step = false
 publisher_fits_at (Some lane) step = publisher_fits lane step
 
--- what fits a subscriber; one that is not there does nothing
+-- Whether there is a subscriber, and it may make this move.
 abbrev pub subscriber_fits_at : Option SubscriberLaneState → Move → Bool
 subscriber_fits_at None step = false
 subscriber_fits_at (Some lane) step = subscriber_fits lane step
 
--- the party is there, and what it is to do fits
+-- Whether the party exists, and may make this move.
 abbrev pub fits : World → Party → Move → Bool
 fits m (Publisher place) step = publisher_fits_at (slice_get m.publishers place) step
 fits m (Subscriber place) step = subscriber_fits_at (slice_get m.subscribers place) step
 
--- the next step of a publisher is the last of its call
+-- Whether there is a publisher, and its next step is the last one of its call.
 abbrev pub publisher_ends_at : Option PublisherLaneState → Bool
 publisher_ends_at None = false
 publisher_ends_at (Some lane) = publisher_is_over lane.port.call
 
--- the next step of a subscriber is the last of its call
+-- Whether there is a subscriber, and its next step is the last one of its call.
 abbrev pub subscriber_ends_at : Option SubscriberLaneState → Bool
 subscriber_ends_at None = false
 subscriber_ends_at (Some lane) = subscriber_is_over lane.port.call
 
--- the next step of a party is the last of its call
+-- Whether the party exists, and its next step is the last one of its call.
 abbrev pub party_ends : World → Party → Bool
 party_ends m (Publisher place) = publisher_ends_at (slice_get m.publishers place)
 party_ends m (Subscriber place) = subscriber_ends_at (slice_get m.subscribers place)
 
--- the step is the last of its call
+-- Whether the move is the last step of a call.
 abbrev pub ends : World → Party → Move → Bool
 ends m party (Begin call) = false
 ends m party GoOn = party_ends m party
 
--- the words of a subscriber's read whose next step is its last
+-- The words of a subscriber's read whose next step is its last one; otherwise none.
 abbrev pub words_ending_at : Option SubscriberLaneState → List ℕ
 words_ending_at None = []
 words_ending_at (Some lane) = words_read lane.port.call lane.port.words
 
--- the words of a read whose next step is its last
+-- The words of a party's read whose next step is its last one; otherwise none.
 abbrev pub words_ending : World → Party → List ℕ
 words_ending m (Publisher place) = []
 words_ending m (Subscriber place) = words_ending_at (slice_get m.subscribers place)
 
--- the record of a call that ended
+-- The record of a call that ended, if it has an answer.
 abbrev pub ended : Party → CallName → ℕ → ℕ → Option Answer → List FinishedCall
 ended party call first last None = []
 ended party call first last (Some answer) =
     record { party = party; call = call; answer = answer; first = first; last = last } ∷ []
 
--- a publisher begins a call
+-- The lanes after this publisher began a call, if there is one.
 abbrev pub publisher_begins : World → ℕ → Call → Option PublisherLaneState → World
 publisher_begins m place call None = m
 publisher_begins m place call (Some lane) = record m {
@@ -103,7 +103,7 @@ publisher_begins m place call (Some lane) = record m {
   moments = successor m.moments;
 }
 
--- a subscriber begins a call
+-- The lanes after this subscriber began a call, if there is one.
 abbrev pub subscriber_begins : World → ℕ → Call → Option SubscriberLaneState → World
 subscriber_begins m place call None = m
 subscriber_begins m place call (Some lane) = record m {
@@ -111,20 +111,20 @@ subscriber_begins m place call (Some lane) = record m {
   moments = successor m.moments;
 }
 
--- what a publisher's next access is answered
+-- The answer of a publisher's next access.
 abbrev pub publisher_given : TableWords → PublisherLaneState → ℕ
 publisher_given table lane = shared_answer table (publisher_next lane.port.call)
 
--- what a subscriber's next access is answered
+-- The answer of a subscriber's next access.
 abbrev pub subscriber_given : TableWords → SubscriberLaneState → ℕ
 subscriber_given table lane = shared_answer table (subscriber_next lane.port.call)
 
--- what a publisher's call answers if its next step is its last
+-- The answer of a publisher's call, if its next step is its last one.
 abbrev pub publisher_ending : TableWords → PublisherLaneState → Option Answer
 publisher_ending table lane =
     publisher_answer lane.fails lane.port.call (publisher_after (publisher_given table lane) lane).port.book.answer
 
--- a publisher makes its next access, and takes what that is answered
+-- The lanes after this publisher, if there is one, made its next access and took the answer.
 abbrev pub publisher_goes_on : World → ℕ → Option PublisherLaneState → World
 publisher_goes_on m place None = m
 publisher_goes_on m place (Some lane) = record m {
@@ -134,7 +134,7 @@ publisher_goes_on m place (Some lane) = record m {
   moments = successor m.moments;
 }
 
--- a subscriber makes its next access, and takes what that is answered
+-- The lanes after this subscriber, if there is one, made its next access and took the answer.
 abbrev pub subscriber_goes_on : World → ℕ → Option SubscriberLaneState → World
 subscriber_goes_on m place None = m
 subscriber_goes_on m place (Some lane) = record m {
@@ -145,26 +145,26 @@ subscriber_goes_on m place (Some lane) = record m {
   moments = successor m.moments;
 }
 
--- where a publisher's call stands; one that is not there makes none
+-- The stage of a publisher's call; idle if there is no publisher.
 abbrev pub publisher_stage : Option PublisherLaneState → PublisherCall
 publisher_stage None = publishing.Idle
 publisher_stage (Some lane) = lane.port.call
 
--- where a subscriber's call stands; one that is not there makes none
+-- The stage of a subscriber's call; idle if there is no subscriber.
 abbrev pub subscriber_stage : Option SubscriberLaneState → SubscriberCall
 subscriber_stage None = subscribing.Idle
 subscriber_stage (Some lane) = lane.port.call
 
--- where the call of a link's publisher stands
+-- The stage of the call of a link's publisher.
 abbrev pub sender_stage : World → Option LinkState → PublisherCall
 sender_stage m None = publishing.Idle
 sender_stage m (Some link) = publisher_stage (slice_get m.publishers link.publisher)
 
--- the push that stands at a connection
+-- The push that is under way at a connection.
 abbrev pub push_at : World → ℕ → RingKind → Push
 push_at m connection kind = push_on connection kind (sender_stage m (slice_get m.links connection))
 
--- the connection where a publisher pushes
+-- The connection to which a publisher pushes, if it does.
 abbrev pub pushes_to : PublisherCall → Option ℕ
 pushes_to publishing.Idle = None
 pushes_to (publishing.LoanReclaims place route pop) = None
@@ -178,7 +178,7 @@ pushes_to (publishing.Pushing slot place route push delivery) = Some route.conne
 pushes_to (publishing.Sent slot delivery) = None
 pushes_to (publishing.Dropping slot) = None
 
--- the connection where a subscriber pops or looks
+-- The connection from which a subscriber pops, or where it looks, if it does.
 abbrev pub pops_from : SubscriberCall → Option ℕ
 pops_from subscribing.Idle = None
 pops_from (subscribing.Receiving place route pop waits) = Some route.connection
@@ -188,7 +188,7 @@ pops_from (subscribing.WasRead slot) = None
 pops_from (subscribing.Releasing place route push) = None
 pops_from (subscribing.Released done) = None
 
--- the put that stands at the next step of a publisher
+-- The puts that the next step of a publisher adds to an order.
 abbrev pub push_acts : TableWords → PublisherCall → List Act
 push_acts table publishing.Idle = []
 push_acts table (publishing.LoanReclaims place route pop) = []
@@ -203,7 +203,7 @@ push_acts table (publishing.Pushing slot place route push delivery) =
 push_acts table (publishing.Sent slot delivery) = []
 push_acts table (publishing.Dropping slot) = []
 
--- the take or look that stands at the next step of a subscriber, and behind it the put that waited for that step
+-- The take or look that the next step of a subscriber adds to an order, followed by the put that waited for that step.
 abbrev pub pop_acts : World → SubscriberCall → List Act
 pop_acts m subscribing.Idle = []
 pop_acts m (subscribing.Receiving place route pop waits) =
@@ -214,56 +214,56 @@ pop_acts m (subscribing.WasRead slot) = []
 pop_acts m (subscribing.Releasing place route push) = []
 pop_acts m (subscribing.Released done) = []
 
--- the connection where a party pushes, pops or looks
+-- The connection to which a party pushes, from which it pops, or where it looks, if it does.
 abbrev pub connection_at : World → Party → Option ℕ
 connection_at m (Publisher place) = pushes_to (publisher_stage (slice_get m.publishers place))
 connection_at m (Subscriber place) = pops_from (subscriber_stage (slice_get m.subscribers place))
 
--- what stands at the next step of a party
+-- What the next step of a party adds to an order.
 abbrev pub acts_at : World → Party → List Act
 acts_at m (Publisher place) = push_acts m.table (publisher_stage (slice_get m.publishers place))
 acts_at m (Subscriber place) = pop_acts m (subscriber_stage (slice_get m.subscribers place))
 
--- acts stand behind an order
+-- The orders after these acts were added to the order of this connection, if there is one.
 abbrev pub added_to : List (List Placed) → ℕ → ℕ → List Act → Option (List Placed) → List (List Placed)
 added_to orders connection moment acts None = orders
 added_to orders connection moment acts (Some order) = set orders connection (order ++ at moment acts)
 
--- acts stand behind the order of a connection, if there is one
+-- The orders after these acts were added to the order of the connection, if there is one.
 abbrev pub added : List (List Placed) → Option ℕ → ℕ → List Act → List (List Placed)
 added orders None moment acts = orders
 added orders (Some connection) moment acts = added_to orders connection moment acts (slice_get orders connection)
 
--- what stands at the next step of a party is in the order
+-- The lanes after the acts of the party's next step were added to the order.
 abbrev pub placed : World → Party → World
 placed m party = record m { orders = added m.orders (connection_at m party) m.moments (acts_at m party) }
 
--- a party makes its next access
+-- The lanes after a party made its next access.
 abbrev pub goes_on : World → Party → World
 goes_on m (Publisher place) = publisher_goes_on m place (slice_get m.publishers place)
 goes_on m (Subscriber place) = subscriber_goes_on m place (slice_get m.subscribers place)
 
--- the lanes after a step that fits
+-- The lanes after a step that fits.
 abbrev pub happens : World → Party → Move → World
 happens m (Publisher place) (Begin call) = publisher_begins m place call (slice_get m.publishers place)
 happens m (Subscriber place) (Begin call) = subscriber_begins m place call (slice_get m.subscribers place)
 happens m (Publisher place) GoOn = goes_on (placed m (Publisher place)) (Publisher place)
 happens m (Subscriber place) GoOn = goes_on (placed m (Subscriber place)) (Subscriber place)
 
--- something is recorded: a call ends, or an act stands at the step
+-- The step records something: a call ends, or an act is added to an order.
 abbrev pub Records : World → Party → Move → Type 0
 Records m party (Begin call) = ⊥
 Records m party GoOn = (party_ends m party ≡ true) ⊎ (0 < length (acts_at m party))
 
--- what a step answers, and what it leaves: memory is wanting only where something is recorded
+-- What a step answers, and what it leaves; it may lack memory only where something is recorded.
 abbrev pub StepsTo : World → Party → Move → Stepped → World → Type 0
 StepsTo m party step stepped.Went n = (fits m party step ≡ true) × (ends m party step ≡ false) × (n ≡ happens m party step)
 StepsTo m party step stepped.Finished n = (fits m party step ≡ true) × (ends m party step ≡ true) × (n ≡ happens m party step)
 StepsTo m party step stepped.Skipped n = (fits m party step ≡ false) × (n ≡ m)
 StepsTo m party step stepped.NoMemory n = (fits m party step ≡ true) × Records m party step × (n ≡ m)
 
--- A list of entries, of which `made` were made, one after the other. One that doesn't fit is left out, and so is one that finds
--- no memory for what it records.
+-- The lanes after a list of entries, of which `made` were made, one after the other. An entry that doesn't fit is skipped, and so is one
+-- that finds no memory for what it records.
 abbrev pub RunsTo : World → List Entry → ℕ → World → Type 0
 RunsTo m [] made n = (made ≡ 0) × (n ≡ m)
 RunsTo m (entry ∷ entries) made n =

@@ -24,7 +24,8 @@ use iox_queues_steps::Word;
 use iox_queues_steps::rings::RingKind;
 use std::alloc::AllocError;
 
-/// What lanes find before their first step. A connection goes by its publisher and its place there, a slot by its number in the service.
+/// What lanes find before their first step. A connection is identified by its publisher and its place there, a slot by its number in the
+/// service.
 #[derive(Clone, Copy)]
 pub enum Found {
     /// A message waits at a connection, behind those found there before.
@@ -33,7 +34,7 @@ pub enum Found {
         place: u64,
         slot: u64,
     },
-    /// A sample was given back at a connection, behind those found there before.
+    /// A sample is in the completion ring of a connection, behind those found there before.
     GivenBack {
         publisher: usize,
         place: u64,
@@ -44,26 +45,26 @@ pub enum Found {
         publisher: usize,
         slot: u64,
     },
-    /// A word of a slot holds this.
+    /// A word of a slot has this value.
     Held {
         slot: u64,
         word: SlotWord,
         value: u64,
     },
-    /// So many messages may wait at a connection at which nothing was found yet.
+    /// At most `messages` messages may wait at a connection at which nothing was found yet.
     Buffer {
         publisher: usize,
         place: u64,
         messages: u64,
     },
-    /// A publisher of which nothing was found yet has just its first slots, and so many of its loans may be out.
+    /// A publisher of which nothing was found yet has only its first `slots` slots, and at most `most_loans` of its loans may be out.
     Slots {
         publisher: usize,
         slots: u64,
         most_loans: u64,
     },
-    /// The headers of a publisher's messages say this node and this publisher, its sends fail at a full mailbox or don't, and its next
-    /// message gets the number behind `last`; None where messages have no numbers.
+    /// The headers of a publisher's messages name this node and this publisher, its sends fail at a full mailbox or don't, and its last
+    /// sequence number is `last`, after which its next message's comes; None where messages have none.
     Sender {
         publisher: usize,
         node_id: u64,
@@ -71,7 +72,7 @@ pub enum Found {
         fails: bool,
         last: Option<u64>,
     },
-    /// The connections at two places of a subscriber change places.
+    /// The connections at two places of a subscriber are swapped.
     Swapped {
         subscriber: usize,
         one: u64,
@@ -137,7 +138,7 @@ impl State {
         }
     }
 
-    // Whether a slot may be found to wait at a place of the publisher.
+    // Whether a slot may be found to wait at this place of the publisher.
     fn waits_at(&self, lane: &PublisherLane, place: u64, slot: u64) -> bool
         requires { IsWithin (world_of self.now) }
         ensures { result ≡ waits_at (world_of self.now) place slot lane.now (slice_get lane.now.port.routes place) }
@@ -159,7 +160,7 @@ impl State {
         }
     }
 
-    // Whether a slot may be found given back at a place of the publisher.
+    // Whether a slot may be found in the completion ring at this place of the publisher.
     fn back_at(&self, lane: &PublisherLane, place: u64, slot: u64) -> bool
         requires { IsWithin (world_of self.now) }
         ensures { result ≡ back_at (world_of self.now) place slot lane.now (slice_get lane.now.port.routes place) }
@@ -214,7 +215,7 @@ impl State {
         }
     }
 
-    // The connection of a number, if there is one.
+    // The connection with this number, if there is one.
     fn link(&self, connection: u64) -> Option<&Link>
         ensures { option_copied result ≡ slice_get self.now.links.items connection }
     {
@@ -257,7 +258,7 @@ impl State {
         }
     }
 
-    /// This is found. An allocation fails only where a message waits.
+    /// Takes in what was found. An allocation may fail only where a message waits.
     pub(crate) fn find(&mut self, found: Found) -> Result<(), AllocError>
         requires fits { finds_now (world_of self.old) found ≡ true }
         requires within { IsWithin (world_of self.old) }
@@ -448,7 +449,7 @@ impl State {
         }
     }
 
-    // A subscriber, if it is there, knows a connection anew.
+    // Replaces the connection with this one's number in what a subscriber knows, if there is such a subscriber.
     fn subscriber_meets(&mut self, subscriber: u64, route: Route)
         ensures { world_of self.new
             ≡ record (world_of self.old) {
@@ -461,7 +462,7 @@ impl State {
     }
 }
 
-// How many samples were found given back at a connection.
+// How many samples were found in the completion ring of a connection.
 fn back_found(table: &WordTable, connection: u64) -> u64
     requires { connection < table.now.sizes.connections }
     ensures { result ≡ back_found table.now connection }
@@ -473,7 +474,7 @@ fn back_found(table: &WordTable, connection: u64) -> u64
     })
 }
 
-// Whether a connection takes one more.
+// Whether a connection takes one slot more.
 fn has_place(table: &WordTable, connection: u64, link: &Link) -> bool
     requires { connection < table.now.sizes.connections }
     ensures { result ≡ nat_lt (length link.now.found) (table.now.sizes.completion_cells - back_found table.now connection) }
@@ -482,7 +483,7 @@ fn has_place(table: &WordTable, connection: u64, link: &Link) -> bool
     (link.found().len() as u64) < table.sizes().completion_cells.saturating_sub(back)
 }
 
-// Lays a slot into a cell of a ring, and moves the write position behind it.
+// Stores a slot in a cell of a ring, and the write position after it.
 fn lay(table: &mut WordTable, connection: u64, ring: ConnectionRing, cell: u64, slot: u64)
     requires { IsWord table.old.sizes (SharedWord.Ring connection ring (Word.Cell cell)) }
     ensures { table.new ≡ laid table.old connection ring cell slot }
@@ -512,7 +513,7 @@ fn has_word(sizes: TableSizes, word: SlotWord) -> bool
     }
 }
 
-// Whether a connection may have a buffer of so many messages.
+// Whether a connection may have a buffer of this many messages.
 fn takes_buffer(table: &WordTable, connection: u64, messages: u64, link: &Link) -> bool
     requires { connection < table.now.sizes.connections }
     ensures { result ≡ takes_buffer table.now connection messages link.now }
@@ -523,7 +524,7 @@ fn takes_buffer(table: &WordTable, connection: u64, messages: u64, link: &Link) 
         && back_found(table, connection) == 0
 }
 
-// A connection with a buffer of so many messages, as its ends know it.
+// The connection as its ends know it, with a buffer of this many messages.
 fn with_buffer(messages: u64, route: Route) -> Route
     requires { cells_of route.kind messages ≤ route.submission_cells }
     ensures { result ≡ with_buffer messages route }
@@ -537,7 +538,7 @@ fn with_buffer(messages: u64, route: Route) -> Route
     }
 }
 
-// How many cells the ring of a buffer has.
+// How many cells the submission ring needs for a buffer of this many messages.
 pub(crate) fn cells(kind: RingKind, limit: u64) -> u64
     requires { cells_of kind limit < 2 ^ 64 }
     ensures { result ≡ cells_of kind limit }

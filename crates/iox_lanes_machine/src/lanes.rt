@@ -1,4 +1,4 @@
-//! Publishers and subscribers of one service that go one shared word at a time.
+//! Publishers and subscribers of one service that make their calls one access to a shared word at a time.
 ghost use Rattle.std.specs.Prelude.{◌≡◌, ◌<◌, [], true, false, IfOk, OnErr, get_or, length};
 
 use crate::found::Found;
@@ -10,15 +10,15 @@ use iox_queues_steps::{Placed, Stepped};
 use std::alloc::{AllocError, Global};
 use std::marker::Model;
 
-/// Any number of publishers and subscribers of one service, and the words that they share. They go one step at a time, in any
-/// order that the caller wants, and any of them may stop anywhere.
+/// Any number of publishers and subscribers of one service, and the words that they share. They make one step at a time, in any order that
+/// the caller chooses, and any of them may stop anywhere.
 ///
-/// A port's own data stand still but at its own steps, and each step touches at most one shared word. This port's own.
+/// A port's own data change only by its own steps, and each step touches at most one shared word. Not in `iceoryx2`.
 pub struct LaneMachine {
     pub(crate) state: State,
 }
 
-/// Said here once, so that no crate above proves it anew.
+/// Writes the drop out once, so that no crate above proves it anew.
 impl Drop for LaneMachine {
     fn drop(self) {
         let LaneMachine { state: _ } = self;
@@ -41,7 +41,7 @@ impl Model for LaneMachine {
 impl LaneMachine {
     ghost use Rattle.iox_lanes_machine.specs.State.{world_of};
 
-    // What they are made of.
+    // The state that the lanes consist of.
     pub(crate) fn into_state(self) -> State
         ensures { world_of result ≡ self }
     {
@@ -73,9 +73,9 @@ impl LaneMachine {
     ghost use Rattle.iox_lanes_machine.specs.Told.{Told};
     ghost use Rattle.iox_lanes_machine.specs.Mailboxes.{OrderFollows, OrdersFollow, PositionsNear, positions_of};
 
-    /// Lanes of these sizes, on which nothing was done yet: each publisher has a connection to each subscriber, numbered
-    /// publisher by publisher. It fails only where an allocation fails; no memory has room for buffers of 2^61 messages, for the
-    /// rings of as many samples given back, or for as many subscribers.
+    /// Lanes of these sizes, on which nothing was done yet. Each publisher has a connection to each subscriber, numbered publisher by
+    /// publisher. `AllocError` is returned only where an allocation fails; memory can't contain buffers of 2^61 messages, completion rings
+    /// for as many samples, or as many subscribers.
     pub fn new(alloc: Global, sizes: LaneSizes) -> Result<LaneMachine, AllocError>
         requires { 0 < sizes.buffer }
         ensures { IfOk result (λ made. made ≡ start sizes) }
@@ -96,19 +96,25 @@ impl LaneMachine {
         Ok(LaneMachine { state })
     }
 
-    /// This is found before the first step: a message that waits, a sample that was given back, the newest of a history, what a
-    /// word of a slot holds, the buffer of a connection, how many slots and loans a publisher has, what the headers of its
-    /// messages say and whether its sends fail at a full mailbox, or places of a subscriber's connections. Answers whether it was
-    /// taken in; else nothing changes. It is taken in before the first step alone, and only if: of a message or a sample, the
-    /// connection is there and has not the slot yet, which is one of its publisher's; no more messages wait than may, and together
-    /// with the samples given back no more than may be given back; of a history, the slot is the publisher's, does not stand there
-    /// yet, and fewer do than may; of a word, the slot has it; of a buffer, it has room for one message at least and for no more
-    /// than may wait there, where nothing waits and nothing was given back; of slots, the publisher has as many at least, and no
-    /// message, sample or history of it was found; of a sender, the publisher is there; of places, the subscriber has connections
-    /// at both. What was taken in stands behind what was found there before; a buffer is known at both ends from then on, a
-    /// publisher has just its first slots and as many loans out at most as it is said, its messages say the node and publisher of
-    /// their header, its sends fail as it is said, and a subscriber receives by the places of its connections. It fails, and
-    /// nothing changes, only where an allocation fails: for a message that would be taken in.
+    /// Makes the lanes find this before their first step: a waiting message, a sample in a completion ring, the newest message of a
+    /// history, the value of a word of a slot, the buffer size of a connection, how many slots and loans a publisher has, what the headers
+    /// of its messages name and whether its sends fail at a full mailbox, or two places of a subscriber's connections that are swapped.
+    ///
+    /// Returns whether the finding was taken in; otherwise nothing changes. It is taken in only before the first step, and only if
+    /// - the connection of a message or sample exists and doesn't have the slot yet, which is one of its publisher's; no more messages wait
+    ///   than may; and messages and samples together are no more than the completion ring has cells;
+    /// - the newest slot of a history is the publisher's and not yet in the history, which has fewer slots than it may;
+    /// - the slot of a word has this word;
+    /// - a buffer has capacity for at least one message and for no more than may wait there, where nothing waits and no sample is in the
+    ///   completion ring;
+    /// - a publisher has at least as many slots, and no message, sample or history of it was found;
+    /// - the publisher of a sender exists;
+    /// - the subscriber of swapped places has connections at both.
+    ///
+    /// A message, sample or slot of a history comes behind those found there before. From then on, both ends of a connection know its
+    /// buffer size; a publisher has only its first slots and at most this many loans out, its headers name this node and publisher, and its
+    /// sends fail or not as was found; and a subscriber receives in the order of its connections' places. `AllocError` is returned, and
+    /// nothing changes, only where an allocation fails for a message that would be taken in.
     pub fn find(&mut self, found: Found) -> Result<bool, AllocError>
         ensures finds { IfOk result (λ answer. FindsTo self.old found answer self.new) }
         ensures takes { IfOk result (λ answer. TakesIn self.old found answer self.new) }
@@ -122,20 +128,19 @@ impl LaneMachine {
         Ok(true)
     }
 
-    /// Begins a call of a party, or goes on inside one. Answers whether the step was made, and whether it was the last of its
-    /// call; where it doesn't fit, or where it finds no memory for the call that it ends or for what it puts into an order,
-    /// nothing changes. A begin fits between calls, if the call is of the party's kind, and the loan or sample that it names is
-    /// its own and out; a send needs a finished write of its loan. A go on fits inside a call.
+    /// Begins a call of a party, or makes the next step of the call that it is in. Returns whether the step was made, and whether it was
+    /// the last one of its call. Nothing changes if the move doesn't fit, or if there is no memory for the call that ends or for what the
+    /// step adds to an order. A call may begin between calls, if it is of the party's kind, and the loan or sample that it names is the
+    /// party's own and out; a send needs a finished write of its loan. A party goes on only inside a call.
     ///
-    /// No step changes the connections, the sizes of the words, how many publishers and subscribers there are, or of a publisher
-    /// the number of its first slot, how many slots it has, how many of them may be lent at once, and how many its history may
-    /// have.
+    /// No step changes the connections, the sizes of the words, how many publishers and subscribers there are, or, for any publisher, the
+    /// number of its first slot, how many slots it has, how many loans may be out, and its history size.
     ///
-    /// As long as at most 2^63 steps were made: a loan stands in no history and at no connection; no step changes a word of a
-    /// slot that does; a write and a send leave in their slot what they were given; and a read gives just what its slot holds. A
-    /// loan is refused just where as many loans are out as may be, and finds no slot only where each has a use; with fewer out,
-    /// and as many slots as the worst case wants, it gives one. A release gives its sample back, behind those given back before
-    /// it at its connection, and a loan or a send takes them back from the first on.
+    /// As long as at most 2^63 steps were made: a loan is in no history and at no connection; no step changes a word of a slot that is; a
+    /// write and a send leave in their slot what they were given; and a read returns exactly what its slot contains. A loan is refused
+    /// exactly where as many loans are out as may be, and finds no slot only where each is used; with fewer loans out, and as many slots as
+    /// the worst case needs, it gets one. A release puts its sample behind those in the completion ring of its connection, and a loan or a
+    /// send takes samples back from the first on.
     pub fn step(&mut self, party: Party, step: &Move) -> Stepped
         ensures steps { StepsTo self.old party step.now result self.new }
         ensures apart { StaysApart self.old party step.now result self.new }
@@ -159,8 +164,8 @@ impl LaneMachine {
         self.state.step(party, step)
     }
 
-    /// Makes the entries one after the other, and leaves out those that do not fit or find no memory for what they record; these
-    /// change nothing. The answer is how many were made, so how many went or finished. It leaves as it was what no step changes.
+    /// Makes the entries one after the other, and skips those that don't fit or find no memory for what they record; these change nothing.
+    /// Returns how many were made. What no step changes, a run doesn't change either.
     pub fn run(&mut self, schedule: &[Entry]) -> usize
         ensures runs { RunsTo self.old schedule.now result self.new }
         ensures fixed { StaysFixed self.old self.new }
@@ -183,7 +188,7 @@ impl LaneMachine {
         made
     }
 
-    // What all lanes keep.
+    // What holds for all lanes.
     fn follow(&self)
         ensures orders { OrdersFollow self.now }
         ensures receipts { ReceiptsFollow self.now }
@@ -197,16 +202,16 @@ impl LaneMachine {
         let _ = &self.state;
     }
 
-    /// The connections, by their numbers.
+    /// The connections, by number.
     pub fn links(&self) -> &[Link]
         ensures { result.now ≡ self.now.links }
     {
         self.state.links.as_slice()
     }
 
-    /// The puts, takes and looks of a connection, in their order; none of a connection that isn't there. As long as at most 2^63
-    /// steps were made, they answer as the connection's mailbox does, and their moments never fall; so the slots taken are part
-    /// of those put, in the order of the puts, and each put is taken at most once.
+    /// The puts, takes and looks of a connection, in their order; none if there is no such connection. As long as at most 2^63 steps were
+    /// made, they answer as the connection's mailbox does, and their moments never fall. So the slots taken are part of those put, in the
+    /// order of the puts, and each put is taken at most once.
     pub fn order(&self, connection: u64) -> &[Placed]
         ensures value { result.now ≡ get_or self.now.orders connection [] }
         ensures follows { OrderFollows self.now connection result.now }
@@ -215,9 +220,9 @@ impl LaneMachine {
         self.state.order(connection)
     }
 
-    /// The four positions of a connection. As long as at most 2^63 steps were made, no more messages stand between the two of the
-    /// messages than may wait, and at most one more where the ring drops its oldest; and no more samples stand given back and not
-    /// taken back than the ring of these has cells, which is one more than may wait and be borrowed together.
+    /// The four positions of a connection. As long as at most 2^63 steps were made, no more messages are between the two positions of the
+    /// submission ring than may wait, and at most one more on an overflowing ring; and no more samples are between those of the completion
+    /// ring than it has cells, which is one more than may wait and be borrowed together.
     pub fn position(&self, connection: u64) -> Positions
         requires { connection < length self.now.links }
         ensures value { result ≡ positions_of self.now.table connection }
@@ -227,12 +232,11 @@ impl LaneMachine {
         self.state.positions(connection)
     }
 
-    /// The calls that ended, in their order. As long as at most 2^63 steps were made: each was answered in its own kind, and
-    /// those of one party don't overlap; the receives gave just the slots that were taken at each connection, in that order, but
-    /// for the one that a receive has in hand; and each send has one put at each connection of its publisher, of its slot and
-    /// inside it, one connection after the other, and counts how many were taken in and how many refused. At each connection
-    /// these puts stand in the order of the sends; what stands behind them is of the send that the publisher is in. Each release
-    /// gave its sample back.
+    /// The calls that ended, in their order. As long as at most 2^63 steps were made: each has an answer of its own kind, and those of one
+    /// party don't overlap. The receives returned exactly the slots that were taken at each connection, in that order, except the one that
+    /// a receive under way has. Each send has one put of its slot at each connection of its publisher, within the time of the send and one
+    /// connection after the other, and counts how many were taken and how many refused. At each connection these puts are in the order of
+    /// the sends; a put after them is of the send that the publisher is in. Each release returned its sample.
     pub fn finished(&self) -> &[FinishedCall]
         ensures value { result.now ≡ self.now.finished }
         ensures receipts { ReceiptsFollow self.now }
@@ -245,7 +249,7 @@ impl LaneMachine {
         self.state.finished.as_slice()
     }
 
-    /// The words that finished reads loaded, one read after the other: header, user header and payload of each. Each read tells
+    /// The words that finished reads loaded, one read after the other, each with header, user header and payload. The answer of a read says
     /// where its words begin.
     pub fn words_read(&self) -> &[u64]
         ensures value { result.now ≡ self.now.read }

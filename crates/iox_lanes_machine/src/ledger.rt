@@ -1,8 +1,9 @@
-//! What the slots of a publisher are used for, counted.
+//! A theorem that a publisher counts what its slots are used for.
 //!
-//! The law is the contract of a function that does nothing: it is proved of the definitions that the contracts of a publisher's lane name.
+//! The theorem is the contract of a function that does nothing; it is proved of the definitions that the contracts of a publisher's lane
+//! cite.
 //!
-//! A proof cites a law by a call of its function, which does nothing; what it states is then among the facts of the caller:
+//! A proof uses the theorem by calling its function; then the theorem is among the facts that the caller knows:
 //!
 //! ```
 //! changes_keep_count();
@@ -10,7 +11,8 @@
 
 ghost use Rattle.iox_lanes_machine.specs.LedgerUses.{ChangesKeepCount};
 
-/// The uses that a publisher counts of a slot are those that it has: one as a loan, one in the history, one at each connection that has it.
+/// The uses that a publisher counts of a slot are those that the slot has: one as a loan, one in the history, one at each connection that
+/// has it.
 pub fn changes_keep_count()
     ensures { ChangesKeepCount }
 {}

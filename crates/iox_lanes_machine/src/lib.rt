@@ -1,15 +1,15 @@
-//! Publishers and subscribers of one service that go one shared word at a time, in any order.
+//! Publishers and subscribers of one service that make their calls one access to a shared word at a time, in any order.
 //!
 //! - [`link`]: the connections.
 //! - [`found`]: what lanes find before their first step.
-//! - [`ledger`]: what the slots of a publisher are used for, counted.
+//! - [`ledger`]: a theorem on the counts of a publisher's slots.
 //! - [`sizes`]: how many ports there are, and their sizes.
 //! - `made`: the ports as they are made.
 //! - `order`: the order of a connection.
-//! - `placing`: what stands in it at a step.
+//! - `placing`: what a step adds to an order.
 //! - `state`: all ports with their words, and one step.
 //! - [`lanes`]: the lanes as one value.
-//! - [`laws`]: what they do over many steps.
+//! - [`laws`]: theorems on many steps.
 //! - [`waiting`]: what waits at a connection.
 //! - [`parts`]: the lanes taken apart.
 //! - [`resting`]: whether a party is inside a call, or something is out.

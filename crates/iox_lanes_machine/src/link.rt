@@ -5,8 +5,8 @@ use iox_queues_steps::rings::RingKind;
 use std::alloc::AllocError;
 use std::marker::Model;
 
-/// A connection: which publisher sends to which subscriber, by their numbers, what its ring of messages does, and what waited
-/// before the first step.
+/// A connection: the numbers of its publisher and its subscriber, whether its submission ring overflows or refuses, how many messages may
+/// wait, and what waited before the first step.
 #[derive(Drop)]
 pub struct Link {
     pub(crate) publisher: u64,
@@ -45,7 +45,7 @@ impl Link {
         self.subscriber
     }
 
-    /// What its full ring of messages does with one more.
+    /// What its submission ring does with one message more when it is full.
     pub fn kind(&self) -> RingKind
         ensures { result ≡ self.now.kind }
     {
@@ -59,14 +59,14 @@ impl Link {
         self.limit
     }
 
-    // So many messages may wait.
+    // Sets how many messages may wait.
     pub(crate) fn resize(&mut self, messages: u64)
         ensures { self.new ≡ record self.old { limit = messages } }
     {
         self.limit = messages;
     }
 
-    // One message more waited.
+    // Adds a message that waited before the first step.
     pub(crate) fn find(&mut self, slot: u64) -> Result<(), AllocError>
         ensures found { OnOk result (self.new ≡ record self.old { found = self.old.found ++ slot ∷ [] }) }
         ensures same { OnErr result (self.new ≡ self.old) }
@@ -91,8 +91,8 @@ pub struct Positions {
     pub submission_write: u64,
     /// How many messages were taken out, by either end.
     pub submission_read: u64,
-    /// How many samples were given back.
+    /// How many samples were released into the completion ring.
     pub completion_write: u64,
-    /// How many samples were taken back.
+    /// How many samples the publisher took back from it.
     pub completion_read: u64,
 }

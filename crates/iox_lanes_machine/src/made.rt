@@ -16,7 +16,7 @@ use iox_lanes_parties::subscriber::LaneSubscriber;
 use iox_lanes_parties::{Head, PublisherLane, SubscriberLane};
 use std::alloc::{AllocError, Global};
 
-/// The links that the first connections are, and their orders.
+/// The links of the first `count` connections, and their empty orders.
 pub(crate) fn connections(
     alloc: Global,
     sizes: &LaneSizes,
@@ -44,7 +44,7 @@ pub(crate) fn parties(
     Ok((publishers, subscribers))
 }
 
-// The links that the first connections are.
+// The links of the first `count` connections.
 fn links(alloc: Global, sizes: &LaneSizes, count: u64) -> Result<Vec<Link>, AllocError>
     ensures { IfOk result (λ made. made.items ≡ listed (link_at sizes.now) count) }
 {
@@ -59,7 +59,7 @@ fn links(alloc: Global, sizes: &LaneSizes, count: u64) -> Result<Vec<Link>, Allo
     Ok(list)
 }
 
-// The orders of so many connections.
+// The empty orders of `count` connections.
 fn orders(alloc: Global, count: u64) -> Result<Vec<Order>, AllocError>
     ensures { IfOk result (λ made. made.items ≡ listed (λ connection. []) count) }
 {
@@ -123,7 +123,7 @@ fn publisher(
     Ok(PublisherLane::new(port, heads))
 }
 
-// The records of a publisher's slots.
+// The record of a publisher's slots.
 fn slot_book(alloc: Global, sizes: &LaneSizes, place: u64) -> Result<SlotBook, AllocError>
     ensures { IfOk result (λ made. made ≡ new_book (place * sizes.now.slots) sizes.now.slots sizes.now.subscribers
         sizes.now.most_loans sizes.now.history) }
@@ -213,7 +213,7 @@ fn receiving_routes(
     Ok(list)
 }
 
-// The connection of a publisher to a subscriber.
+// The connection between a publisher and a subscriber.
 fn route(
     sizes: &LaneSizes,
     table: &TableSizes,

@@ -23,7 +23,7 @@ impl Model for Order {
 }
 
 impl Order {
-    /// Nothing happened yet.
+    /// The empty order.
     pub(crate) fn new(alloc: Global) -> Order
         ensures { result ≡ [] }
     {
@@ -32,7 +32,7 @@ impl Order {
         }
     }
 
-    /// Puts these behind the others, both or none. It fails only where an allocation fails.
+    /// Adds these behind the others, both or none. It fails only where an allocation fails.
     pub(crate) fn add(
         &mut self,
         moment: u64,

@@ -21,8 +21,8 @@ impl LaneMachine {
         &self.state.table
     }
 
-    /// The publishers, by their numbers. As long as at most 2^63 steps were made, each has slots of its own alone in its history,
-    /// and no more of them than it may.
+    /// The publishers, by number. As long as at most 2^63 steps were made, each has only slots of its own in its history, and no more of
+    /// them than it may.
     pub fn publishers(&self) -> &[PublisherLane]
         ensures value { result.now ≡ self.now.publishers }
         ensures histories { HistoriesAreOwn self.now }
@@ -30,18 +30,18 @@ impl LaneMachine {
         self.state.publishers.as_slice()
     }
 
-    /// The subscribers, by their numbers.
+    /// The subscribers, by number.
     pub fn subscribers(&self) -> &[SubscriberLane]
         ensures { result.now ≡ self.now.subscribers }
     {
         self.state.subscribers.as_slice()
     }
 
-    /// What all lanes are: ports, connections and words are those of one service, and the slots of each publisher lie before
-    /// those of the publishers behind it; each cell of a ring names a slot. As long as at most 2^63 steps were made, no read
-    /// position is beyond its write position, what waits at a connection and what a history has are slots of its publisher, no
-    /// more wait at a connection between calls than may, words, ports and slots hold together, and no connection has more slots than
-    /// its ring of samples given back has cells.
+    /// Theorem on all lanes: ports, connections and words are those of one service, the slots of each publisher come before those of later
+    /// publishers, and each cell of a ring names a slot. As long as at most 2^63 steps were made, no read position is beyond its write
+    /// position; what waits at a connection and what a history has are slots of the publisher; no more wait at a connection between calls
+    /// than may; words, ports and slots agree with each other (`HoldTogether`); and no connection has more slots than its completion ring
+    /// has cells.
     pub fn are_of_one_service(&self)
         ensures within { IsWithin self.now }
         ensures rows { SlotsInRows self.now }
@@ -56,7 +56,7 @@ impl LaneMachine {
         let _ = &self.state;
     }
 
-    /// The publishers and the subscribers; the words and what was told of the lanes are gone.
+    /// The publishers and the subscribers; the words, orders and finished calls are dropped.
     pub fn into_ports(self) -> (Vec<PublisherLane>, Vec<SubscriberLane>)
         ensures { (result.0.items ≡ self.publishers) × (result.1.items ≡ self.subscribers) }
     {

@@ -1,4 +1,4 @@
-//! What stands in the order of a connection at a step.
+//! What a step adds to the order of a connection.
 ghost use Rattle.std.specs.Prelude.{◌≡◌, if◌then◌else◌, [], None};
 ghost use Rattle.std.specs.Option.{option_to_list};
 ghost use Rattle.iox_lanes_machine.specs.QueuesSteps.Ends.{late_put};
@@ -11,7 +11,7 @@ use iox_lanes_base::words::{ConnectionRing, SharedWord, WordTable};
 use iox_queues_steps::rings::{Push, RingKind};
 use iox_queues_steps::{Act, Word};
 
-/// The acts that stand at a step, and the connection of them.
+/// The acts that a step adds to an order, and the connection of that order.
 #[derive(Clone, Copy)]
 pub(crate) struct Placing {
     pub(crate) connection: Option<u64>,
@@ -20,7 +20,7 @@ pub(crate) struct Placing {
 }
 
 impl Placing {
-    /// Nothing stands there.
+    /// Nothing is added.
     pub(crate) fn none() -> Placing
         ensures { result ≡ record { connection = None; first = None; second = None } }
     {
@@ -32,7 +32,7 @@ impl Placing {
     }
 }
 
-/// A position of the ring of messages of a connection.
+/// A position of the submission ring of a connection.
 pub(crate) fn position(table: &WordTable, connection: u64, word: Word) -> u64
     requires { IsWord table.now.sizes (sent_word connection word) }
     ensures { result ≡ held_by table.now (sent_word connection word) }
@@ -44,7 +44,7 @@ pub(crate) fn position(table: &WordTable, connection: u64, word: Word) -> u64
     })
 }
 
-/// The push of a call on a connection; a call that stands elsewhere makes none there.
+/// The push that a call makes on this connection; an idle one if it makes none there.
 pub(crate) fn push_on(connection: u64, kind: RingKind, call: PublisherCall) -> Push
     ensures { result ≡ push_on connection kind call }
 {
@@ -54,7 +54,7 @@ pub(crate) fn push_on(connection: u64, kind: RingKind, call: PublisherCall) -> P
     }
 }
 
-/// The put that waited, where the pop moves the read position.
+/// The put that waited for the pop, if the pop moves the read position.
 pub(crate) fn late_put(push: &Push, read: u64, moves: bool) -> Option<Act>
     ensures { option_to_list result ≡ (if moves then late_put read push.now else []) }
 {

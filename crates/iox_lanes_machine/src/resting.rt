@@ -1,4 +1,4 @@
-//! Lanes whose parties stand between calls, and nothing of theirs out.
+//! Lanes of which no party is inside a call, and no loan or sample is out.
 ghost use Rattle.std.specs.Prelude.{◌≡◌, ◌<◌, ◌≤◌, ◌+◌, ℕ, true, false, IsTrue, ◌↔◌, length, IfSome, IfNone};
 ghost use Rattle.std.specs.List.{All};
 ghost use Rattle.iox_lanes_machine.specs.LanesBase.Publishing.{publisher_is_idle};
@@ -10,32 +10,32 @@ ghost use Rattle.iox_lanes_machine.specs.Resting.{AllBetween, NoneOut, IsUnrest}
 use crate::lanes::LaneMachine;
 use iox_lanes_parties::{Call, Move, PublisherLane, SubscriberLane};
 
-/// Why lanes can't be handed on: what a party is at, or has.
+/// Why lanes can't be handed on: what a party is doing, or holds.
 ///
-/// This port's own.
+/// Not in `iceoryx2`.
 #[derive(Clone, Copy, Debug, PartialEq, Eq)]
 pub enum Unrest {
     /// A publisher or a subscriber is inside a call.
     PartyInCall,
-    /// None is, and a loan is out, or a sample.
+    /// No party is inside a call, but a loan or a sample is out.
     SamplesOut,
 }
 
-// No publisher of these is inside a call.
+// Whether no publisher of these is inside a call.
 fn are_publishers_between(lanes: &[PublisherLane]) -> bool
     ensures { IsTrue result ↔ All (λ lane. publisher_is_idle lane.port.call ≡ true) lanes.now }
 {
     lanes.iter().all(|lane| !lane.fits(&Move::GoOn))
 }
 
-// No subscriber of these is inside a call.
+// Whether no subscriber of these is inside a call.
 fn are_subscribers_between(lanes: &[SubscriberLane]) -> bool
     ensures { IsTrue result ↔ All (λ lane. subscriber_is_idle lane.port.call ≡ true) lanes.now }
 {
     lanes.iter().all(|lane| !lane.fits(&Move::GoOn))
 }
 
-// Whether the publisher has a loan out, of one of so many slots.
+// Whether the publisher has a loan out, among the first `slots` slots.
 fn has_loan(lane: &PublisherLane, slots: u64) -> bool
     requires { publisher_is_idle lane.now.port.call ≡ true }
     ensures none { result ≡ false → (slot : ℕ) → slot < slots → is_out (loan_of slot lane.now.port.book) ≡ false }
@@ -49,7 +49,7 @@ fn has_loan(lane: &PublisherLane, slots: u64) -> bool
     false
 }
 
-// Whether the subscriber has a sample out, of one of so many slots.
+// Whether the subscriber has a sample out, among the first `slots` slots.
 fn has_sample(lane: &SubscriberLane, slots: u64) -> bool
     requires { subscriber_is_idle lane.now.port.call ≡ true }
     ensures none { result ≡ false → (slot : ℕ) → slot < slots → is_borrowed (place_of slot lane.now) ≡ false }
@@ -94,8 +94,8 @@ fn have_samples(lanes: &[SubscriberLane], slots: u64) -> bool
 }
 
 impl LaneMachine {
-    /// Why these lanes can't be handed on, where they can't: a party is inside a call, or none is and a loan or a sample is out.
-    /// None where all parties stand between calls and nothing is out.
+    /// Why these lanes can't be handed on: a party is inside a call (`PartyInCall`), or no party is and a loan or a sample is out
+    /// (`SamplesOut`). None if all parties are between calls and nothing is out.
     pub fn unrest(&self) -> Option<Unrest>
         ensures some { IfSome result (λ unrest. IsUnrest unrest self.now) }
         ensures none { IfNone result (AllBetween self.now × NoneOut self.now) }

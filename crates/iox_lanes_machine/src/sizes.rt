@@ -16,27 +16,27 @@ pub struct LaneSizes {
     pub publishers: u64,
     /// How many subscribers there are.
     pub subscribers: u64,
-    /// What a connection does with a message when as many wait as may.
+    /// What a connection does with one message more when as many wait as may.
     pub kind: RingKind,
-    /// How many messages may wait at a connection; at some it may be fewer, if that is found before the first step.
+    /// How many messages may wait at a connection. A connection may have a smaller buffer, if lanes find it before the first step.
     pub buffer: u64,
     /// How many samples of a connection a subscriber may borrow.
     pub most_borrowed: u64,
     /// How many of its last messages a publisher keeps.
     pub history: u64,
-    /// How many loans a publisher may have out; if that is found before the first step, some may have another number.
+    /// How many loans a publisher may have out. A publisher may have another number, if lanes find it before the first step.
     pub most_loans: u64,
-    /// How many slots a publisher has; some may have fewer, if that is found before the first step.
+    /// How many slots a publisher has. A publisher may have fewer, if lanes find it before the first step.
     pub slots: u64,
-    /// How many words lie between the three of a header and the payload: those of a user header, and before them the number, where
-    /// messages have numbers.
+    /// How many words lie between the three words of the header and the payload: those of a user header, and before them the sequence
+    /// number, where messages have one.
     pub user_header_words: u64,
     /// How many words a payload has.
     pub payload_words: u64,
 }
 
 impl LaneSizes {
-    /// The sizes of the table of all words, where they are numbers of 64 bits.
+    /// The sizes of the table of all words, if the numbers have at most 64 bits.
     pub(crate) fn table(&self) -> Option<TableSizes>
         ensures { IfSome result (λ table. table ≡ table_sizes self.now) }
     {
@@ -71,14 +71,14 @@ impl LaneSizes {
         Some((sent, back))
     }
 
-    // How many cells a ring of samples given back has.
+    // How many cells a completion ring has.
     fn completion_cells(&self) -> Option<u64>
         ensures { IfSome result (λ cells. cells ≡ cells_back self.now) }
     {
         self.buffer.checked_add(self.most_borrowed)?.checked_add(1)
     }
 
-    /// The link that a connection is, if there are subscribers.
+    /// The link of this connection, if there are subscribers.
     pub(crate) fn link(&self, alloc: Global, connection: u64) -> Option<Link>
         ensures { IfSome result (λ link. link ≡ link_at self.now connection) }
     {
@@ -112,7 +112,7 @@ impl LaneSizes {
     }
 }
 
-// How many cells a ring has, if that is a number of 64 bits.
+// How many cells a submission ring needs for this many messages, if that number has at most 64 bits.
 fn cells_of(kind: RingKind, limit: u64) -> Option<u64>
     ensures { IfSome result (λ cells. cells ≡ cells_of kind limit) }
 {

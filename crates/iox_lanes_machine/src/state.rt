@@ -44,7 +44,7 @@ impl State {
     ghost use Rattle.iox_lanes_machine.specs.Made.{start, table_sizes};
     ghost use Rattle.iox_lanes_machine.specs.Mailboxes.{positions_of};
 
-    /// Nothing was done yet.
+    /// The state in which nothing was done yet.
     pub(crate) fn new(
         alloc: Global,
         sizes: &LaneSizes,
@@ -59,7 +59,7 @@ impl State {
         Ok(State::from_parts(alloc, words, connections, parties))
     }
 
-    // These parts, and nothing done yet.
+    // The state with these parts, in which nothing was done yet.
     fn from_parts(
         alloc: Global,
         words: WordTable,
@@ -91,7 +91,7 @@ impl State {
         }
     }
 
-    /// The order of a connection; nothing of one that isn't there.
+    /// The order of a connection; empty if there is no such connection.
     pub(crate) fn order(&self, connection: u64) -> &[Placed]
         ensures { result.now ≡ get_or self.now.orders.items connection [] }
     {
@@ -114,7 +114,7 @@ impl State {
         }
     }
 
-    // A word of the ring of samples given back at a connection.
+    // A word of the completion ring of a connection.
     fn back(&self, connection: u64, word: Word) -> u64
         requires { IsWord self.now.table.sizes (SharedWord.Ring connection ConnectionRing.Completion word) }
         ensures { result ≡ held_by self.now.table (SharedWord.Ring connection ConnectionRing.Completion word) }
@@ -126,14 +126,14 @@ impl State {
         })
     }
 
-    // The publisher at a place, if there is one.
+    // The publisher at this place, if there is one.
     pub(crate) fn publisher(&self, place: usize) -> Option<&PublisherLane>
         ensures { option_copied result ≡ slice_get self.now.publishers.items place }
     {
         self.publishers.get(place)
     }
 
-    // The subscriber at a place, if there is one.
+    // The subscriber at this place, if there is one.
     fn subscriber(&self, place: usize) -> Option<&SubscriberLane>
         ensures { option_copied result ≡ slice_get self.now.subscribers.items place }
     {
@@ -179,7 +179,7 @@ impl State {
         }
     }
 
-    // How many words of a read the step keeps, if it is the last of one.
+    // How many words the step keeps, if it is the last one of a read.
     fn words_ending(&self, party: Party) -> usize
         ensures { result ≡ length (words_ending (world_of self.now) party) }
     {
@@ -192,7 +192,7 @@ impl State {
         }
     }
 
-    // Room for a call that ends, and for the words that it read.
+    // Reserves memory for a call that ends, and for the words that it read.
     fn reserve(&mut self, party: Party) -> Result<(), AllocError>
         ensures same { world_of self.new ≡ world_of self.old }
         ensures call { OnOk result (vec_len self.new.finished < vec_capacity self.new.finished) }
@@ -237,7 +237,7 @@ impl State {
         self.moments = self.moments.saturating_add(1);
     }
 
-    // What stands at the next step of a party.
+    // What the next step of a party adds to an order.
     fn placing(&self, party: Party) -> Placing
         requires { IsWithin (world_of self.now) }
         ensures connection { result.connection ≡ connection_at (world_of self.now) party }
@@ -249,7 +249,7 @@ impl State {
         }
     }
 
-    // What stands at the next step of the publisher at a place.
+    // What the next step of the publisher at this place adds to an order.
     fn publisher_placing(&self, place: usize) -> Placing
         requires { IsWithin (world_of self.now) }
         ensures connection { result.connection ≡ pushes_to (publisher_stage (slice_get self.now.publishers.items place)) }
@@ -262,7 +262,7 @@ impl State {
         }
     }
 
-    // What stands at the next step of the subscriber at a place.
+    // What the next step of the subscriber at this place adds to an order.
     fn subscriber_placing(&self, place: usize) -> Placing
         requires { IsWithin (world_of self.now) }
         ensures connection { result.connection ≡ pops_from (subscriber_stage (slice_get self.now.subscribers.items place)) }
@@ -275,7 +275,7 @@ impl State {
         }
     }
 
-    // What stands at the next step of a publisher.
+    // What the next step of a publisher at this stage adds to an order.
     fn pushed(&self, call: PublisherCall) -> Placing
         requires { StandsInService self.now.table.sizes (pushes_to call) }
         ensures connection { result.connection ≡ pushes_to call }
@@ -294,7 +294,7 @@ impl State {
         }
     }
 
-    // What stands at the next step of a subscriber.
+    // What the next step of a subscriber at this stage adds to an order.
     fn popped(&self, call: SubscriberCall) -> Placing
         requires { StandsInService self.now.table.sizes (pops_from call) }
         ensures connection { result.connection ≡ pops_from call }
@@ -315,14 +315,14 @@ impl State {
         }
     }
 
-    // The push that stands at a connection.
+    // The push that is under way at a connection.
     fn push_at(&self, connection: u64, kind: RingKind) -> Push
         ensures { result ≡ push_at (world_of self.now) connection kind }
     {
         push_on(connection, kind, self.sender_stage(connection))
     }
 
-    // Where the call of a connection's publisher stands.
+    // The stage of the call of a connection's publisher.
     fn sender_stage(&self, connection: u64) -> PublisherCall
         ensures { result ≡ sender_stage (world_of self.now) (slice_get self.now.links.items connection) }
     {
@@ -335,7 +335,7 @@ impl State {
         }
     }
 
-    // Puts what stands at a step into its order.
+    // Adds to an order what a step adds.
     fn place(&mut self, placing: Placing) -> Result<(), AllocError>
         ensures placed { OnOk result
             (world_of self.new ≡ record (world_of self.old) {
@@ -356,7 +356,7 @@ impl State {
         }
     }
 
-    // Puts what stands at the next step of a party into its order.
+    // Adds to an order what the next step of a party adds.
     fn record(&mut self, party: Party) -> Result<(), AllocError>
         requires { IsWithin (world_of self.old) }
         ensures placed { OnOk result (world_of self.new ≡ placed (world_of self.old) party) }
@@ -444,7 +444,7 @@ impl State {
         }
     }
 
-    // One more step inside a call.
+    // One step more inside a call.
     fn step_on(&mut self, party: Party) -> Stepped
         requires within { IsWithin (world_of self.old) }
         requires fits { fits (world_of self.old) party Move.GoOn ≡ true }
@@ -475,7 +475,7 @@ impl State {
         Stepped::Finished
     }
 
-    // A step that is not the last of its call.
+    // A step inside a call that isn't its last one.
     #[tactic(auto, using(crate::proofs::Within::placed_within, crate::proofs::Within::no_words))]
     fn step_between(&mut self, party: Party) -> Stepped
         requires within { IsWithin (world_of self.old) }
@@ -491,7 +491,7 @@ impl State {
     }
 }
 
-// The next access of a publisher, and what its call answers if that ends it.
+// The next access of a publisher. Returns the answer of the call if that ends it.
 fn go_on_publisher(table: &mut WordTable, lane: &mut PublisherLane) -> Option<Answer>
     requires { IsOfTable table.old.sizes (publisher_next lane.old.port.call) }
     ensures table { table.new ≡ after_shared table.old (publisher_next lane.old.port.call) }
@@ -503,7 +503,7 @@ fn go_on_publisher(table: &mut WordTable, lane: &mut PublisherLane) -> Option<An
     lane.go_on(given)
 }
 
-// The next access of a subscriber, and what its call answers if that ends it.
+// The next access of a subscriber. Returns the answer of the call if that ends it.
 fn go_on_subscriber(table: &mut WordTable, lane: &mut SubscriberLane, from: usize) -> Option<Answer>
     requires { IsOfTable table.old.sizes (subscriber_next lane.old.port.call) }
     ensures table { table.new ≡ after_shared table.old (subscriber_next lane.old.port.call) }
@@ -538,7 +538,7 @@ fn end_call(
     }
 }
 
-// Adds words for which there is room.
+// Appends words, for which memory is reserved.
 fn add_reserved(list: &mut Vec<u64>, words: &[u64])
     requires { vec_len list.old + length words.now ≤ vec_capacity list.old }
     ensures { list.new.items ≡ list.old.items ++ words.now }

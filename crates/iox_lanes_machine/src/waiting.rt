@@ -1,4 +1,4 @@
-//! What waits at a connection, read out of its ring.
+//! What waits at a connection, read from its ring.
 ghost use Rattle.std.specs.Prelude.{◌≡◌, ◌+◌, ◌-◌, ◌<◌, ◌≤◌, ◌%◌, length, slice_get, Some};
 ghost use Rattle.iox_lanes_machine.specs.QueuesSteps.Ends.{cells_of};
 ghost use Rattle.iox_lanes_machine.specs.QueuesSteps.declared.access.Word.TheVariants.{Cell};
@@ -18,7 +18,7 @@ use iox_lanes_base::words::{ConnectionRing, SharedWord};
 use iox_queues_steps::Word;
 
 impl State {
-    // What the cell of a position of a connection's ring of messages holds.
+    // The value of the cell of this position in a connection's submission ring.
     #[tactic(auto, using(crate::proofs::Findings::message_words))]
     fn message_at(&self, connection: u64, position: u64) -> u64
         requires within { IsWithin (world_of self.now) }
@@ -39,7 +39,7 @@ impl State {
         })
     }
 
-    // How many messages lie between the two positions of a connection, and no more than may wait.
+    // How many messages are between the two positions of a connection, but at most as many as may wait.
     fn message_count(&self, connection: u64) -> u64
         requires { connection < self.now.table.sizes.connections }
         ensures few { (link : LinkState) → slice_get self.now.links.items connection ≡ Some link → result ≤ link.limit }
@@ -61,10 +61,11 @@ impl State {
 }
 
 impl LaneMachine {
-    /// How many messages wait at a connection: as many as lie between the positions of its ring, and no more than may wait there.
+    /// How many messages wait at a connection: as many as are between the positions of its submission ring, but at most as many as may wait
+    /// there.
     ///
-    /// Where its publisher and its subscriber are between calls, and at most 2^63 steps were made, just these wait there by its
-    /// order. As long as at most 2^63 steps were made, what waits there by its order are slots of its publisher's own.
+    /// If its publisher and its subscriber are between calls, and at most 2^63 steps were made, it is the number of messages that wait
+    /// there by the connection's order. As long as at most 2^63 steps were made, what waits there by its order are slots of its publisher.
     pub fn waiting(&self, connection: u64) -> u64
         requires { connection < length self.now.links }
         ensures few { (link : LinkState) → slice_get self.now.links connection ≡ Some link → result ≤ link.limit }
@@ -74,10 +75,10 @@ impl LaneMachine {
         self.state.message_count(connection)
     }
 
-    /// The slot of the message that waits at this place of a connection, the oldest at 0.
+    /// The slot of the message that waits at this place of a connection; the oldest is at 0.
     ///
-    /// Where its publisher and its subscriber are between calls, and at most 2^63 steps were made, it is the one that waits there
-    /// by its order.
+    /// If its publisher and its subscriber are between calls, and at most 2^63 steps were made, it is the message that waits there by the
+    /// connection's order.
     pub fn waiting_slot(&self, connection: u64, at: u64) -> u64
         requires { connection < length self.now.links }
         ensures { Rests self.now connection → at < length (mail_at self.now connection)

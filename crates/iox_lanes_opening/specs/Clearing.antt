@@ -1,12 +1,12 @@
--- A publisher that forgets its messages.
+-- A publisher of a domain that forgets its messages.
 use Rattle.std.specs.Prelude.{ℕ, ◌≡◌, [], length}
 use Rattle.iox_domain_ports.specs.DomainSlots.Uses.{Uses, connection_at, emptied}
 
--- nothing is borrowed of any connection
+-- Nothing of any connection is borrowed.
 abbrev pub NoneBorrowed : {L X : Type 0} → Uses L X → Type 0
 NoneBorrowed uses = (index : ℕ) → (connection_at index uses).borrowed ≡ []
 
--- Nothing waits at any connection any longer, and the history is empty; all else is as it was.
+-- All mailboxes and the history are empty, and all else is as it was.
 pub record IsCleared {L X : Type 0} (old new : Uses L X) : Type 0 where
   pub same : new ≡ record old { history = []; connections = new.connections }
   pub count : length new.connections ≡ length old.connections

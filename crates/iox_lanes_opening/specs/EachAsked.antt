@@ -1,4 +1,4 @@
--- One thing asked of each publisher.
+-- A question asked of each publisher.
 use Rattle.std.specs.Prelude.{ℕ, Bool}
 use Rattle.iox_domain.specs.DomainPorts.declared.publisher_port.PublisherPort.{PublisherPort}
 use Rattle.iox_domain.specs.PortsPublishing as publishing
@@ -11,7 +11,7 @@ use Rattle.iox_lanes_opening.specs.Soundness.{is_misfit}
 use Rattle.iox_lanes_opening.specs.declared.refusals.each_asked.Question.{Question}
 use Rattle.iox_lanes_opening.specs.declared.refusals.each_asked.Question.TheVariants as asked
 
--- whether the answer to a question is yes for a publisher of these ports
+-- Whether the answer to the question is yes for a publisher of these ports.
 abbrev pub applies : {T U : Type 0} → Question → ServicePorts T U → ℕ × PublisherPort T U → Bool
 applies asked.Blocked ports = λ entry. publishing.is_blocked entry.1
 applies asked.Growing ports = λ entry. may_grow entry.1.allocation

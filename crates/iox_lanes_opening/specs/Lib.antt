@@ -1,4 +1,4 @@
--- What lanes leave.
+-- The definitions that the contracts of refusing and restoring a domain cite.
 pub mod Texts
 pub mod Listed
 pub mod UpToDate

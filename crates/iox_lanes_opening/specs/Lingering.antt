@@ -1,4 +1,4 @@
--- What is still out, and who left and isn't gone.
+-- Loans and samples that are out, and closed ports that aren't gone.
 use Rattle.std.specs.Prelude.{ℕ, ◌||◌, Bool, true, false, not, nat_lt, List, length, get_or, Option, None, Some}
 use Rattle.std.specs.List.{list_any}
 use Rattle.iox_domain.specs.DomainSlots.Uses.{Connection}
@@ -14,48 +14,48 @@ use Rattle.iox_domain.specs.Rolls.{RollState}
 use Rattle.iox_domain.specs.declared.ports.service_ports.ServicePorts.{ServicePorts}
 use Rattle.iox_lanes_opening.specs.Listed.{is_member}
 
--- whether a connection ended that is still there
+-- Whether a connection ended and still exists.
 abbrev pub has_ended : Stage → Bool
 has_ended stage.Vacant = false
 has_ended stage.Live = false
 has_ended stage.Ended = true
 
--- whether a connection ended, and is still there, or a message of it is borrowed
+-- Whether a connection ended and still exists, or a message of it is borrowed.
 abbrev pub connection_lingers : {X : Type 0} → Connection X → Bool
 connection_lingers connection = has_ended connection.stage || nat_lt 0 (length connection.borrowed)
 
--- whether a loan of a publisher is out, or a connection of it lingers
+-- Whether a loan of a publisher is out, or one of its connections ended or has a borrowed message.
 abbrev pub has_out : {T U : Type 0} → PublisherPort T U → Bool
 has_out port = nat_lt 0 (length port.sender.uses.loans) || list_any connection_lingers port.sender.uses.connections
 
--- whether the publisher of a number is on the list, at its place
+-- Whether the publisher with this number is listed at its place.
 abbrev pub is_listed_publisher : {T U : Type 0} → RollState PublisherEntry → ℕ → PublisherPort T U → Bool
 is_listed_publisher list number port = is_member (λ entry. entry.publisher) number (get_or list.places port.place None)
 
--- whether a publisher left, or something of it is out
+-- Whether a publisher is closed or isn't listed at its place, or something of it is out.
 abbrev pub publisher_lingers : {T U : Type 0} → RollState PublisherEntry → ℕ × PublisherPort T U → Bool
 publisher_lingers list entry = not entry.1.stands || (not (is_listed_publisher list entry.0 entry.1) || has_out entry.1)
 
--- whether the publisher of a connection left
+-- Whether this connection of a subscriber comes from a closed publisher.
 abbrev pub leads_nowhere : {T U : Type 0} → List (ℕ × PublisherPort T U) → Option Attached → Bool
 leads_nowhere publishers None = false
 leads_nowhere publishers (Some attached) = not (stands_in attached.publisher publishers)
 
--- whether a subscriber holds a sample, or a connection of it expired or leads to a publisher that left
+-- Whether a subscriber holds a sample, or a connection of it expired or comes from a closed publisher.
 abbrev pub has_left_over : {T U : Type 0} → List (ℕ × PublisherPort T U) → SubscriberPort → Bool
 has_left_over publishers port = nat_lt 0 port.held
     || (nat_lt 0 (length port.expired.items) || list_any (leads_nowhere publishers) port.connections.values)
 
--- whether the subscriber of a number is on the list, at its place
+-- Whether the subscriber with this number is listed at its place.
 abbrev pub is_listed_subscriber : RollState SubscriberEntry → ℕ → SubscriberPort → Bool
 is_listed_subscriber list number port = is_member (λ entry. entry.subscriber) number (get_or list.places port.place None)
 
--- whether a subscriber left, or something is left over of it
+-- Whether a subscriber is closed or isn't listed at its place, or something is left over of it.
 abbrev pub subscriber_lingers : {T U : Type 0} → RollState SubscriberEntry → List (ℕ × PublisherPort T U) → ℕ × SubscriberPort → Bool
 subscriber_lingers list publishers entry = not entry.1.stands
     || (not (is_listed_subscriber list entry.0 entry.1) || has_left_over publishers entry.1)
 
--- A loan or a sample is out, a connection whose publisher left still stands, expired or at its place, or a port that left isn't gone.
+-- A loan or a sample is out, a connection of a closed publisher still exists, expired or at its place, or a closed port isn't gone.
 abbrev pub is_lingering : {T U : Type 0} → ServicePorts T U → Bool
 is_lingering ports = list_any (publisher_lingers ports.publisher_list) ports.publishers
     || list_any (subscriber_lingers ports.subscriber_list ports.publishers) ports.subscribers

@@ -21,17 +21,17 @@ use Rattle.iox_lanes_opening.specs.declared.refusals.into_lanes_error.IntoLanesE
 abbrev pub is_blocked : {T U : Type 0} → ServicePorts T U → Bool
 is_blocked ports = list_any (λ entry. publishing.is_blocked entry.1) ports.publishers
 
--- whether room of this strategy may grow
+-- Whether a capacity with this allocation strategy may grow.
 abbrev pub may_grow : AllocationStrategy → Bool
 may_grow strategy.BestFit = true
 may_grow strategy.PowerOfTwo = true
 may_grow strategy.Static = false
 
--- The room of some publisher may grow.
+-- The capacity of some publisher may grow.
 abbrev pub has_growing : {T U : Type 0} → ServicePorts T U → Bool
 has_growing ports = list_any (λ entry. may_grow entry.1.allocation) ports.publishers
 
--- The first of the reasons that applies; none where none does.
+-- The first of the reasons that applies, or none.
 abbrev pub first_reason : {T U X Y Z : Type 0} {F : X → Type 0} {G : Y → Type 0} {H : Z → Type 0}
     → Domain T U (Handlers X Y F G) (DegradationHandler Z H) → Option IntoLanesError
 first_reason domain =

@@ -8,32 +8,34 @@ use Rattle.iox_lanes_machine.specs.World.{World}
 use Rattle.iox_lanes_opening.specs.Clearing.{NoneBorrowed}
 use Rattle.iox_lanes_opening.specs.Restoring.{IsQuiet, MayWaitAll, MayRememberAll, messages_in}
 
--- nothing of a publisher is out: it sends nothing, lends nothing, and nothing is borrowed of its connections; and it has room for
--- a value in each slot
+-- Nothing of a publisher is out, and it has capacity for a value in each slot: no send is under way, no loan is out, and no message of its
+-- connections is borrowed.
 pub record IsRested {T U : Type 0} (sender : SenderState T U) : Type 0 where
   pub quiet : IsQuiet sender
   pub none : NoneBorrowed sender.uses
 
--- a connection with other messages waiting
+-- The connection with these messages in its mailbox.
 abbrev pub with_waiting : {X : Type 0} → Connection X → List X → Connection X
 with_waiting connection waiting = record connection { waiting = waiting }
 
--- where an index is first among those of a publisher's connections
+-- Where the index is first among the indices of a publisher's connections.
 abbrev pub place_of : ℕ → List ℕ → Option ℕ
 place_of index indices = position (λ it. it == index) indices
 
--- the messages that lanes leave at the connection at a place of a publisher, whose first one is `from`; none at no place
+-- The messages that lanes leave at the connection at this place of a publisher, whose first connection is `from`; none if there is no
+-- place.
 abbrev pub left_at : {T U : Type 0} → (List ℕ → T) → (List ℕ → Option ℕ × U) → World → ℕ → ℕ → Option ℕ → List (Message T U)
 left_at value_of header_of lanes from first None = []
 left_at value_of header_of lanes from first (Some place) = messages_in value_of header_of lanes.table first (mail_at lanes (from + place))
 
--- they may wait at the connection of an index
+-- The messages that lanes leave at this place may wait at the publisher's connection with this index.
 abbrev pub MayWaitAt : {T U : Type 0} → World → ℕ → ℕ → ℕ → SenderState T U → Option ℕ → Type 0
 MayWaitAt lanes from first index sender None = Unit {0}
 MayWaitAt lanes from first index sender (Some place) = MayWaitAll lanes (from + place) first index sender
 
--- Only what waits at connections and the history have changed. What the lanes leave at a connection waits at that of its index,
--- if it may, and nothing at one of which the lanes have none; and the history is that of the lanes, if it may be.
+-- A publisher has what the lanes leave: only its mailboxes and its history have changed. What the lanes leave at a connection waits at the
+-- connection with its index, if it may wait there, and nothing waits at a connection that the lanes don't have. The history is that of the
+-- lanes, if the publisher may keep it.
 pub record IsRestored {T U : Type 0} (value_of : List ℕ → T) (header_of : List ℕ
     → Option ℕ × U) (lanes : World) (from : ℕ) (indices : List ℕ) (first : ℕ) (history : List ℕ) (old new : SenderState T U) : Type 0 where
   pub rest : new ≡ with_uses (record old.uses { history = new.uses.history; connections = new.uses.connections }) old

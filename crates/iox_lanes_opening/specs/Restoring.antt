@@ -1,4 +1,4 @@
--- A publisher that gets the messages that lanes leave.
+-- A publisher of a domain that gets the messages that lanes leave.
 use Rattle.std.specs.Prelude.{ℕ, ◌≡◌, ◌+◌, ◌-◌, ◌<◌, ◌≤◌, List, [], length, map, slice_get, Option, None, Some}
 use Rattle.std.specs.List.{All}
 use Rattle.iox_domain_ports.specs.DomainSlots.Uses.{Uses, connection_at, with_connection}
@@ -11,64 +11,66 @@ use Rattle.iox_lanes_machine.specs.Resting.{Rests, mail_at}
 use Rattle.iox_lanes_machine.specs.World.{World}
 use Rattle.iox_lanes_opening.specs.Leaving.{message_in}
 
--- a table has all its words, and payloads and user headers of so many
+-- The table has all its words, and its payloads and user headers have these numbers of words.
 pub record IsWhole (payload_words header_words : ℕ) (table : TableWords) : Type 0 where
   pub full : length table.words ≡ words_of table.sizes
   pub payload : table.sizes.payload_words ≡ payload_words
   pub user_header : table.sizes.user_header_words ≡ header_words
 
--- a message is the one that lies in its slot
+-- The message is the one that lies in its slot in the lanes.
 abbrev pub IsLeft : {T U : Type 0} → (List ℕ → T) → (List ℕ → Option ℕ × U) → TableWords → ℕ → Message T U → Type 0
 IsLeft value_of header_of table first message = message ≡ message_in value_of header_of table first message.slot
 
--- each message of the history and of the connections is the one that lies in its slot
+-- Each message of the history and of the connections is the one that lies in its slot in the lanes.
 pub record AreLeft {T U : Type 0} (value_of : List ℕ → T) (header_of : List ℕ
     → Option ℕ × U) (table : TableWords) (first : ℕ) (uses : Uses (Loan T U) (Message T U)) : Type 0 where
   pub history : All (IsLeft value_of header_of table first) uses.history
   pub connections : All (λ connection. All (IsLeft value_of header_of table first) connection.waiting
       × All (IsLeft value_of header_of table first) connection.borrowed) uses.connections
 
--- a publisher sends nothing, lends nothing, and has room for a value in each slot
+-- A publisher has no send under way and no loan out, and has capacity for a value in each slot.
 pub record IsQuiet {T U : Type 0} (sender : SenderState T U) : Type 0 where
   pub idle : sender.uses.sending ≡ None
   pub unlent : sender.uses.loans ≡ []
   pub room : 1 ≤ sender.room
 
--- a slot of the lanes is one of the current segment of a publisher whose slots begin at `first` there
+-- The slot of the lanes is one of the current segment of a publisher whose slots begin at `first` there.
 pub record IsOwn {L X : Type 0} (first slot slots : ℕ) (uses : Uses L X) : Type 0 where
   pub from : first ≤ slot
   pub there : slot < slots
   pub behind : uses.first ≤ slot - first
   pub within : slot - first < uses.first + uses.size
 
--- only what waits at the connection of an index has changed
+-- Only the mailbox of the connection with this index has changed.
 abbrev pub OnlyWaits : {T U : Type 0} → ℕ → SenderState T U → SenderState T U → Type 0
 OnlyWaits index old new =
     new ≡ with_uses (with_connection index (record (connection_at index old.uses) { waiting = (connection_at index new.uses).waiting })
     old.uses) old
 
--- only the history has changed
+-- Only the history has changed.
 abbrev pub OnlyRemembers : {T U : Type 0} → SenderState T U → SenderState T U → Type 0
 OnlyRemembers old new = new ≡ with_uses (record old.uses { history = new.uses.history }) old
 
--- the messages that lie in these slots of the lanes
+-- The messages that lie in these slots of the lanes.
 abbrev pub messages_in : {T U : Type 0} → (List ℕ → T) → (List ℕ → Option ℕ × U) → TableWords → ℕ → List ℕ → List (Message T U)
 messages_in value_of header_of table first slots = map (λ slot. message_in value_of header_of table first (slot - first)) slots
 
--- The ports of a connection of the lanes are between calls, and at most 2^63 steps were made; what waits there has its slots in
--- the publisher's current segment; and the connection of an index of the publisher goes on, and as many may wait there.
+-- What waits at a connection of the lanes may wait at the publisher's connection with this index: the ports of the lanes' connection are
+-- between calls, and at most 2^63 steps were made; the messages are in slots of the publisher's current segment; the publisher's connection
+-- is live; and its mailbox has capacity for all of them.
 pub record MayWaitAll {T U : Type 0} (lanes : World) (connection first index : ℕ) (sender : SenderState T U) : Type 0 where
   pub rests : Rests lanes connection
   pub own : (at slot : ℕ) → slice_get (mail_at lanes connection) at ≡ Some slot → IsOwn first slot lanes.table.sizes.slots sender.uses
   pub live : (connection_at index sender.uses).stage ≡ stage.Live
   pub room : length (mail_at lanes connection) ≤ (connection_at index sender.uses).limit
 
--- These slots are in the publisher's current segment, and no more than its history may have.
+-- The slots are in the publisher's current segment, and are no more than its history may have.
 pub record MayRememberAll {T U : Type 0} (table : TableWords) (history : List ℕ) (first : ℕ) (sender : SenderState T U) : Type 0 where
   pub own : (at slot : ℕ) → slice_get history at ≡ Some slot → IsOwn first slot table.sizes.slots sender.uses
   pub room : length history ≤ sender.uses.kept
 
--- a publisher may send a single value again in a slot: it sends nothing, nothing is lent, and the slot is one of the current segment
+-- A publisher may send a single value again in this slot: no send is under way, no loan is out, the slot is one of the current segment, and
+-- it has capacity for a value.
 pub record MayStand {T U : Type 0} (slot : ℕ) (sender : SenderState T U) : Type 0 where
   pub idle : sender.uses.sending ≡ None
   pub unlent : sender.uses.loans ≡ []
@@ -76,8 +78,9 @@ pub record MayStand {T U : Type 0} (slot : ℕ) (sender : SenderState T U) : Typ
   pub within : slot < sender.uses.first + sender.uses.size
   pub room : 1 ≤ sender.room
 
--- A message that lies in a slot of the lanes may be sent again, in the same slot of a publisher whose slots begin at `first` there,
--- by way of a place for so many values: all words are there, one value has a place, and what the publisher has lies in the lanes.
+-- A message that lies in a slot of the lanes may be sent again in the publisher's slot `slot`, with `places` places for its values: the
+-- table has all its words, there is a place for a value, the publisher may send in the slot, and all messages that it has are those that
+-- lie in the lanes.
 pub record MayBeSent {T U : Type 0} (value_of : List ℕ → T) (header_of : List ℕ
     → Option ℕ × U) (payload_words header_words : ℕ) (table : TableWords) (first slot places : ℕ) (sender : SenderState T U) : Type 0 where
   pub room : 0 < places
@@ -86,7 +89,8 @@ pub record MayBeSent {T U : Type 0} (value_of : List ℕ → T) (header_of : Lis
   pub stands : MayStand slot sender
   pub left : AreLeft value_of header_of table first sender.uses
 
--- The messages that lanes leave may come to a publisher of which nothing is out, one by one.
+-- A publisher may get the messages that lanes leave, one by one, with `places` places for a value: nothing of it is under way or on loan,
+-- and all messages that it has are those that lie in the lanes.
 pub record MayCome {T U : Type 0} (value_of : List ℕ → T) (header_of : List ℕ
     → Option ℕ × U) (payload_words header_words : ℕ) (table : TableWords) (first places : ℕ) (sender : SenderState T U) : Type 0 where
   pub room : 0 < places

@@ -1,9 +1,9 @@
--- What the reasons display as: the type's name, `::` and the variant.
+-- The texts of the reasons: the type's name, `::` and the variant.
 use Rattle.std.specs.Prelude.{ℕ, List, ◌++◌, codes}
 use Rattle.iox_lanes_opening.specs.declared.refusals.into_lanes_error.IntoLanesError.{IntoLanesError}
 use Rattle.iox_lanes_opening.specs.declared.refusals.into_lanes_error.IntoLanesError.TheVariants as reason
 
--- the name of the variant
+-- The name of the variant.
 abbrev pub into_lanes_name : IntoLanesError → List ℕ
 into_lanes_name reason.Blocked = codes "Blocked"
 into_lanes_name reason.ConnectionsNotUpToDate = codes "ConnectionsNotUpToDate"
@@ -16,6 +16,6 @@ into_lanes_name reason.Unsound = codes "Unsound"
 into_lanes_name reason.SequenceTooLarge = codes "SequenceTooLarge"
 into_lanes_name reason.OutOfMemory = codes "OutOfMemory"
 
--- the type's name, `::` and that of the variant
+-- The text of the reason: the type's name, `::` and the name of the variant.
 abbrev pub into_lanes_text : IntoLanesError → List ℕ
 into_lanes_text error = codes "IntoLanesError::" ++ into_lanes_name error

@@ -1,11 +1,11 @@
-//! What lanes leave in the slots of a publisher goes back into a publisher of a domain: each message in its slot.
+//! Puts what lanes leave in the slots of a publisher back into a publisher of a domain: each message into its slot.
 //!
-//! - [`words`]: a message out of the words of a slot.
+//! - [`words`]: reads a message from the words of a slot.
 //! - [`clearing`]: a publisher of a domain forgets its messages.
-//! - [`restoring`]: it gets those that the lanes leave at a connection, and those of a history.
+//! - [`restoring`]: it gets the messages that the lanes leave at a connection, and those of a history.
 //! - [`restored`]: it gets all of them.
 //!
-//! First calls, of a publisher that forgets its messages. `into_domain` of `iox_lanes` makes those of `restore`.
+//! First calls, for a publisher that forgets its messages. `into_domain` of `iox_lanes` calls `restore`.
 //!
 //! ```
 //! if is_rested(sender) {

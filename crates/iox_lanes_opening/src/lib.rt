@@ -1,7 +1,7 @@
-//! What stands between the domain of a service and its lanes.
+//! The way from the domain of a service to its lanes and back.
 //!
 //! - [`refusals`]: why a domain can't become lanes.
-//! - [`leaving`]: what lanes leave in the slots of a publisher goes back into a publisher of a domain.
+//! - [`leaving`]: puts what lanes leave in the slots of a publisher back into a publisher of a domain.
 #![tactic(auto)]
 
 pub mod leaving;

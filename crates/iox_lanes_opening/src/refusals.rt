@@ -1,16 +1,16 @@
 //! Why the domain of a service can't become lanes.
 //!
 //! - [`into_lanes_error`]: the reasons.
-//! - [`up_to_date`]: whether each port follows the others as they are, and is connected to them.
-//! - [`deciding`]: who decides by an object, and who waits or fails at a full mailbox.
-//! - [`lingering`]: what is still out, and who left and isn't gone.
-//! - [`slices`]: what isn't one value.
-//! - [`soundness`]: what no calls leave.
-//! - [`sequences`]: which numbers of messages are too large.
-//! - [`each_asked`]: one thing asked of each publisher.
+//! - [`up_to_date`]: whether each port has followed the current list of the other side, and is connected to its ports.
+//! - [`deciding`]: which ports have handlers of the caller, and which would wait or fail at a full mailbox.
+//! - [`lingering`]: loans and samples that are out, and closed ports that aren't gone.
+//! - [`slices`]: publishers or messages that don't have single values.
+//! - [`soundness`]: states of the ports that no calls leave.
+//! - [`sequences`]: which sequence numbers are too large.
+//! - [`each_asked`]: a question asked of each publisher.
 //! - [`reasons`]: the first reason that applies.
 //!
-//! First calls, of a domain:
+//! First calls, for a domain:
 //!
 //! ```
 //! let error = refusal(domain)?;

@@ -12,8 +12,8 @@ use Rattle.iox_lanes_base.specs.declared.calls.subscriber.SubscriberChange.{Subs
 use Rattle.iox_lanes_base.specs.declared.calls.subscriber.SubscriberChange.TheVariants.{Nothing, Borrow, Note, GiveBack}
 pub use Rattle.iox_lanes_parties.specs.PublisherKeeping.{put_at, counted_up, counted_down}
 
--- A subscriber. `routes` are its connections, `borrowed` how many samples of each it borrows, `samples` for each slot the place
--- of the connection that it is borrowed of, `words` what it read last.
+-- A subscriber. `routes` are its connections, `borrowed` says how many samples of each it borrows, `samples` has for each slot the place of
+-- the connection that it is borrowed from, and `words` is what it read last.
 pub record SubscriberState : Type 0 where
   pub routes : List Route
   pub extent : SlotExtent
@@ -23,7 +23,7 @@ pub record SubscriberState : Type 0 where
   pub words : List ℕ
   pub call : SubscriberCall
 
--- it borrows nothing
+-- A subscriber that borrows nothing, and is in no call.
 abbrev pub new_subscriber : List Route → ℕ → SlotExtent → ℕ → ℕ → SubscriberState
 new_subscriber routes slots extent words most = record {
   routes = routes;
@@ -35,15 +35,15 @@ new_subscriber routes slots extent words most = record {
   call = Idle;
 }
 
--- one of its connections is known anew
+-- The subscriber after its connection with this one's number was replaced by this one.
 abbrev pub met_anew : Route → SubscriberState → SubscriberState
 met_anew route state = record state { routes = rerouted route state.routes }
 
--- the connections at two places change places
+-- The subscriber after the connections at two places were swapped.
 abbrev pub swapped : ℕ → ℕ → SubscriberState → SubscriberState
 swapped one other state = record state { routes = swap state.routes one other }
 
--- a sample is borrowed or given back, or a word of it was read
+-- The subscriber after this change: it borrows or returns a sample, or keeps a word that it read.
 abbrev pub changed : SubscriberChange → SubscriberState → SubscriberState
 changed Nothing state = state
 changed (Borrow place slot) state = record state
@@ -52,20 +52,20 @@ changed (Note word value) state = record state { words = put_at state.words word
 changed (GiveBack place slot) state
     = record state { borrowed = counted_down state.borrowed place; samples = put_at state.samples slot None }
 
--- after the answer of the next access
+-- The subscriber after the answer of its next access.
 abbrev pub after_answer : ℕ → SubscriberState → SubscriberState
 after_answer answer state =
     changed (subscriber_change state.call answer)
     (record state { call = subscriber_take state.routes state.borrowed state.most_borrowed state.call answer })
 
--- a receive begins
+-- The subscriber that begins a receive.
 abbrev pub begun_receive : SubscriberState → SubscriberState
 begun_receive state = record state { call = receive_at state.routes state.borrowed state.most_borrowed 0 false }
 
--- a read begins
+-- The subscriber that begins to read this slot.
 abbrev pub begun_read : ℕ → SubscriberState → SubscriberState
 begun_read slot state = record state { call = read_at slot state.extent 0 }
 
--- a release begins
+-- The subscriber that begins to release this slot to the connection at this place.
 abbrev pub begun_release : ℕ → Route → ℕ → SubscriberState → SubscriberState
 begun_release place route slot state = record state { call = Releasing place route (Begun route.completion_cells slot) }

@@ -1,4 +1,4 @@
--- A publisher and a subscriber with the call that each is in: which calls fit, what a step leaves, what a call answers.
+-- A publisher and a subscriber with the call that each is in: which calls fit, what a step leaves, and what a call answers.
 use Rattle.std.specs.Prelude.{ℕ, ◌+◌, ◌-◌, Bool, true, false, not, ◌&&◌, ◌==◌, if◌then◌else◌, nat_lt, List, [], ◌++◌, length, map, take}
 use Rattle.std.specs.Prelude.{set, get_or, slice_get, Option, Some, None}
 use Rattle.iox_lanes_parties.specs.LanesBase.Publishing.{publisher_is_idle}
@@ -28,8 +28,8 @@ use Rattle.iox_lanes_parties.specs.declared.call.Move.TheVariants.{Begin, GoOn}
 use Rattle.iox_lanes_parties.specs.declared.call.Answer.{Answer}
 use Rattle.iox_lanes_parties.specs.declared.call.Answer.TheVariants as answer
 
--- A publisher: its port, for each of its slots the header and user header that a send stores, whether its sends fail at a full
--- mailbox, the number that it gave last, if messages have numbers, and the call that it began last, at its first moment.
+-- A publisher: its port, for each of its slots the header and user header that a send stores, whether its sends fail at a full mailbox, its
+-- last sequence number (if messages have them), and the call that it began last, with the moment of its first step.
 pub record PublisherLaneState : Type 0 where
   pub port : PublisherState
   pub fails : Bool
@@ -38,47 +38,47 @@ pub record PublisherLaneState : Type 0 where
   pub call : CallName
   pub first : ℕ
 
--- a subscriber: its port, and the call that it began last, at its first moment
+-- A subscriber: its port, and the call that it began last, with the moment of its first step.
 pub record SubscriberLaneState : Type 0 where
   pub port : SubscriberState
   pub call : CallName
   pub first : ℕ
 
--- the connection at a place of a publisher was found to have a slot
+-- The publisher after lanes found this slot at its connection of this place.
 abbrev pub lane_found : ℕ → ℕ → PublisherLaneState → PublisherLaneState
 lane_found place slot lane = record lane { port = publishers.found_at place slot lane.port }
 
--- a slot of a publisher was found to be the newest of its history
+-- The publisher after lanes found that this slot is the newest of its history.
 abbrev pub lane_remembers : ℕ → PublisherLaneState → PublisherLaneState
 lane_remembers slot lane = record lane { port = publishers.found_last slot lane.port }
 
--- a connection of a publisher is known anew
+-- The publisher after its connection with this one's number was replaced by this one.
 abbrev pub lane_meets : Route → PublisherLaneState → PublisherLaneState
 lane_meets route lane = record lane { port = publishers.met_anew route lane.port }
 
--- a publisher has just its first slots, and so many loans may be out
+-- The publisher with only its first slots, and this many loans that may be out.
 abbrev pub lane_resized : ℕ → ℕ → PublisherLaneState → PublisherLaneState
 lane_resized slots most_loans lane = record lane { port = publishers.with_slots slots most_loans lane.port; heads = take slots lane.heads }
 
--- the words of a header and user header, of which the first two say another node and publisher
+-- The words of header and user header, whose first two words name this node and publisher.
 abbrev pub with_origin : ℕ → ℕ → List ℕ → List ℕ
 with_origin node_id publisher_id head = if nat_lt 1 (length head) then set (set head 0 node_id) 1 publisher_id else head
 
--- so do the headers of all slots of a publisher, whose sends fail at a full mailbox or don't, and whose next message gets the number behind
--- this one, if messages have numbers
+-- The publisher whose headers name this node and publisher, whose sends fail at a full mailbox or don't, and whose last sequence number is
+-- this one, if messages have them.
 abbrev pub lane_named : ℕ → ℕ → Bool → Option ℕ → PublisherLaneState → PublisherLaneState
 lane_named node_id publisher_id fails last lane =
     record lane { fails = fails; heads = map (with_origin node_id publisher_id) lane.heads; last = last }
 
--- two connections of a subscriber change places
+-- The subscriber after the connections at two places were swapped.
 abbrev pub receiver_swapped : ℕ → ℕ → SubscriberLaneState → SubscriberLaneState
 receiver_swapped one other lane = record lane { port = subscribers.swapped one other lane.port }
 
--- a connection of a subscriber is known anew
+-- The subscriber after its connection with this one's number was replaced by this one.
 abbrev pub receiver_meets : Route → SubscriberLaneState → SubscriberLaneState
 receiver_meets route lane = record lane { port = subscribers.met_anew route lane.port }
 
--- a call without the words of a write
+-- The call without the words of a write.
 abbrev pub name_of : Call → CallName
 name_of call.LoanUninit = name.LoanUninit
 name_of (call.Write loan payload user_header) = name.Write loan
@@ -88,24 +88,25 @@ name_of call.Receive = name.Receive
 name_of (call.Read sample) = name.Read sample
 name_of (call.Release sample) = name.Release sample
 
--- a slot is a loan, written or not
+-- Whether the slot is a loan, written or not.
 abbrev pub is_out : LoanMark → Bool
 is_out mark.No = false
 is_out mark.Lent = true
 is_out mark.Written = true
 
--- a slot is a loan that a write ended on
+-- Whether the slot is a written loan.
 abbrev pub is_written : LoanMark → Bool
 is_written mark.No = false
 is_written mark.Lent = false
 is_written mark.Written = true
 
--- a slot is borrowed of some connection
+-- Whether the slot is borrowed from some connection.
 abbrev pub is_borrowed : Option ℕ → Bool
 is_borrowed None = false
 is_borrowed (Some place) = true
 
--- the call is one of a publisher; a loan that it names is out, of a send also written; the words of a write are as many as fit the slot
+-- Whether a publisher may begin this call: it is one of a publisher's; a loan that it names is out, and for a send it is written; and the
+-- words of a write are as many as the slot's.
 abbrev pub publisher_may : PublisherLaneState → Call → Bool
 publisher_may lane call.LoanUninit = true
 publisher_may lane (call.Write loan payload user_header) =
@@ -118,43 +119,43 @@ publisher_may lane call.Receive = false
 publisher_may lane (call.Read sample) = false
 publisher_may lane (call.Release sample) = false
 
--- a begin fits between calls, a go on inside one
+-- Whether a publisher may make this move: it begins a call only between calls, and goes on only inside one.
 abbrev pub publisher_fits : PublisherLaneState → Move → Bool
 publisher_fits lane (Begin c) = publisher_is_idle lane.port.call && publisher_may lane c
 publisher_fits lane GoOn = not (publisher_is_idle lane.port.call)
 
--- which of a publisher's slots a slot of the service is
+-- The index among the publisher's own slots of a slot of the service.
 abbrev pub index_of : ℕ → PublisherLaneState → ℕ
 index_of slot lane = slot - lane.port.book.first
 
--- the header and user header that are kept for a slot
+-- The header and user header that are kept for the slot.
 abbrev pub kept_head : ℕ → PublisherLaneState → List ℕ
 kept_head slot lane = get_or lane.heads (index_of slot lane) []
 
--- the header and user header that a send of a slot stores: with the next number, if messages have numbers
+-- The header and user header that a send of the slot stores, with the next sequence number if messages have one.
 abbrev pub head_of : ℕ → PublisherLaneState → List ℕ
 head_of slot lane = with_number (number_after lane.last) (kept_head slot lane)
 
--- another user header behind the three words of a header
+-- The header with this user header after its three words.
 abbrev pub with_user_header : List ℕ → List ℕ → List ℕ
 with_user_header head user_header = take 3 head ++ user_header
 
--- a slot keeps another user header for its send
+-- The publisher that keeps this user header for the send of the slot.
 abbrev pub kept : ℕ → List ℕ → PublisherLaneState → PublisherLaneState
 kept slot user_header lane =
     record lane { heads = set lane.heads (index_of slot lane) (with_user_header (kept_head slot lane) user_header) }
 
--- a write of a slot begins
+-- The publisher that begins a write of the slot.
 abbrev pub write_begun : ℕ → List ℕ → List ℕ → PublisherLaneState → PublisherLaneState
 write_begun slot payload user_header lane =
     record (kept slot user_header lane) { port = publishers.begun_write slot payload lane.port }
 
--- a send of a slot begins, with the next number, if messages have numbers
+-- The publisher that begins a send of the slot, with the next sequence number if messages have one.
 abbrev pub send_begun : ℕ → PublisherLaneState → PublisherLaneState
 send_begun slot lane =
     record lane { port = publishers.begun_send slot (head_of slot lane) lane.port; last = number_after lane.last }
 
--- a publisher that begins a call; what isn't a call of publishers leaves it as it is
+-- The publisher that begins a call; a call that isn't a publisher's leaves it as it is.
 abbrev pub publisher_begun : ℕ → Call → PublisherLaneState → PublisherLaneState
 publisher_begun moment call.LoanUninit lane =
     record lane { port = publishers.begun_loan lane.port; call = name.LoanUninit; first = moment }
@@ -167,17 +168,17 @@ publisher_begun moment call.Receive lane = lane
 publisher_begun moment (call.Read sample) lane = lane
 publisher_begun moment (call.Release sample) lane = lane
 
--- a publisher after the answer of its next access
+-- The publisher after the answer of its next access.
 abbrev pub publisher_after : ℕ → PublisherLaneState → PublisherLaneState
 publisher_after given lane = record lane { port = publishers.after_answer given lane.port }
 
--- a loan's answer; a loan that ends has one
+-- The answer of a loan that ended.
 abbrev pub lent : Option LoanAnswer → Answer
 lent None = answer.Lent loan_answer.OutOfMemory
 lent (Some given) = answer.Lent given
 
--- what a publisher's call answers, if its next step is its last; `loan` is what a loan says after that step, and `fails` whether a
--- send fails at a full mailbox
+-- The answer of a publisher's call, if its next step is its last one; `loan` is the answer of a loan after that step, and `fails` says
+-- whether sends fail at a full mailbox.
 abbrev pub publisher_answer : Bool → PublisherCall → Option LoanAnswer → Option Answer
 publisher_answer fails publishing.Idle loan = None
 publisher_answer fails (publishing.LoanReclaims place route pop) loan = None
@@ -191,21 +192,22 @@ publisher_answer fails (publishing.Pushing slot place route push delivery) loan 
 publisher_answer fails (publishing.Sent slot delivery) loan = Some (answer.Sent (send_answer fails delivery))
 publisher_answer fails (publishing.Dropping slot) loan = Some answer.Dropped
 
--- the place of the connection that a subscriber borrows a slot of
+-- The place of the connection that the subscriber borrows the slot from.
 abbrev pub place_of : ℕ → SubscriberLaneState → Option ℕ
 place_of slot lane = get_or lane.port.samples slot None
 
--- the connection at a place, if there is one
+-- The connection at this place, if there is one.
 abbrev pub route_at : Option ℕ → SubscriberLaneState → Option Route
 route_at None lane = None
 route_at (Some place) lane = slice_get lane.port.routes place
 
--- there is such a connection
+-- Whether there is a connection.
 abbrev pub is_route : Option Route → Bool
 is_route None = false
 is_route (Some route) = true
 
--- the call is one of a subscriber; a sample that it names is borrowed of one of its connections
+-- Whether a subscriber may begin this call: it is one of a subscriber's, and a sample that it names is borrowed from one of its
+-- connections.
 abbrev pub subscriber_may : SubscriberLaneState → Call → Bool
 subscriber_may lane call.LoanUninit = false
 subscriber_may lane (call.Write loan payload user_header) = false
@@ -215,19 +217,19 @@ subscriber_may lane call.Receive = true
 subscriber_may lane (call.Read sample) = is_borrowed (place_of sample lane)
 subscriber_may lane (call.Release sample) = is_route (route_at (place_of sample lane) lane)
 
--- a begin fits between calls, a go on inside one
+-- Whether a subscriber may make this move: it begins a call only between calls, and goes on only inside one.
 abbrev pub subscriber_fits : SubscriberLaneState → Move → Bool
 subscriber_fits lane (Begin c) = subscriber_is_idle lane.port.call && subscriber_may lane c
 subscriber_fits lane GoOn = not (subscriber_is_idle lane.port.call)
 
--- a release begins at the connection that the sample is borrowed of
+-- The subscriber that begins to release the sample to the connection that the sample is borrowed from.
 abbrev pub release_begun : ℕ → ℕ → Option ℕ → Option Route → SubscriberLaneState → SubscriberLaneState
 release_begun moment sample None route lane = lane
 release_begun moment sample (Some place) None lane = lane
 release_begun moment sample (Some place) (Some route) lane =
     record lane { port = subscribers.begun_release place route sample lane.port; call = name.Release sample; first = moment }
 
--- a subscriber that begins a call; what isn't a call of subscribers leaves it as it is
+-- The subscriber that begins a call; a call that isn't a subscriber's leaves it as it is.
 abbrev pub subscriber_begun : ℕ → Call → SubscriberLaneState → SubscriberLaneState
 subscriber_begun moment call.LoanUninit lane = lane
 subscriber_begun moment (call.Write loan payload user_header) lane = lane
@@ -240,11 +242,11 @@ subscriber_begun moment (call.Read sample) lane =
 subscriber_begun moment (call.Release sample) lane =
     release_begun moment sample (place_of sample lane) (route_at (place_of sample lane) lane) lane
 
--- a subscriber after the answer of its next access
+-- The subscriber after the answer of its next access.
 abbrev pub subscriber_after : ℕ → SubscriberLaneState → SubscriberLaneState
 subscriber_after given lane = record lane { port = subscribers.after_answer given lane.port }
 
--- what a subscriber's call answers, if its next step is its last; the words of a read begin at `from` among all that were read
+-- The answer of a subscriber's call, if its next step is its last one; the words of a read begin at `from` among all that were read.
 abbrev pub subscriber_answer : SubscriberCall → ℕ → Option Answer
 subscriber_answer subscribing.Idle from = None
 subscriber_answer (subscribing.Receiving place route pop waits) from = None
@@ -254,7 +256,7 @@ subscriber_answer (subscribing.WasRead slot) from = Some (answer.Read from)
 subscriber_answer (subscribing.Releasing place route push) from = None
 subscriber_answer (subscribing.Released done) from = Some (answer.Released done)
 
--- the words of a read whose next step is its last
+-- The words that a read loaded, if its next step is its last one; otherwise none.
 abbrev pub words_read : SubscriberCall → List ℕ → List ℕ
 words_read subscribing.Idle words = []
 words_read (subscribing.Receiving place route pop waits) words = []

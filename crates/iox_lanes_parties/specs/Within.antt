@@ -1,4 +1,4 @@
--- Ports that keep to their own service: each call names connections, slots and words of the service alone.
+-- Ports that keep to their own service: each call names only connections, slots and words of the service.
 use Rattle.std.specs.Prelude.{ℕ, ◌≡◌, ◌+◌, ◌<◌, ◌≤◌, true, List, length, slice_get, Some}
 use Rattle.std.specs.List.{All}
 use Rattle.iox_lanes_parties.specs.LanesBase.Table.{IsOfTable}
@@ -17,7 +17,7 @@ use Rattle.iox_lanes_parties.specs.Parties.{subscriber_fits, subscriber_begun, s
 use Rattle.iox_lanes_parties.specs.declared.call.Call.{Call}
 use Rattle.iox_lanes_parties.specs.declared.call.Move.TheVariants.{Begin}
 
--- a connection of the service, whose rings have cells
+-- The connection is one of the service, and both its rings have cells.
 pub record IsRoute (sizes : TableSizes) (route : Route) : Type 0 where
   pub connection : route.connection < sizes.connections
   pub sends : 0 < route.submission_cells
@@ -25,11 +25,11 @@ pub record IsRoute (sizes : TableSizes) (route : Route) : Type 0 where
   pub gives_back : 0 < route.completion_cells
   pub completion : route.completion_cells ≤ sizes.completion_cells
 
--- the connection is the one at its place
+-- The connection is the one at this place.
 abbrev pub IsAt : List Route → ℕ → Route → Type 0
 IsAt routes place route = slice_get routes place ≡ Some route
 
--- a call of a publisher stands at a connection of its own, or at a word of a slot; `words` are those that a write or a send stores
+-- A publisher's call is at a connection of its own, or at a word of a slot; `words` are those that a write or a send stores.
 abbrev pub IsPublishing : TableSizes → List Route → List ℕ → PublisherCall → Type 0
 IsPublishing sizes routes words publishing.Idle = Unit {0}
 IsPublishing sizes routes words (publishing.LoanReclaims place route pop) = IsAt routes place route
@@ -45,7 +45,7 @@ IsPublishing sizes routes words (publishing.Pushing slot place route push delive
 IsPublishing sizes routes words (publishing.Sent slot delivery) = Unit {0}
 IsPublishing sizes routes words (publishing.Dropping slot) = Unit {0}
 
--- a publisher of the service: its connections, its slots, the words of a slot, and where its call stands
+-- A publisher of the service: its connections, its slots, the words of a slot and the stage of its call are the service's.
 pub record IsPublisher (sizes : TableSizes) (lane : PublisherLaneState) : Type 0 where
   pub routes : All (IsRoute sizes) lane.port.routes
   pub call : IsPublishing sizes lane.port.routes (words_of lane.port) lane.port.call
@@ -55,12 +55,12 @@ pub record IsPublisher (sizes : TableSizes) (lane : PublisherLaneState) : Type 0
   pub heads : length lane.heads ≡ length lane.port.book.loans
   pub widths : All (λ head. length head ≡ 3 + sizes.user_header_words) lane.heads
 
--- a slot of the service has this extent
+-- The slots of the service have this extent.
 pub record IsExtent (sizes : TableSizes) (extent : SlotExtent) : Type 0 where
   pub user_header : extent.user_header_words ≡ sizes.user_header_words
   pub payload : extent.payload_words ≡ sizes.payload_words
 
--- a call of a subscriber stands at a connection of its own, or at a word of a slot
+-- A subscriber's call is at a connection of its own, or at a word of a slot.
 abbrev pub IsSubscribing : TableSizes → List Route → SubscriberCall → Type 0
 IsSubscribing sizes routes subscribing.Idle = Unit {0}
 IsSubscribing sizes routes (subscribing.Receiving place route pop waits) = IsAt routes place route
@@ -71,21 +71,24 @@ IsSubscribing sizes routes (subscribing.WasRead slot) = Unit {0}
 IsSubscribing sizes routes (subscribing.Releasing place route push) = IsAt routes place route
 IsSubscribing sizes routes (subscribing.Released done) = Unit {0}
 
--- a subscriber of the service: its connections, the slots that it may borrow, the words of a slot, and where its call stands
+-- A subscriber of the service: its connections, the slots that it may borrow, the words of a slot and the stage of its call are the
+-- service's.
 pub record IsSubscriber (sizes : TableSizes) (lane : SubscriberLaneState) : Type 0 where
   pub routes : All (IsRoute sizes) lane.port.routes
   pub call : IsSubscribing sizes lane.port.routes lane.port.call
   pub slots : length lane.port.samples ≤ sizes.slots
   pub extent : IsExtent sizes lane.port.extent
 
--- a publisher's begin that fits, and its next step, keep it within the service, and touch a word of the service or none
+-- A publisher of the service stays within the service when it begins a call that fits, and by its next step, which touches a word of the
+-- service or none.
 abbrev pub PublishersStayWithin : Type 0
 PublishersStayWithin = (sizes : TableSizes) (lane : PublisherLaneState) → IsPublisher sizes lane
     → ((moment : ℕ) (call : Call) → publisher_fits lane (Begin call) ≡ true → IsPublisher sizes (publisher_begun moment call lane))
     × ((answer : ℕ) → IsPublisher sizes (publisher_after answer lane))
     × IsOfTable sizes (publisher_next lane.port.call)
 
--- a subscriber's begin that fits, and its next step, keep it within the service, and touch a word of the service or none
+-- A subscriber of the service stays within the service when it begins a call that fits, and by its next step, which touches a word of the
+-- service or none.
 abbrev pub SubscribersStayWithin : Type 0
 SubscribersStayWithin = (sizes : TableSizes) (lane : SubscriberLaneState) → IsSubscriber sizes lane
     → ((moment : ℕ) (call : Call) → subscriber_fits lane (Begin call) ≡ true → IsSubscriber sizes (subscriber_begun moment call lane))

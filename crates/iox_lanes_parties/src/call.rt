@@ -1,4 +1,4 @@
-//! What may be asked of lanes, and what they answered.
+//! What lanes may be asked to do, and their answers.
 ghost use Rattle.std.specs.Prelude.{◌≡◌};
 ghost use Rattle.iox_lanes_parties.specs.SendAnswers.{delivery_in, send_answer};
 
@@ -8,16 +8,18 @@ use iox_lanes_base::calls::{Delivery, Receipt};
 /// A publisher or a subscriber, by its number among those of its kind.
 #[derive(Clone, Copy)]
 pub enum Party {
+    /// The publisher with this number.
     Publisher(usize),
+    /// The subscriber with this number.
     Subscriber(usize),
 }
 
-/// A call that a party may begin. Loans and samples go by the numbers of their slots.
+/// A call that a party may begin. Loans and samples are identified by the numbers of their slots.
 #[derive(Drop)]
 pub enum Call {
-    /// A publisher asks for a slot to be written.
+    /// A publisher loans a slot.
     LoanUninit,
-    /// A publisher writes these words of payload into a loan, and keeps those of the user header for its send.
+    /// A publisher writes these words of payload into a loan, and keeps the words of the user header for its send.
     Write {
         loan: u64,
         payload: Vec<u64>,
@@ -27,23 +29,23 @@ pub enum Call {
     Send {
         loan: u64,
     },
-    /// A publisher gives a loan up.
+    /// A publisher drops a loan.
     DropLoan {
         loan: u64,
     },
-    /// A subscriber asks for a message.
+    /// A subscriber receives a message.
     Receive,
     /// A subscriber reads a sample.
     Read {
         sample: u64,
     },
-    /// A subscriber gives a sample back.
+    /// A subscriber releases a sample.
     Release {
         sample: u64,
     },
 }
 
-/// What a party is to do.
+/// What a party is asked to do next.
 #[derive(Drop)]
 pub enum Move {
     /// It begins a call.
@@ -55,35 +57,42 @@ pub enum Move {
 /// One entry of a schedule.
 #[derive(Drop)]
 pub struct Entry {
-    /// Who is to do it.
+    /// The party.
     pub party: Party,
-    /// What is to be done.
+    /// What it is asked to do.
     pub step: Move,
 }
 
-/// A call that was asked for, without the words of a write.
+/// A call, without the words of a write.
 #[derive(Clone, Copy)]
 pub enum CallName {
+    /// A loan.
     LoanUninit,
+    /// A write into this loan.
     Write { loan: u64 },
+    /// A send of this loan.
     Send { loan: u64 },
+    /// The dropping of this loan.
     DropLoan { loan: u64 },
+    /// A receive.
     Receive,
+    /// A read of this sample.
     Read { sample: u64 },
+    /// A release of this sample.
     Release { sample: u64 },
 }
 
-/// What a send answered.
+/// The answer of a send.
 #[derive(Clone, Copy, Debug, PartialEq, Eq)]
 pub enum SendAnswer {
     /// The message was delivered.
     Delivered(Delivery),
-    /// The publisher fails at a full mailbox, and one refused the message. The others took it all the same.
+    /// The publisher fails at a full mailbox, and a connection refused the message. The other connections took it all the same.
     UnableToDeliver(Delivery),
 }
 
 impl SendAnswer {
-    /// What a publisher tells of a delivery, that fails at a full mailbox or doesn't.
+    /// The answer for this delivery of a publisher whose sends fail at a full mailbox, or don't.
     ///
     /// Example: `SendAnswer::of(true, delivery)` is `UnableToDeliver(delivery)` where `delivery.refused` is 1.
     pub fn of(fails: bool, delivery: Delivery) -> SendAnswer
@@ -96,7 +105,7 @@ impl SendAnswer {
         }
     }
 
-    /// To how many connections the message went, and how many refused it.
+    /// How many connections took the message, and how many refused it.
     ///
     /// Example: `answer.delivery().taken`.
     pub fn delivery(&self) -> Delivery
@@ -108,35 +117,35 @@ impl SendAnswer {
     }
 }
 
-/// What a call answered.
+/// The answer of a call.
 #[derive(Clone, Copy, Debug, PartialEq, Eq)]
 pub enum Answer {
-    /// What a loan answered.
+    /// The answer of a loan.
     Lent(LoanAnswer),
     /// The loan is written.
     Written,
-    /// What a send answered.
+    /// The answer of a send.
     Sent(SendAnswer),
-    /// The loan is given up.
+    /// The loan is dropped.
     Dropped,
-    /// What a receive answered.
+    /// The answer of a receive.
     Received(Receipt),
-    /// The sample is read: where its words begin among all that were read.
+    /// The sample is read. `from` is where its words begin among all that were read.
     Read { from: usize },
-    /// Whether the sample went back, which it does.
+    /// Whether the sample went back to its publisher.
     Released(bool),
 }
 
 /// A call that ended.
 #[derive(Clone, Copy)]
 pub struct FinishedCall {
-    /// Who made it.
+    /// The party that made it.
     pub party: Party,
-    /// What was asked for.
+    /// The call.
     pub call: CallName,
-    /// What it answered.
+    /// Its answer.
     pub answer: Answer,
-    /// The moment at which it began.
+    /// The moment of its first step.
     pub first: u64,
     /// The moment of its last step.
     pub last: u64,

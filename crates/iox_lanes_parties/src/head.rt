@@ -5,7 +5,7 @@ ghost use Rattle.iox_lanes_parties.specs.Parties.{with_origin};
 use std::alloc::{AllocError, Global};
 use std::marker::Model;
 
-/// The words of a header and behind them those of a user header.
+/// The words of a header, and after them those of a user header.
 #[derive(Drop)]
 pub struct Head {
     words: Vec<u64>,
@@ -20,7 +20,7 @@ impl Model for Head {
 }
 
 impl Head {
-    /// This header, and so many words of user header that are 0. It fails only where an allocation fails.
+    /// This header, and `user_header_words` words of user header, all 0. `AllocError` is returned only where an allocation fails.
     pub fn new(alloc: Global, header: &[u64], user_header_words: usize) -> Result<Head, AllocError>
         ensures { IfOk result (λ made. made ≡ header.now ++ replicate user_header_words 0) }
     {
@@ -30,7 +30,7 @@ impl Head {
         Ok(Head { words })
     }
 
-    /// Keeps another user header.
+    /// Replaces the words of the user header.
     pub fn keep(&mut self, user_header: &[u64])
         requires { 3 + length user_header.now ≡ length self.old }
         ensures { self.new ≡ take 3 self.old ++ user_header.now }
@@ -38,7 +38,7 @@ impl Head {
         self.words[3..].copy_from_slice(user_header);
     }
 
-    /// Its header says this node and this publisher.
+    /// Makes the header name this node and this publisher.
     pub fn name(&mut self, node_id: u64, publisher_id: u64)
         ensures { self.new ≡ with_origin node_id publisher_id self.old }
     {
@@ -48,7 +48,7 @@ impl Head {
         }
     }
 
-    /// The words.
+    /// The words of header and user header.
     pub fn words(&self) -> &[u64]
         ensures { result.now ≡ self.now }
     {

@@ -1,14 +1,14 @@
-//! Ports keep to their own service: each is proved of the definitions that the contracts of ports name.
+//! Theorems that ports keep to their own service, proved of the definitions that the contracts of ports cite.
 ghost use Rattle.iox_lanes_parties.specs.Within.{PublishersStayWithin, SubscribersStayWithin};
 
-/// A publisher's begin that fits and its next step keep its calls to its own connections and slots, and touch a word of the
-/// service or none.
+/// A publisher's call names only connections and slots of its own: this holds after a call that fits begins, and after each step. The next
+/// step touches a word of the service or none.
 pub fn publishers_stay_within()
     ensures { PublishersStayWithin }
 {}
 
-/// A subscriber's begin that fits and its next step keep its calls to its own connections and samples, and touch a word of the
-/// service or none.
+/// A subscriber's call names only connections and samples of its own: this holds after a call that fits begins, and after each step. The
+/// next step touches a word of the service or none.
 pub fn subscribers_stay_within()
     ensures { SubscribersStayWithin }
 {}

@@ -1,16 +1,16 @@
-//! The publishers and subscribers of one service, each with the call that it is in, free of any words.
+//! The publishers and subscribers of one service, each with the call that it is in, without the shared words.
 //!
-//! - [`call`]: what may be asked, and what was answered.
+//! - [`call`]: what ports may be asked to do, and their answers.
 //! - [`head`]: the header and user header of a slot.
 //! - [`publisher`], [`subscriber`]: a port, and what it keeps for itself.
-//! - [`laws`]: ports keep to their own service.
-//! - `places`: places of lists that may be beyond their end.
-//! - `sequences`: the numbers that sends give messages.
+//! - [`laws`]: theorems that ports keep to their own service.
+//! - `places`: changes at places of lists, which do nothing beyond the end.
+//! - `sequences`: the sequence numbers of messages.
 //! - [`values`]: a program's own values as the words of a call.
-//! - [`with_sequence`]: a user header behind the number of its message.
+//! - [`with_sequence`]: a user header with the sequence number of its message.
 //! - [`publisher_lane`], [`subscriber_lane`]: a port with the call that it began last.
 //!
-//! First calls, of a subscriber that is connected to nobody; `LaneMachine` of `iox_lanes_machine` makes them with the words of a service.
+//! First calls, of a subscriber without connections; `LaneMachine` of `iox_lanes_machine` makes them with the words of a service.
 //!
 //! ```
 //! let mut lane = SubscriberLane::new(port);

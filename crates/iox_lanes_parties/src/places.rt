@@ -1,8 +1,8 @@
-//! Places of lists: beyond the end of a list nothing happens.
+//! Changes at places of lists. Beyond the end of a list they do nothing.
 ghost use Rattle.std.specs.Prelude.{◌≡◌};
 ghost use Rattle.iox_lanes_parties.specs.PublisherKeeping.{put_at, counted_up, counted_down};
 
-/// Puts a value at a place of a list; beyond its end nothing happens.
+/// Puts a value at a place of a list; does nothing beyond its end.
 pub(crate) fn put<T: Copy>(list: &mut Vec<T>, at: u64, value: T)
     ensures { list.new.items ≡ put_at list.old.items at value }
 {
@@ -12,7 +12,7 @@ pub(crate) fn put<T: Copy>(list: &mut Vec<T>, at: u64, value: T)
     }
 }
 
-/// One more at a place.
+/// Counts up at a place; does nothing beyond the end of the list.
 pub(crate) fn count_up(list: &mut Vec<u64>, at: u64)
     ensures { list.new.items ≡ counted_up list.old.items at }
 {
@@ -22,7 +22,7 @@ pub(crate) fn count_up(list: &mut Vec<u64>, at: u64)
     }
 }
 
-/// One fewer at a place.
+/// Counts down at a place; does nothing beyond the end of the list.
 pub(crate) fn count_down(list: &mut Vec<u64>, at: u64)
     ensures { list.new.items ≡ counted_down list.old.items at }
 {

@@ -1,4 +1,4 @@
-//! A publisher, its call in hand, and the headers of its slots.
+//! A publisher, the call that it is in, and the headers of its slots.
 ghost use Rattle.std.specs.Prelude.{◌≡◌, ◌+◌, ◌<◌, ◌&&◌, ◌==◌, true, false, [], length, IfOk, IsSome, is_some};
 ghost use Rattle.std.specs.List.{All};
 ghost use Rattle.iox_lanes_parties.specs.LanesBase.Publishing.{publisher_is_idle, publisher_is_over};
@@ -16,8 +16,8 @@ use iox_lanes_base::calls::{PublisherCall, Route};
 use std::alloc::{AllocError, Global};
 use std::marker::Model;
 
-/// A publisher, the header and user header that each of its slots will be sent with, whether its sends fail at a full mailbox, the
-/// number that it gave last, if messages have numbers, and the call that it began last.
+/// A publisher, with the header and user header that each of its slots will be sent with, whether its sends fail at a full mailbox, its
+/// last sequence number (if messages have sequence numbers), and the call that it began last.
 pub struct PublisherLane {
     port: LanePublisher,
     fails: bool,
@@ -27,7 +27,7 @@ pub struct PublisherLane {
     first: u64,
 }
 
-/// Said here once, so that no crate above proves it anew.
+/// Writes the drop out once, so that no crate above proves it anew.
 impl Drop for PublisherLane {
     fn drop(self) {
         let PublisherLane {
@@ -57,8 +57,8 @@ impl Model for PublisherLane {
 }
 
 impl PublisherLane {
-    /// A publisher between calls whose slots will be sent with these headers, whose sends don't fail at a full mailbox, and whose messages
-    /// have no numbers.
+    /// A publisher between calls whose slots will be sent with these headers. Its sends don't fail at a full mailbox, and its messages have
+    /// no sequence numbers.
     pub fn new(port: LanePublisher, heads: Vec<Head>) -> PublisherLane
         ensures { result ≡ record {
           port = port;
@@ -79,7 +79,7 @@ impl PublisherLane {
         }
     }
 
-    /// Whether this may be done now.
+    /// Whether it may make this move now.
     pub fn fits(&self, step: &Move) -> bool
         ensures { result ≡ publisher_fits self.now step.now }
     {
@@ -110,7 +110,7 @@ impl PublisherLane {
         }
     }
 
-    /// Begins a call at a moment.
+    /// Begins a call at this moment.
     pub fn begin(&mut self, moment: u64, call: &Call)
         requires fits { publisher_fits self.old (Move.Begin call.now) ≡ true }
         requires heads { length self.old.heads ≡ length self.old.port.book.loans }
@@ -144,7 +144,7 @@ impl PublisherLane {
         self.first = moment;
     }
 
-    // Which of its slots a slot of the service is.
+    // The index among the publisher's own slots of a slot of the service.
     fn index(&self, slot: u64) -> usize
         ensures { result ≡ index_of slot self.now }
     {
@@ -161,8 +161,8 @@ impl PublisherLane {
         self.heads[index].keep(user_header);
     }
 
-    /// The words of header and user header that a send of a slot stores now: with the next number, where messages have numbers. Fails only
-    /// where an allocation fails.
+    /// The words of header and user header that a send of this slot would store now, with the next sequence number if messages have one.
+    /// `AllocError` is returned only where an allocation fails.
     pub fn head(&self, alloc: Global, slot: u64) -> Result<Vec<u64>, AllocError>
         ensures { IfOk result (λ words. words.items ≡ head_of slot self.now) }
     {
@@ -188,7 +188,7 @@ impl PublisherLane {
         self.last = number;
     }
 
-    /// Goes on after the answer of that access. It tells what the call answers, if that was its last step.
+    /// Goes on after the answer of the next access. Returns the answer of the call if that was its last step.
     #[inline(always)]
     pub fn go_on(&mut self, given: u64) -> Option<Answer>
         ensures lane { self.new ≡ publisher_after given self.old }
@@ -225,7 +225,7 @@ impl PublisherLane {
         }
     }
 
-    /// Goes on as from where a call stands, after the answer of the access that comes next there.
+    /// Sets the call to the stage `call`, and goes on after the answer of the access that comes next there.
     #[inline(always)]
     pub fn go_on_from(&mut self, call: PublisherCall, given: u64)
         ensures { self.new ≡ publisher_after given (record self.old { port = record self.old.port { call = call } }) }
@@ -233,7 +233,7 @@ impl PublisherLane {
         self.port.take_from(call, given);
     }
 
-    /// The publisher: its connections, what its slots are used for, and where its call stands.
+    /// The port: its connections, what its slots are used for, and the stage of its call.
     #[inline(always)]
     pub fn port(&self) -> &LanePublisher
         ensures { result.now ≡ self.now.port }
@@ -241,28 +241,29 @@ impl PublisherLane {
         &self.port
     }
 
-    /// The words that the call in hand stores.
+    /// The words that the current write or send stores.
     pub fn stored(&self) -> &[u64]
         ensures { result.now ≡ words_of self.now.port }
     {
         self.port.stored()
     }
 
-    /// The number that it gave last, or the one before the first; None where messages have no numbers.
+    /// The sequence number of the last message that it sent, or the number before the first one. None where messages have no sequence
+    /// numbers.
     pub fn last_sequence(&self) -> Option<u64>
         ensures { result ≡ self.now.last }
     {
         self.last
     }
 
-    /// The connection at a place was found to have a slot.
+    /// Counts a use of the slot at the connection of this place, where lanes found the slot.
     pub fn find(&mut self, place: u64, slot: u64)
         ensures { self.new ≡ lane_found place slot self.old }
     {
         self.port.find(place, slot);
     }
 
-    /// A slot was found to be the newest of the history.
+    /// Makes a slot that lanes found the newest one of the history.
     pub fn find_newest(&mut self, slot: u64)
         requires { may_remember slot self.old.port.book ≡ true }
         ensures { self.new ≡ lane_remembers slot self.old }
@@ -270,7 +271,7 @@ impl PublisherLane {
         self.port.find_newest(slot);
     }
 
-    /// From now on it has just its first slots, and so many loans may be out.
+    /// Keeps only the first `slots` slots, and sets how many loans may be out.
     pub fn resize(&mut self, slots: u64, most_loans: u64)
         ensures { self.new ≡ lane_resized slots most_loans self.old }
     {
@@ -278,8 +279,8 @@ impl PublisherLane {
         self.heads.truncate(slots as usize);
     }
 
-    /// From now on the headers of its messages say this node and this publisher, its sends fail at a full mailbox or don't, and its next
-    /// message gets the number behind `last`; None where messages have no numbers.
+    /// Sets the node and the publisher that the headers name, whether sends fail at a full mailbox, and the last sequence number, after
+    /// which the next message's comes; None where messages have none.
     pub fn name(&mut self, node_id: u64, publisher_id: u64, fails: bool, last: Option<u64>)
         ensures { self.new ≡ lane_named node_id publisher_id fails last self.old }
     {
@@ -290,14 +291,14 @@ impl PublisherLane {
         }
     }
 
-    /// The connection of this number is this one from now on.
+    /// Replaces the connection with this one's number by this one.
     pub fn meet(&mut self, route: Route)
         ensures { self.new ≡ lane_meets route self.old }
     {
         self.port.meet(route);
     }
 
-    /// Where its call stands.
+    /// The stage of its call.
     #[inline(always)]
     pub fn stage(&self) -> PublisherCall
         ensures { result ≡ self.now.port.call }
@@ -312,7 +313,7 @@ impl PublisherLane {
         self.call
     }
 
-    /// The moment at which that call began.
+    /// The moment of that call's first step.
     pub fn first(&self) -> u64
         ensures { result ≡ self.now.first }
     {
@@ -332,14 +333,14 @@ fn is_written(mark: LoanMark) -> bool
     matches!(mark, LoanMark::Written)
 }
 
-// So many words of user header make a head of so many words.
+// Whether a user header of this many words makes a head of `head_words` words.
 fn is_head(user_header_words: usize, head_words: usize) -> bool
     ensures { result ≡ (3 + user_header_words == head_words) }
 {
     head_words >= 3 && head_words - 3 == user_header_words
 }
 
-// A loan's answer; a loan that ends has one.
+// The answer of a loan that ended.
 fn lent(loan: Option<LoanAnswer>) -> Answer
     ensures { result ≡ lent loan }
 {

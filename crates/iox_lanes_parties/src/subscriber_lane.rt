@@ -1,4 +1,4 @@
-//! A subscriber and its call in hand.
+//! A subscriber and the call that it is in.
 ghost use Rattle.std.specs.Prelude.{◌≡◌, ◌<◌, ◌&&◌, true, false, length, is_some};
 ghost use Rattle.iox_lanes_parties.specs.LanesBase.Subscribing.{subscriber_is_idle, subscriber_is_over};
 ghost use Rattle.iox_lanes_parties.specs.LanesBase.declared.calls.subscriber.SubscriberChange.TheVariants as SubscriberChange;
@@ -12,14 +12,14 @@ use crate::subscriber::LaneSubscriber;
 use iox_lanes_base::calls::{Route, SubscriberCall};
 use std::marker::Model;
 
-/// A subscriber, and the call that it began last.
+/// A subscriber, with the call that it began last.
 pub struct SubscriberLane {
     port: LaneSubscriber,
     call: CallName,
     first: u64,
 }
 
-/// Said here once, so that no crate above proves it anew.
+/// Writes the drop out once, so that no crate above proves it anew.
 impl Drop for SubscriberLane {
     fn drop(self) {
         let SubscriberLane {
@@ -50,7 +50,7 @@ impl SubscriberLane {
         }
     }
 
-    /// Whether this may be done now.
+    /// Whether it may make this move now.
     pub fn fits(&self, step: &Move) -> bool
         ensures { result ≡ subscriber_fits self.now step.now }
     {
@@ -72,14 +72,14 @@ impl SubscriberLane {
         }
     }
 
-    // The place of the connection that it borrows a slot of.
+    // The place of the connection that the sample is borrowed from.
     fn place(&self, sample: u64) -> Option<u64>
         ensures { result ≡ place_of sample self.now }
     {
         self.port.place_of(sample as usize)
     }
 
-    // The connection that it borrows a slot of.
+    // The connection that the sample is borrowed from.
     fn route(&self, sample: u64) -> Option<Route>
         ensures { result ≡ route_at (place_of sample self.now) self.now }
     {
@@ -89,14 +89,14 @@ impl SubscriberLane {
         }
     }
 
-    /// The connection of this number is this one from now on.
+    /// Replaces the connection with this one's number by this one.
     pub fn meet(&mut self, route: Route)
         ensures { self.new ≡ receiver_meets route self.old }
     {
         self.port.meet(route);
     }
 
-    /// The subscriber: its connections, and where its call stands.
+    /// The port: its connections, its samples, and the stage of its call.
     #[inline(always)]
     pub fn port(&self) -> &LaneSubscriber
         ensures { result.now ≡ self.now.port }
@@ -104,7 +104,7 @@ impl SubscriberLane {
         &self.port
     }
 
-    /// The connections at two places change places.
+    /// Swaps the connections at two places.
     pub fn swap(&mut self, one: u64, other: u64)
         requires one { one < length self.old.port.routes }
         requires other { other < length self.old.port.routes }
@@ -113,7 +113,7 @@ impl SubscriberLane {
         self.port.swap(one, other);
     }
 
-    /// Begins a call at a moment.
+    /// Begins a call at this moment.
     pub fn begin(&mut self, moment: u64, call: &Call)
         requires { subscriber_fits self.old (Move.Begin call.now) ≡ true }
         ensures { self.new ≡ subscriber_begun moment call.now self.old }
@@ -150,7 +150,7 @@ impl SubscriberLane {
         self.first = moment;
     }
 
-    /// The words of a read whose next step is its last.
+    /// The words that a read loaded, if the next step is the last one of that read; otherwise none.
     pub fn words_read(&self) -> &[u64]
         ensures { result.now ≡ words_read self.now.port.call self.now.port.words }
     {
@@ -160,8 +160,8 @@ impl SubscriberLane {
         }
     }
 
-    /// Goes on after the answer of that access. It tells what the call answers, if that was its last step; the words of a read
-    /// begin at `from`.
+    /// Goes on after the answer of the next access. Returns the answer of the call if that was its last step; `from` is where the words of
+    /// a read begin.
     #[inline(always)]
     pub fn go_on(&mut self, given: u64, from: usize) -> Option<Answer>
         ensures lane { self.new ≡ subscriber_after given self.old }
@@ -173,7 +173,7 @@ impl SubscriberLane {
         answer
     }
 
-    /// Goes on as from where a call stands, after the answer of the access that comes next there.
+    /// Sets the call to the stage `call`, and goes on after the answer of the access that comes next there.
     #[inline(always)]
     pub fn go_on_from(&mut self, call: SubscriberCall, given: u64)
         ensures { self.new ≡ subscriber_after given (record self.old { port = record self.old.port { call = call } }) }
@@ -181,14 +181,14 @@ impl SubscriberLane {
         self.port.take_from(call, given);
     }
 
-    /// Keeps a word that was read; beyond the last one nothing happens.
+    /// Keeps a word that was read; does nothing beyond the last word.
     pub fn note(&mut self, word: u64, value: u64)
         ensures { self.new ≡ record self.old { port = changed (SubscriberChange.Note word value) self.old.port } }
     {
         self.port.note(word, value);
     }
 
-    /// Where its call stands.
+    /// The stage of its call.
     #[inline(always)]
     pub fn stage(&self) -> SubscriberCall
         ensures { result ≡ self.now.port.call }
@@ -203,7 +203,7 @@ impl SubscriberLane {
         self.call
     }
 
-    /// The moment at which that call began.
+    /// The moment of that call's first step.
     pub fn first(&self) -> u64
         ensures { result ≡ self.now.first }
     {
@@ -211,7 +211,7 @@ impl SubscriberLane {
     }
 }
 
-// What a subscriber's call answers whose next step is its last.
+// The answer of a subscriber's call, if its next step is its last one.
 fn answer_of(call: &SubscriberCall, from: usize) -> Option<Answer>
     ensures answer { result ≡ subscriber_answer call.now from }
     ensures ends { is_some result ≡ subscriber_is_over call.now }

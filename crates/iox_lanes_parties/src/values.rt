@@ -5,7 +5,7 @@
 //! let values = values_in::<u64, u8>(lane.words_read());
 //! ```
 //!
-//! Where the service numbers its messages, the user header is a [`WithSequence`](crate::WithSequence).
+//! If the service has sequence numbers, the user header is a [`WithSequence`](crate::WithSequence).
 ghost use Rattle.std.specs.Prelude.{◌≡◌, ◌+◌, ◌++◌, ℕ, take, drop, length, true, false, IfOk, IfSome, OnOk};
 ghost use Rattle.std.specs.Prelude.{None};
 ghost use Rattle.iox_lanes_parties.specs.Values.{AreValues, HasWidths, IsWriteOf, is_as_wide};
@@ -15,7 +15,7 @@ use iox_queues_base::Words;
 use std::alloc::{AllocError, Global};
 
 impl Call {
-    /// The write of a value and a user header into a loan. Fails only where an allocation fails; nothing is left of it then.
+    /// The write of a value and a user header into a loan. `AllocError` is returned only where an allocation fails.
     pub fn write<T: Words, U: Words>(
         alloc: Global,
         loan: u64,
@@ -31,8 +31,8 @@ impl Call {
         })
     }
 
-    /// From now on it is the write of this value and this user header into a loan, if it is a write of as many words; else it stays as it
-    /// is, and this answers false. It takes no memory.
+    /// Makes this call the write of this value and this user header into a loan, and returns true, if it is a write of as many words;
+    /// otherwise it stays as it is, and false is returned. Nothing is allocated.
     pub fn write_anew<T: Words, U: Words>(&mut self, loan: u64, value: &T, user_header: &U) -> bool
         ensures answers { result ≡ is_as_wide T.WORDS U.WORDS self.old }
         ensures same { result ≡ false → self.new ≡ self.old }
@@ -69,7 +69,7 @@ fn words_of<T: Words>(alloc: Global, value: &T) -> Result<Vec<u64>, AllocError>
     Ok(words)
 }
 
-// The words of a value stand behind those of a list. Fails only where an allocation fails.
+// Appends the words of a value to a list. Fails only where an allocation fails.
 fn add_words<T: Words>(list: &mut Vec<u64>, value: &T) -> Result<(), AllocError>
     ensures { OnOk result (list.new.items ≡ list.old.items ++ T.parts value.now) }
 {
@@ -79,7 +79,7 @@ fn add_words<T: Words>(list: &mut Vec<u64>, value: &T) -> Result<(), AllocError>
     Ok(())
 }
 
-// The words of a value in place of as many.
+// Replaces words by those of a value, which are as many.
 fn put_words<T: Words>(list: &mut Vec<u64>, value: &T)
     requires { length list.old.items ≡ T.WORDS }
     ensures { list.new.items ≡ T.parts value.now }
@@ -89,8 +89,8 @@ fn put_words<T: Words>(list: &mut Vec<u64>, value: &T)
     }
 }
 
-/// The user header and the value whose words these are, behind the three of a header, as a read or a message has them. None where they
-/// are not just as many.
+/// The user header and the value whose words follow the three of a header, as in a read or a message. None if there are more or fewer
+/// words.
 pub fn values_in<T: Words, U: Words>(words: &[u64]) -> Option<(U, T)>
     ensures some { IfSome result (AreValues T.of_parts U.of_parts T.WORDS U.WORDS words.now) }
     ensures none { result ≡ None → length words.now ≡ 3 + U.WORDS + T.WORDS → ⊥ }

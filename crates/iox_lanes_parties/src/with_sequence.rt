@@ -1,7 +1,7 @@
-//! A user header behind the number of its message.
+//! A user header with the sequence number of its message.
 //!
-//! Where the service numbers its messages, a word for the number stands directly in front of the user header. So it is one of this type
-//! that is written and read there:
+//! If the service has sequence numbers, a word with the number comes directly before the user header. Then what is written and read there
+//! is a value of this type:
 //!
 //! ```
 //! let header = WithSequence { sequence: 0, user_header };
@@ -14,19 +14,21 @@ ghost use Rattle.iox_lanes_parties.specs.FewWords.{no-words-few, one-more, one-w
 
 use iox_queues_base::Words;
 
-/// A value of so few words that one more can stand in front of them.
+/// A value of so few words that one more fits in front of them: its words and one more are fewer than 2^64.
 pub trait FewWords: Words {
     ghost few: { 1 + Self.WORDS < 2 ^ 64 };
 }
 
-/// A user header, and the number of its message. It is no matter which number is written: the send of the loan sets it.
+/// A user header, and the sequence number of its message. It doesn't matter which number is written: the send of the loan sets it.
 #[derive(Clone, Copy)]
 pub struct WithSequence<U> {
+    /// The sequence number of the message.
     pub sequence: u64,
+    /// The user header.
     pub user_header: U,
 }
 
-/// The word of the number, then those of the user header.
+/// The word of the sequence number, followed by those of the user header.
 impl<U: FewWords> Words for WithSequence<U> {
     ghost parts = { λ x. x.sequence ∷ U.parts x.user_header };
 

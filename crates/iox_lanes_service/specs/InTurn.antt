@@ -1,4 +1,4 @@
--- What was asked of lanes in turn, and what they answered.
+-- What was asked of lanes by calls that don't overlap, and their answers.
 use Rattle.std.specs.Prelude.{ℕ, suc, ◌≡◌, ◌+◌, ◌*◌, ◌<◌, ◌≤◌, ◌^◌, ◌⊎◌, ⊤, Bool, true, false, List, [], ◌∷◌, ◌++◌, length, Option, None}
 use Rattle.std.specs.Prelude.{Some}
 use Rattle.iox_command.specs.DomainValues.Actions.{decision_of}
@@ -16,9 +16,9 @@ use Rattle.iox_machine.specs.Service.{Publisher, Service, Subscriber, mailbox}
 use Rattle.iox_machine.specs.State.{State}
 use Rattle.iox_machine.specs.Table.{at}
 
--- What was asked of lanes of some sizes, one whole call after the other, in the words of commands, and what was answered to each. And how
--- many loans and samples were made so far, which go by numbers, and which loans were written. Lanes are stuck once memory or steps ran out
--- within a call, and what ran out is told.
+-- What was asked of lanes of these sizes, one whole call after the other, as commands, and the answer to each. Further, how many loans and
+-- samples were made so far, which have numbers, and which loans were written. The lanes are stuck once memory or steps ran out within a
+-- call; `ran_out` says which.
 pub record Turns : Type 0 where
   pub sizes : LaneSizes
   pub asked : List (Command (List ℕ))
@@ -31,31 +31,31 @@ pub record Turns : Type 0 where
   pub stuck : Bool
   pub ran_out : Option RanOut
 
--- one command more, which was answered so
+-- The record with one command more, which was answered so.
 abbrev pub turned : Command (List ℕ) → Reply (List ℕ) → Turns → Turns
 turned asked answer turns = record turns { asked = turns.asked ++ asked ∷ []; answers = turns.answers ++ answer ∷ [] }
 
--- how many steps a call makes at most, of lanes of these sizes
+-- How many steps a call makes at most, on lanes of these sizes.
 abbrev pub most_steps : LaneSizes → ℕ
 most_steps sizes = 4 * sizes.subscribers * (sizes.buffer + sizes.most_borrowed + 3) + 8 * sizes.publishers + sizes.user_header_words
     + sizes.payload_words + 7
 
--- Memory or steps ran out within a call: a step of it found no memory for what it records; or the call made 2^62 steps, and isn't over; or
+-- Memory or steps ran out within a call: a step of it found no memory for what it records; or the call made 2^62 steps and isn't over; or
 -- more than 2^63 steps were made in all. Steps run out only where the calls that were answered, and one more, may make 2^61.
 abbrev pub RunsOut : Turns → RanOut → Type 0
 RunsOut turns out.Memory = ⊤
 RunsOut turns (out.Steps made) = (2 ^ 62 ≤ made) × (2 ^ 61 ≤ (length turns.asked + 1) * most_steps turns.sizes)
 RunsOut turns (out.Moments made) = (2 ^ 63 < made) × (2 ^ 61 ≤ (length turns.asked + 1) * most_steps turns.sizes)
 
--- A call wasn't answered. Either nothing changed, and lanes were stuck before if the call fits; or memory or steps ran out within it, lanes
--- are stuck since, and nothing else changed.
+-- A call wasn't answered. Either nothing changed, and if the call fits, the lanes were stuck before; or memory or steps ran out within it,
+-- the lanes are stuck since then, and nothing else changed.
 abbrev pub IsUnanswered : Type 0 → Turns → Turns → Type 0
 IsUnanswered Fits old new =
     ((new ≡ old) × (Fits → old.stuck ≡ true))
     ⊎ ((why : RanOut) × RunsOut old why × (new ≡ record old { stuck = true; ran_out = Some why }))
 
--- A publisher that came, and is connected to each subscriber, before it lends and sends. It numbers no messages, and where mailboxes may be
--- full it discards.
+-- A publisher that was created and is connected to each subscriber, before it loans and sends. Its messages have no sequence numbers, and
+-- if mailboxes don't overflow, it discards messages at full ones.
 pub record ComesToSend (sizes : LaneSizes) (service : Service (List ℕ)) (publisher : Publisher (List ℕ)) : Type 0 where
   pub stands : publisher.stands ≡ true
   pub free : publisher.blocked ≡ None
@@ -69,7 +69,7 @@ pub record ComesToSend (sizes : LaneSizes) (service : Service (List ℕ)) (publi
   pub ahead : publisher.first ≤ publisher.next
   pub discards : service.settings.enable_safe_overflow ≡ false → decision_of publisher.strategy publisher.handler ≡ DiscardData
 
--- A subscriber that came, and is connected to each publisher.
+-- A subscriber that was created and is connected to each publisher.
 pub record ComesToReceive (sizes : LaneSizes) (service : Service (List ℕ)) (subscriber : Subscriber) : Type 0 where
   pub stands : subscriber.stands ≡ true
   pub seen : subscriber.seen ≡ service.publisher_list.changes
@@ -77,8 +77,8 @@ pub record ComesToReceive (sizes : LaneSizes) (service : Service (List ℕ)) (su
   pub expired : length subscriber.expired ≡ 0
   pub connected : those subscriber.connected ≡ listed (λ place. suc place) sizes.publishers
 
--- The machine from which lanes go on: it has one service, with the same sizes, at which at least as many ports came as they have. The port
--- at a place goes by the number after it. Nothing was lent or sent yet.
+-- The state of the machine from which lanes go on: it has one service, with the same sizes, where at least as many ports were created as
+-- the lanes have. The port at a place has the number after the place. Nothing was loaned or sent yet.
 pub record BeginsTurns (sizes : LaneSizes) (state : State (List ℕ)) : Type 0 where
   pub service : Service (List ℕ)
   pub alone : state.services ≡ service ∷ []
@@ -98,6 +98,6 @@ pub record BeginsTurns (sizes : LaneSizes) (state : State (List ℕ)) : Type 0 w
   pub no_loans : state.made.loans ≡ 0
   pub no_samples : state.made.samples ≡ 0
 
--- For any sizes there is a machine from which lanes go on.
+-- For any sizes there is a state of the machine from which lanes go on.
 abbrev pub TurnsBegin : Type 0
 TurnsBegin = (sizes : LaneSizes) → (state : State (List ℕ)) × BeginsTurns sizes state

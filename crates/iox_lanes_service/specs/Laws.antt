@@ -1,4 +1,4 @@
--- What a call of lanes that no other call overlaps is: a command that the machine's service does.
+-- A call of lanes that no other call overlaps is a command that the machine's service does.
 use Rattle.std.specs.Prelude.{ℕ, ◌+◌, ◌<◌, ◌≡◌, ◌^◌, Bool, true, false, List, [], ◌∷◌, ◌++◌, length, drop, get_or, slice_get, Option, None}
 use Rattle.std.specs.Prelude.{Some}
 use Rattle.std.specs.Global.{Vec}
@@ -37,59 +37,59 @@ use Rattle.iox_machine.specs.Service.{Service}
 use Rattle.iox_machine.specs.State.{State, counted}
 use Rattle.iox_machine.specs.Table.{at, removed}
 
--- the place of the publisher of a connection; 0 where there is none
+-- The place of the publisher of a connection; 0 if there is no connection.
 abbrev pub publisher_over : List LinkState → Option Route → ℕ
 publisher_over links None = 0
 publisher_over links (Some route) = option_map_or (λ (link : LinkState). link.publisher) (slice_get links route.connection) 0
 
--- the sample that a receive took, if it took one, goes by this number, behind the others
+-- The samples, with the one that a receive took, if it took one, behind the others under this number.
 abbrev pub with_received : ℕ → ℕ → List LinkState → SubscriberLaneState → Receipt → List (ℕ × LaneSample) → List (ℕ × LaneSample)
 with_received sample subscriber links lane (receipt.Taken place slot) held = held
     ++ (sample, record { publisher = publisher_over links (slice_get lane.port.routes place); subscriber = subscriber; slot = slot }) ∷ []
 with_received sample subscriber links lane receipt.Nothing held = held
 with_received sample subscriber links lane receipt.ExceedsMaxBorrows held = held
 
--- what is replied to a receive whose sample gets this number, with these values, if it took one
+-- The reply to a receive whose sample gets this number and these values, if it took one.
 abbrev pub received_as : {T : Type 0} → ℕ → Vec T → Receipt → Reply T
 received_as sample values (receipt.Taken place slot) = reply.Received sample values
 received_as sample values receipt.Nothing = reply.NothingWaits
 received_as sample values receipt.ExceedsMaxBorrows = reply.Refused (refusal.Receive ExceedsMaxBorrows)
 
--- these values are that of the slot that a receive took, if it took one
+-- These values are the one value of the slot that a receive took, if it took one.
 abbrev pub AreTaken : {T : Type 0} → (List ℕ → T) → TableWords → Receipt → Vec T → Type 0
 AreTaken value table (receipt.Taken place slot) values = vec_items values ≡ value (payload_held table slot) ∷ []
 AreTaken value table receipt.Nothing values = Unit {0}
 AreTaken value table receipt.ExceedsMaxBorrows values = Unit {0}
 
--- the loan that was lent, if one was, goes by this number, behind the others
+-- The loans, with the one that was made, if one was, behind the others under this number.
 abbrev pub with_lent_slot : ℕ → ℕ → LoanAnswer → List (ℕ × LaneLoan) → List (ℕ × LaneLoan)
 with_lent_slot number publisher (loan.Slot slot) lent = lent ++ (number, record { publisher = publisher; slot = slot }) ∷ []
 with_lent_slot number publisher loan.ExceedsMaxLoans lent = lent
 with_lent_slot number publisher loan.OutOfMemory lent = lent
 
--- what is replied where a loan gets this number, or why none came
+-- The reply to a loan that gets this number, or the error.
 abbrev pub loan_replied : {T : Type 0} → ℕ → LoanAnswer → Reply T
 loan_replied number (loan.Slot slot) = reply.LoanMade number
 loan_replied number loan.ExceedsMaxLoans = reply.Refused (refusal.Loan refused.ExceedsMaxLoans)
 loan_replied number loan.OutOfMemory = reply.Refused (refusal.Loan refused.OutOfMemory)
 
--- what is replied to a send: how many mailboxes took the message, or that it couldn't deliver
+-- The reply to a send: how many mailboxes took the message, or that it was unable to deliver.
 abbrev pub send_replied : {T : Type 0} → SendAnswer → Reply T
 send_replied (sent.Delivered delivery) = reply.Delivered delivery.taken
 send_replied (sent.UnableToDeliver delivery) = reply.Refused (refusal.Send error.UnableToDeliver)
 
--- the words of a payload among those that a read gave, behind header and user header
+-- The words of the payload among those that a read returned, after header and user header.
 abbrev pub payload_read : World → World → List ℕ
 payload_read m n = drop (3 + m.table.sizes.user_header_words) (drop (length m.read) n.read)
 
--- the number of a message, among the words that a read gave: the fourth one, if sends number their messages
+-- The sequence number of a message among the words that a read returned: the fourth one, if messages have sequence numbers.
 abbrev pub sequence_read : Bool → World → World → Option ℕ
 sequence_read true m n = Some (get_or (drop (length m.read) n.read) 3 0)
 sequence_read false m n = None
 
--- A machine is made for messages of certain types, with what others may choose; its messages have one value, which is read of words.
+-- The machine has these message types, and these choices that others may make; its messages have one value, which is read from words.
 module _ {T : Type 0} (choices : Choices T) (value : List ℕ → T) (types : MessageTypeDetails) (buffer : ℕ) where
-  -- A machine that has this service alone answers a command so, and has one then for which these lanes stand.
+  -- A machine that has only this service answers a command so, and has a service after that which these lanes represent.
   abbrev pub IsLaneStep : Command T → Reply T → State T → Service T → LaneNaming → List (ℕ × LaneLoan) → List (ℕ × LaneSample) → World
       → Type 0
   IsLaneStep asked answered state service names lent held n =
@@ -109,7 +109,7 @@ module _ {T : Type 0} (choices : Choices T) (value : List ℕ → T) (types : Me
       → IsLaneStep (command.Receive (names.subscriber place)) (received_as (state.made.samples + 1) values given) state service names lent
       (with_received (state.made.samples + 1) place m.links before given held) n)
 
-  -- A read is one of the sample that goes by a number, and the value of the words that it gives is the one that the machine answers.
+  -- A read is one of the sample with this number, and the value of the words that it returns is the one that the machine answers.
   abbrev pub ReadsAreSteps : Type 0
   ReadsAreSteps = (names : LaneNaming) (lent : List (ℕ × LaneLoan)) (held : List (ℕ × LaneSample)) (m n : World) (service : Service T)
       (state : State T) (sample : ℕ) (one : LaneSample)
@@ -119,7 +119,7 @@ module _ {T : Type 0} (choices : Choices T) (value : List ℕ → T) (types : Me
       × ((values : Vec T) → vec_items values ≡ value (payload_read m n) ∷ []
       → IsLaneStep (command.Read sample) (reply.Values values) state service names lent held n)
 
-  -- A read is also the command that tells the number that its send gave the message.
+  -- A read is also the command that reports the sequence number that the send gave the message.
   abbrev pub NumbersAreTold : Type 0
   NumbersAreTold = (names : LaneNaming) (lent : List (ℕ × LaneLoan)) (held : List (ℕ × LaneSample)) (m n : World) (service : Service T)
       (state : State T) (sample : ℕ) (one : LaneSample)
@@ -127,7 +127,7 @@ module _ {T : Type 0} (choices : Choices T) (value : List ℕ → T) (types : Me
       → IsInTurn m (Subscriber one.subscriber) (call.Read one.slot) n
       → IsLaneStep (command.Sequence sample) (reply.Sequence (sequence_read names.numbered m n)) state service names lent held n
 
-  -- A release is one of the sample that goes by a number, and nothing goes by that number then.
+  -- A release is one of the sample with this number, and no sample has the number after that.
   abbrev pub ReleasesAreSteps : Type 0
   ReleasesAreSteps = (names : LaneNaming) (lent : List (ℕ × LaneLoan)) (held : List (ℕ × LaneSample)) (m n : World) (service : Service T)
       (state : State T) (sample : ℕ) (one : LaneSample)
@@ -136,8 +136,8 @@ module _ {T : Type 0} (choices : Choices T) (value : List ℕ → T) (types : Me
       → IsAnswered m (Subscriber one.subscriber) (call.Release one.slot) (answer.Released true) n
       × IsLaneStep (command.Release sample) reply.Done state service names lent (removed sample held) n
 
-  -- A loan is one of a single value that is unwritten. It gets the next number, which no loan has yet, and its message the publisher's next
-  -- one. Messages in other slots keep theirs. The publisher's slots lie below 2^64.
+  -- A loan is one of a single value that is unwritten. It gets the next number, which no loan has yet, and its message gets the publisher's
+  -- next number. Messages in other slots keep theirs. The publisher's slots have numbers below 2^64.
   abbrev pub LoansAreSteps : Type 0
   LoansAreSteps = (names : LaneNaming) (lent : List (ℕ × LaneLoan)) (held : List (ℕ × LaneSample)) (m n : World) (service : Service T)
       (state : State T) (place : ℕ) (before : PublisherLaneState)
@@ -150,7 +150,7 @@ module _ {T : Type 0} (choices : Choices T) (value : List ℕ → T) (types : Me
       service
       (record names { message = message }) (with_lent_slot (state.made.loans + 1) place given lent) held n)
 
-  -- A loan that is given up is one that goes by a number, and nothing goes by that number then.
+  -- The dropping of a loan is one of the loan with this number, and no loan has the number after that.
   abbrev pub DropsAreSteps : Type 0
   DropsAreSteps = (names : LaneNaming) (lent : List (ℕ × LaneLoan)) (held : List (ℕ × LaneSample)) (m n : World) (service : Service T)
       (state : State T) (number : ℕ) (one : LaneLoan)
@@ -159,7 +159,7 @@ module _ {T : Type 0} (choices : Choices T) (value : List ℕ → T) (types : Me
       → IsAnswered m (Publisher one.publisher) (call.DropLoan one.slot) answer.Dropped n
       × IsLaneStep (command.Drop number) reply.Done state service names (removed number lent) held n
 
-  -- A write fills the loan that goes by a number with the value of its words.
+  -- A write fills the loan with this number with the value of its words.
   abbrev pub WritesAreSteps : Type 0
   WritesAreSteps = (names : LaneNaming) (lent : List (ℕ × LaneLoan)) (held : List (ℕ × LaneSample)) (m n : World) (service : Service T)
       (state : State T) (number : ℕ) (one : LaneLoan) (payload user_header : Vec ℕ)
@@ -168,8 +168,8 @@ module _ {T : Type 0} (choices : Choices T) (value : List ℕ → T) (types : Me
       → IsAnswered m (Publisher one.publisher) (call.Write one.slot payload user_header) answer.Written n
       × IsLaneStep (command.Fill number (value payload.items ∷ [])) reply.Done state service names lent held n
 
-  -- A send is one of the loan that goes by a number, and nothing goes by that number then. The machine's publisher finds nothing new in the
-  -- list of subscribers, and passes over each full mailbox as the lane does.
+  -- A send is one of the loan with this number, and no loan has the number after that. The machine's publisher finds nothing new in the
+  -- list of subscribers, and skips each full mailbox as the lane does.
   abbrev pub SendsAreSteps : Type 0
   SendsAreSteps = (names : LaneNaming) (lent : List (ℕ × LaneLoan)) (held : List (ℕ × LaneSample)) (m n : World) (service : Service T)
       (state : State T) (number : ℕ) (one : LaneLoan)

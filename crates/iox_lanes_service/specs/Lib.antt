@@ -1,4 +1,4 @@
--- The definitions that the laws cite on which service of the machine lanes are.
+-- The definitions that the theorems on lanes and services of the machine cite.
 pub mod Naming
 pub mod Ports
 pub mod Standing

@@ -1,4 +1,4 @@
--- Which service lanes stand for before their first step.
+-- Which service lanes represent before their first step.
 use Rattle.std.specs.Prelude.{ℕ, ◌<◌, ◌≤◌, ◌≡◌, false, true, List, [], length, None, Some}
 use Rattle.iox_command.specs.DomainValues.Actions.{decision_of}
 use Rattle.iox_lanes_machine.specs.QueuesSteps.Ends.{overflows}
@@ -13,8 +13,8 @@ use Rattle.iox_machine.specs.Service.{Publisher, Service, Subscriber, mailbox}
 use Rattle.iox_machine.specs.Table.{at}
 
 module _ {T : Type 0} (choices : Choices T) (names : LaneNaming) (sizes : LaneSizes) (service : Service T) where
-  -- A publisher that came and is connected to each subscriber, as it is before it lends and sends; it doesn't number messages, and where
-  -- mailboxes may be full it may pass them over.
+  -- A publisher that was created and is connected to each subscriber, before it loans and sends. Its messages have no sequence numbers, and
+  -- if mailboxes don't overflow, it may skip full ones.
   pub record IsUnusedPublisher (place : ℕ) (publisher : Publisher T) : Type 0 where
     pub stands : publisher.stands ≡ true
     pub free : publisher.blocked ≡ None
@@ -29,7 +29,7 @@ module _ {T : Type 0} (choices : Choices T) (names : LaneNaming) (sizes : LaneSi
     pub decides : service.settings.enable_safe_overflow ≡ false
         → choices.publisher_decides (names.publisher place) 0 0 (decision_of publisher.strategy publisher.handler) (passing_over false)
 
-  -- a subscriber that came and is connected to each publisher
+  -- A subscriber that was created and is connected to each publisher.
   pub record IsUnusedSubscriber (subscriber : Subscriber) : Type 0 where
     pub stands : subscriber.stands ≡ true
     pub seen : subscriber.seen ≡ service.publisher_list.changes
@@ -37,8 +37,8 @@ module _ {T : Type 0} (choices : Choices T) (names : LaneNaming) (sizes : LaneSi
     pub expired : length subscriber.expired ≡ 0
     pub connected : those subscriber.connected ≡ listed names.publisher sizes.publishers
 
-  -- A service whose sends don't number their messages, at which at least as many ports came as lanes have, each with its own name. They
-  -- are connected, sizes are the same, and nothing was lent or sent yet.
+  -- A service whose messages have no sequence numbers, where at least as many ports were created as the lanes have, each with its own name.
+  -- The ports are connected, the sizes are the same, and nothing was loaned or sent yet.
   pub record IsUnusedFor : Type 0 where
     pub unnumbered : names.numbered ≡ false
     pub publishers : (place : ℕ) → place < sizes.publishers
@@ -61,7 +61,7 @@ module _ {T : Type 0} (choices : Choices T) (names : LaneNaming) (sizes : LaneSi
     pub loans : service.loans ≡ []
     pub samples : service.samples ≡ []
 
--- Lanes that were made, before their first step, stand for each such service.
+-- Lanes that were made, before their first step, represent each such service (`IsUnusedFor`).
 abbrev pub NewLanesStand : {T : Type 0} → Choices T → (List ℕ → T) → Type 0
 NewLanesStand {T} choices value = (names : LaneNaming) (sizes : LaneSizes) (service : Service T)
     → IsUnusedFor choices names sizes service → LanesStandFor choices value names [] [] (start sizes) service

@@ -1,4 +1,4 @@
--- Which service of the machine lanes are.
+-- Which service of the machine lanes represent.
 use Rattle.std.specs.Prelude.{ℕ, ◌+◌, ◌<◌, ◌≤◌, ◌≡◌, ◌^◌, Bool, true, List, [], map, is_some, slice_get, Some}
 use Rattle.std.specs.Map.{keys_of}
 use Rattle.iox_lanes_machine.specs.LanesParties.Parties.{PublisherLaneState, SubscriberLaneState}
@@ -16,34 +16,34 @@ use Rattle.iox_machine.specs.Choices.{Choices}
 use Rattle.iox_machine.specs.Service.{Publisher, Service, Subscriber, mailbox}
 use Rattle.iox_machine.specs.Table.{at}
 
--- no connection of the publisher at a place is that of a subscriber with this name
+-- No connection of the publisher at this place leads to a subscriber with this name.
 abbrev pub JoinsNoneOf : LaneNaming → List LinkState → ℕ → ℕ → Type 0
 JoinsNoneOf names links place other = (connection : ℕ) (link : LinkState) → slice_get links connection ≡ Some link → link.publisher ≡ place
     → names.subscriber link.subscriber ≡ other → ⊥
 
--- a sample came over one of the connections
+-- The sample came over one of the connections.
 pub record CameOverOne (links : List LinkState) (sample : LaneSample) : Type 0 where
   pub connection : ℕ
   pub link : LinkState
   pub found : slice_get links connection ≡ Some link
   pub over : came_over link sample ≡ true
 
--- Where sends number their messages, each header has a word for the number, and every publisher has a last one. This is far from the
--- largest: it was below 2^63 before the first step.
+-- If messages have sequence numbers, each header has a word for the number, and every publisher has a last number. That is far from the
+-- largest one, since it was below 2^63 before the first step.
 pub record NumbersFit (numbered : Bool) (m : World) : Type 0 where
   pub wide : numbered ≡ true → 1 ≤ m.table.sizes.user_header_words
   pub each : (place : ℕ) (lane : PublisherLaneState) → slice_get m.publishers place ≡ Some lane → is_some lane.last ≡ numbered
   pub low : (place : ℕ) (lane : PublisherLaneState) (last : ℕ) → slice_get m.publishers place ≡ Some lane → lane.last ≡ Some last
       → last < 2 ^ 63 + m.moments
 
--- Lanes between calls, with the loans and samples that go by numbers, stand for this service of the machine, by these names. The machine
--- may choose so, and messages have one value, which is read of the words of a payload.
+-- Lanes between calls, with these numbered loans and samples, represent this service of the machine, under these names. The machine may
+-- make these choices, and messages have one value, which is read from the words of a payload.
 pub record LanesStandFor {T : Type 0} (choices : Choices T) (value : List ℕ → T) (names : LaneNaming) (lent : List (ℕ × LaneLoan))
     (held : List (ℕ × LaneSample)) (m : World) (service : Service T) : Type 0 where
-  -- nobody is inside a call
+  -- Nobody is inside a call.
   pub between : AllBetween m
   pub numbers : NumbersFit names.numbered m
-  -- each publisher and each subscriber is one of the machine, and no two are the same
+  -- Each publisher and each subscriber is one of the machine, and no two are the same.
   pub publishers : (place : ℕ) (lane : PublisherLaneState) → slice_get m.publishers place ≡ Some lane
       → (publisher : Publisher T) × (at (names.publisher place) service.publishers ≡ Some publisher)
       × LanePublisherIs choices value names m service place lane publisher
@@ -54,7 +54,7 @@ pub record LanesStandFor {T : Type 0} (choices : Choices T) (value : List ℕ �
       → slice_get m.publishers other ≡ Some behind → names.publisher one ≡ names.publisher other → one ≡ other
   pub subscribers_apart : (one other : ℕ) (lane behind : SubscriberLaneState) → slice_get m.subscribers one ≡ Some lane
       → slice_get m.subscribers other ≡ Some behind → names.subscriber one ≡ names.subscriber other → one ≡ other
-  -- each connection leads from one to another, and is a mailbox, which lets its oldest go or refuses as agreed
+  -- Each connection leads from a publisher to a subscriber, and is a mailbox, which overflows or refuses as agreed.
   pub joined : (connection : ℕ) (link : LinkState) → slice_get m.links connection ≡ Some link
       → ((lane : PublisherLaneState) × (slice_get m.publishers link.publisher ≡ Some lane))
       × ((lane : SubscriberLaneState) × (slice_get m.subscribers link.subscriber ≡ Some lane))
@@ -63,18 +63,19 @@ pub record LanesStandFor {T : Type 0} (choices : Choices T) (value : List ℕ �
       ≡ Some (lane_mailbox value names m held connection link)
   pub kinds : (connection : ℕ) (link : LinkState) → slice_get m.links connection ≡ Some link
       → overflows link.kind ≡ service.settings.enable_safe_overflow
-  -- another mailbox of a publisher has nothing
+  -- Every other mailbox of a publisher is empty.
   pub others : (place other : ℕ) (lane : PublisherLaneState) → slice_get m.publishers place ≡ Some lane
       → JoinsNoneOf names m.links place other
       → ((mailbox (names.publisher place) other service).waiting ≡ []) × ((mailbox (names.publisher place) other service).borrowed ≡ [])
-  -- The loans of the machine are those that go by numbers. Each of these has its own number, and they are the loans of the publishers
+  -- The loans of the machine are the numbered ones. Each of these has its own number, and they are all the loans of the publishers.
   pub loans : service.loans ≡ map (λ (entry : ℕ × LaneLoan). (entry.0, loan_by_numbers value names m entry.1)) lent
   pub loans_once : (number : ℕ) → count number (keys_of lent) ≤ 1
   pub loans_there : (index : ℕ) (entry : ℕ × LaneLoan) → slice_get lent index ≡ Some entry
       → (lane : PublisherLaneState) × (slice_get m.publishers entry.1.publisher ≡ Some lane)
   pub loans_all : (place : ℕ) (lane : PublisherLaneState) (slot : ℕ) → slice_get m.publishers place ≡ Some lane
       → count slot (slots_lent_at place lent) ≡ one_if (is_loan lane slot)
-  -- So it is of the samples: they came over connections, and are what the subscribers borrow of them
+  -- The samples of the machine are the numbered ones. Each of these has its own number and came over a connection, and they are all that
+  -- the subscribers borrow.
   pub samples : service.samples ≡ map (λ (entry : ℕ × LaneSample). (entry.0, sample_by_numbers value names m entry.1)) held
   pub samples_once : (number : ℕ) → count number (keys_of held) ≤ 1
   pub samples_there : (index : ℕ) (entry : ℕ × LaneSample) → slice_get held index ≡ Some entry → CameOverOne m.links entry.1

@@ -26,35 +26,35 @@ use Rattle.iox_machine.specs.Service.{Service}
 use Rattle.iox_machine.specs.State.{Made, State, counted}
 use Rattle.iox_machine.specs.Table.{at, removed}
 
--- Calls of parties go in turn: each begins once the one before it has ended, and no other call overlaps it.
+-- These calls of parties don't overlap: each begins once the one before it has ended, and no other call overlaps it.
 abbrev pub GoInTurn : World → List (Party × Call) → World → Type 0
 GoInTurn m [] n = n ≡ m
 GoInTurn m (one ∷ more) n = (mid : World) × IsInTurn m one.0 one.1 mid × GoInTurn mid more n
 
--- The numbers that the machine has for what lanes have, and by which loans and samples go.
+-- The numbers that the machine has for what lanes have, and those of the loans and samples.
 pub record LaneNumbers : Type 0 where
   pub names : LaneNaming
   pub lent : List (ℕ × LaneLoan)
   pub held : List (ℕ × LaneSample)
 
--- No number of a loan or of a sample is above the number of those that were made.
+-- No number of a loan or a sample is above the count of those that were made.
 pub record AreMade (numbers : LaneNumbers) (made : Made) : Type 0 where
   pub loans : (index : ℕ) (entry : ℕ × LaneLoan) → slice_get numbers.lent index ≡ Some entry → entry.0 ≤ made.loans
   pub samples : (index : ℕ) (entry : ℕ × LaneSample) → slice_get numbers.held index ≡ Some entry → entry.0 ≤ made.samples
 
--- this loan goes by a number
+-- The loan of this publisher and slot has this number.
 abbrev pub IsLentAs : ℕ → ℕ → ℕ → LaneNumbers → Type 0
 IsLentAs number place slot numbers = at number numbers.lent ≡ Some (record { publisher = place; slot = slot })
 
--- a sample in this slot, which the subscriber at this place holds, goes by a number
+-- A sample in this slot, which the subscriber at this place holds, has this number.
 abbrev pub IsHeldAs : ℕ → ℕ → ℕ → LaneNumbers → Type 0
 IsHeldAs number place slot numbers =
     (one : LaneSample) × (at number numbers.held ≡ Some one) × (one.subscriber ≡ place) × (one.slot ≡ slot)
 
--- Messages have one value, which is read of the words of a payload.
+-- Messages have one value, which is read from the words of a payload.
 module _ {T : Type 0} (value : List ℕ → T) where
-  -- A call that was answered so is this command, which is replied to so, by these numbers before and after it, where so many loans and
-  -- samples were made.
+  -- A call with this answer is this command with this reply, under these numbers before and after it, if this many loans and samples were
+  -- made.
   abbrev pub IsSaid : LaneNumbers → Made → World → World → Party → Call → Answer → Command T → Reply T → LaneNumbers → Type 0
   IsSaid old made m n (Publisher place) call.LoanUninit (answer.Lent given) asked replied new =
       (asked ≡ command.LoanUninit (old.names.publisher place) 1) × (replied ≡ loan_replied (made.loans + 1) given)
@@ -87,7 +87,7 @@ module _ {T : Type 0} (value : List ℕ → T) where
       × (new ≡ record old { held = removed sample old.held })
   IsSaid old made m n party asking given asked replied new = ⊥
 
-  -- Calls that go in turn are these commands, one each, and these are their replies.
+  -- Calls that don't overlap are these commands, one each, with these replies.
   abbrev pub AreSaid : LaneNumbers → Made → World → List (Party × Call) → World → List (Command T) → List (Reply T) → LaneNumbers → Type 0
   AreSaid old made m [] n [] [] new = (n ≡ m) × (new ≡ old)
   AreSaid old made m (one ∷ more) n (asked ∷ commands) (replied ∷ replies) new =
@@ -95,9 +95,9 @@ module _ {T : Type 0} (value : List ℕ → T) where
       × IsSaid old made m mid one.0 one.1 given asked replied next × AreSaid next (counted replied made) mid more n commands replies new
   AreSaid old made m calls n commands replies new = ⊥
 
--- A machine is made for messages of certain types, with what others may choose; its messages have one value, which is read of words.
+-- The machine has these message types, and these choices that others may make; its messages have one value, which is read from words.
 module _ {T : Type 0} (choices : Choices T) (value : List ℕ → T) (types : MessageTypeDetails) (buffer : ℕ) where
-  -- What the machine did for calls that went in turn: commands with their replies, after which the lanes stand for its one service.
+  -- What the machine did for calls that don't overlap: commands with their replies, after which the lanes represent its one service.
   pub record IsRun (old : LaneNumbers) (m : World) (state : State T) (calls : List (Party × Call)) (n : World) : Type 0 where
     pub commands : List (Command T)
     pub replies : List (Reply T)
@@ -110,8 +110,8 @@ module _ {T : Type 0} (choices : Choices T) (value : List ℕ → T) (types : Me
     pub stands : LanesStandFor choices value new.names new.lent new.held n service
     pub made : AreMade new after.made
 
-  -- Calls that go in turn, of lanes that stand for the one service of a machine, are a run of the machine. No number of a loan or of a
-  -- sample is above the number of those that were made, and there are fewer than 2^64 slots.
+  -- Calls that don't overlap, of lanes that represent the one service of a machine, are a run of the machine. No number of a loan or a
+  -- sample may be above the count of those that were made, and there must be fewer than 2^64 slots.
   abbrev pub TurnsAreRuns : Type 0
   TurnsAreRuns = (old : LaneNumbers) (m n : World) (service : Service T) (state : State T) (calls : List (Party × Call))
       → LanesStandFor choices value old.names old.lent old.held m service → AreMade old state.made → state.services ≡ service ∷ []

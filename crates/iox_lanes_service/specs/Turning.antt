@@ -1,4 +1,4 @@
--- What lanes in turn record, and what ties the record to the lanes.
+-- What lanes whose calls don't overlap record, and how the record relates to the lanes.
 use Rattle.std.specs.Prelude.{Option, None, Some, Result, Ok, Err, ⊤}
 use Rattle.std.specs.Prelude.{ℕ, ◌+◌, ◌*◌, ◌≡◌, ◌<◌, ◌≤◌, ◌^◌, zero, suc, true, false, List, [], ◌∷◌, ◌++◌, length, slice_get, is_some}
 use Rattle.std.specs.Global.{Vec}
@@ -51,24 +51,24 @@ use Rattle.iox_machine.specs.Service.{Service}
 use Rattle.iox_machine.specs.State.{State}
 use Rattle.iox_machine.specs.Table.{contains, removed}
 
--- a publisher lent this slot, as the next loan
+-- The record after a publisher loaned this slot, as the next loan.
 abbrev pub slot_lent : ℕ → ℕ → Turns → Turns
 slot_lent place slot turns = record (turned (command.LoanUninit (suc place) 1) (reply.LoanMade (turns.loans + 1)) turns) {
   loans = turns.loans + 1;
   lent = turns.lent ++ (turns.loans + 1, record { publisher = place; slot = slot }) ∷ [];
 }
 
--- a loan was written with this payload
+-- The record after a loan was written with this payload.
 abbrev pub loan_written : ℕ → List ℕ → Turns → Turns
 loan_written number payload turns = record (turned (command.Fill number (payload ∷ [])) reply.Done turns) {
   written = number ∷ turns.written;
 }
 
--- a loan was spent: it goes by no number then
+-- The record after a loan was sent or dropped; it has no number any longer.
 abbrev pub loan_spent : ℕ → Command (List ℕ) → Reply (List ℕ) → Turns → Turns
 loan_spent number asked answer turns = record (turned asked answer turns) { lent = removed number turns.lent }
 
--- a subscriber received this slot of a publisher, with these values, as the next sample
+-- The record after a subscriber received this slot of a publisher, with these values, as the next sample.
 abbrev pub sample_taken : ℕ → ℕ → ℕ → Vec (List ℕ) → Turns → Turns
 sample_taken publisher subscriber slot values turns =
     record (turned (command.Receive (suc subscriber)) (reply.Received (turns.samples + 1) values) turns) {
@@ -77,54 +77,54 @@ sample_taken publisher subscriber slot values turns =
           ++ (turns.samples + 1, record { publisher = publisher; subscriber = subscriber; slot = slot }) ∷ [];
     }
 
--- for each port it is chosen what was named
+-- For each port it is chosen what its command named.
 abbrev pub turn_choices : Choices (List ℕ)
 turn_choices = as_named (λ words. ⊤)
 
--- The publisher at a place goes by the number after it, and so does the subscriber; sends don't number their messages.
+-- The publisher and the subscriber at a place have the number after the place; messages have no sequence numbers.
 abbrev pub turn_names : LaneNaming
 turn_names = record { publisher = λ place. suc place; subscriber = λ place. suc place; message = λ slot. 0; numbered = false }
 
--- a party goes on for so many steps, of which none ends its call
+-- The party makes this many steps, none of which ends its call.
 abbrev pub GoesThrough : Party → ℕ → World → World → Type 0
 GoesThrough party zero m n = n ≡ m
 GoesThrough party (suc more) m n = (next : World) × StepsTo m party GoOn stepped.Went next × GoesThrough party more next n
 
--- where a call stopped that a party was in: its next step found no memory for what it records; or it made so many steps, 2^62 or more, and
--- isn't over; or it is over, and so many steps were made in all, more than 2^63
+-- Where the call that a party was in stopped: its next step found no memory for what it records; or it made 2^62 steps or more and isn't
+-- over; or it is over, and more than 2^63 steps were made in all.
 abbrev pub StoppedBy : Party → World → RanOut → World → Type 0
 StoppedBy party m out.Memory n = (made : ℕ) × GoesThrough party made m n × StepsTo n party GoOn stepped.NoMemory n
 StoppedBy party m (out.Steps made) n = (2 ^ 62 ≤ made) × GoesThrough party made m n
 StoppedBy party m (out.Moments made) n = (2 ^ 63 < made) × (n.moments ≡ made) × ((more : ℕ) × GoesToEnd party more m n)
 
--- a call began and stopped, since memory or steps ran out
+-- A call began and stopped, since memory or steps ran out.
 pub record StopsWithin (m : World) (party : Party) (asking : Call) (why : RanOut) (n : World) : Type 0 where
   pub begun : World
   pub begins : StepsTo m party (Begin asking) stepped.Went begun
   pub stopped : StoppedBy party begun why n
 
--- some call did
+-- Some call stopped for this reason and left these lanes.
 abbrev pub HasStopped : RanOut → World → Type 0
 HasStopped why n = (m : World) × (party : Party) × (asking : Call) × StopsWithin m party asking why n
 
--- a call was made in turn, and this is its answer
+-- A call that no other one overlapped was made, with this answer.
 pub record TurnEnds (m : World) (party : Party) (asking : Call) (given : Answer) (n : World) : Type 0 where
   pub in_turn : IsInTurn m party asking n
   pub call : FinishedCall
   pub ended : slice_get n.finished (length m.finished) ≡ Some call
   pub answered : call.answer ≡ given
 
--- how a turn came out: its call doesn't fit, and nothing changed; it stopped within its call, since memory or steps ran out; or it ended
+-- How a whole call came out: it doesn't fit, and nothing changed; it stopped, since memory or steps ran out; or it ended.
 abbrev pub TakesTurn : World → Party → Call → Turn → World → Type 0
 TakesTurn m party asking turn.NotBegun n = (fits m party (Begin asking) ≡ false) × (n ≡ m)
 TakesTurn m party asking (turn.Stuck why) n = StopsWithin m party asking why n
 TakesTurn m party asking (turn.Ended given) n = TurnEnds m party asking given n
 
--- the numbers of loans and samples, and the names of ports, where messages have these names
+-- The names of ports and the numbers of loans and samples, with these numbers of messages.
 abbrev pub named_so : (ℕ → ℕ) → LaneNaming
 named_so message = record turn_names { message = message }
 
--- the lanes stand for the one service that the machine has, by the numbers of the record
+-- The lanes represent the one service that the machine has, under the numbers of the record.
 pub record TurnsStand (turns : Turns) (m : World) (state : State (List ℕ)) : Type 0 where
   pub service : Service (List ℕ)
   pub alone : state.services ≡ service ∷ []
@@ -134,8 +134,8 @@ pub record TurnsStand (turns : Turns) (m : World) (state : State (List ℕ)) : T
   pub loans : state.made.loans ≡ turns.loans
   pub samples : state.made.samples ≡ turns.samples
 
--- lanes of these sizes go on from here: they came to here, nobody is inside a call, each publisher has a connection to each subscriber, and
--- slots have numbers below 2^64
+-- Lanes of these sizes go on from here: they came here by steps, nobody is inside a call, each publisher has a connection to each
+-- subscriber, and slots have numbers below 2^64.
 pub record TurnsGoOn (sizes : LaneSizes) (m : World) : Type 0 where
   pub came : CameTo m
   pub between : AllBetween m
@@ -148,19 +148,19 @@ pub record TurnsGoOn (sizes : LaneSizes) (m : World) : Type 0 where
   pub table : m.table.sizes ≡ table_sizes sizes
   pub small : m.table.sizes.slots < 2 ^ 64
 
--- no number of a loan or of a sample is above the number of those that were made
+-- No number of a loan or a sample is above the count of those that were made.
 pub record NumbersLow (turns : Turns) : Type 0 where
   pub loans : (index : ℕ) (entry : ℕ × LaneLoan) → slice_get turns.lent index ≡ Some entry → entry.0 ≤ turns.loans
   pub samples : (index : ℕ) (entry : ℕ × LaneSample) → slice_get turns.held index ≡ Some entry → entry.0 ≤ turns.samples
 
--- A loan that was written is so while it goes by its number; and only loans that were made were written.
+-- A loan of the record that was written is written as long as it has its number, and only loans that were made were written.
 pub record AreWritten (turns : Turns) (m : World) : Type 0 where
   pub each : (index : ℕ) (entry : ℕ × LaneLoan) → slice_get turns.lent index ≡ Some entry → contains turns.written entry.0 ≡ true
       → has_written entry.1.slot (slice_get m.publishers entry.1.publisher) ≡ true
   pub low : (number : ℕ) → contains turns.written number ≡ true → number ≤ turns.loans
 
--- What was asked and answered is a run of the machine; and as long as no turn got stuck, lanes stand for what the machine has then, and
--- no more steps were made than the calls may make. The record tells whether a turn got stuck, and what ran out.
+-- What was asked and answered is a run of the machine. As long as no call got stuck, the lanes represent what the machine has after that
+-- run, and no more steps were made than the calls may make. The record says whether a call got stuck, and what ran out.
 pub record AreTurns (ran_out : Option RanOut) (turns : Turns) (m : World) : Type 0 where
   pub told : turns.stuck ≡ is_some ran_out
   pub why : turns.ran_out ≡ ran_out
@@ -173,13 +173,13 @@ pub record AreTurns (ran_out : Option RanOut) (turns : Turns) (m : World) : Type
   pub written : ran_out ≡ None → AreWritten turns m
   pub moved : ran_out ≡ None → most_steps turns.sizes < 2 ^ 61 → m.moments ≤ length turns.asked * most_steps turns.sizes
 
--- what a publisher at a place lent, by this number, or why it lent nothing
+-- The loan of the publisher at this place, with this number, or the error.
 abbrev pub lent_as : ℕ → LoanAnswer → TurnNumber → Result TurnLoan LoanError
 lent_as place (loan.Slot slot) number = Ok (record { publisher = place; slot = slot; number = number })
 lent_as place loan.ExceedsMaxLoans number = Err refused.ExceedsMaxLoans
 lent_as place loan.OutOfMemory number = Err refused.OutOfMemory
 
--- the record where a publisher was asked for a loan, and this was its answer
+-- The record after a publisher was asked for a loan, and this was its answer.
 abbrev pub loaned : ℕ → LoanAnswer → Turns → Turns
 loaned place (loan.Slot slot) turns = slot_lent place slot turns
 loaned place loan.ExceedsMaxLoans turns =
@@ -187,18 +187,18 @@ loaned place loan.ExceedsMaxLoans turns =
 loaned place loan.OutOfMemory turns =
     turned (command.LoanUninit (suc place) 1) (reply.Refused (refusal.Loan refused.OutOfMemory)) turns
 
--- what a publisher tells of a send: how many mailboxes took the message, or that it couldn't deliver
+-- The result of a send: how many mailboxes took the message, or that it was unable to deliver.
 abbrev pub sent_as : SendAnswer → Result ℕ SendError
 sent_as (sent.Delivered delivery) = Ok delivery.taken
 sent_as (sent.UnableToDeliver delivery) = Err error.UnableToDeliver
 
--- what a receive gave to a subscriber at a place, by this number, or why it gave nothing
+-- The sample that the subscriber at this place received, with this number, none, or the error.
 abbrev pub taken_as : ℕ → Receipt → TurnNumber → Result (Option TurnSample) ReceiveError
 taken_as place (receipt.Taken at slot) number = Ok (Some (record { subscriber = place; slot = slot; number = number }))
 taken_as place receipt.Nothing number = Ok None
 taken_as place receipt.ExceedsMaxBorrows number = Err ExceedsMaxBorrows
 
--- a route of a subscriber, by its place
+-- The route of a subscriber at this place, if there is a subscriber.
 abbrev pub lane_route : ℕ → Option SubscriberLaneState → Option Route
 lane_route at None = None
 lane_route at (Some lane) = slice_get lane.port.routes at

@@ -1,13 +1,13 @@
-//! What was asked of lanes in turn, and what they answered, which only proofs read.
+//! What was asked of lanes by calls that don't overlap, and their answers, for proofs only.
 ghost use Rattle.std.specs.Prelude.{◌≡◌, true, Some};
 ghost use Rattle.iox_lanes_service.specs.InTurn.{Turns};
 
 use crate::in_turn::RanOut;
 use std::marker::Model;
 
-/// What was asked of lanes in turn, and what they answered. It takes no memory, and nothing is done with it at run time.
+/// What was asked of lanes by calls that don't overlap, and their answers. It takes no memory, and nothing is done with it at run time.
 ///
-/// This port's own.
+/// Not in `iceoryx2`.
 #[derive(Drop)]
 pub(crate) struct TurnHistory {
     pub(crate) ghost turns: { Turns },
@@ -20,7 +20,7 @@ impl Model for TurnHistory {
 }
 
 impl TurnHistory {
-    // The history that its caller says: from what was before, what was asked, and what was answered.
+    // The history that the caller states, made from the history before, what was asked, and the answer.
     pub(crate) fn told<A, B, C>(_before: &A, _asked: &B, _answer: &C) -> TurnHistory
         ghost turns: { Turns }
         ensures { result.turns ≡ turns }
@@ -28,7 +28,7 @@ impl TurnHistory {
         TurnHistory {}
     }
 
-    // The same, where the last call got stuck, and what ran out.
+    // The same history, in which the last call got stuck for this reason.
     pub(crate) fn stopped(&self, why: RanOut) -> TurnHistory
         ensures { result.turns ≡ record self.now.turns { stuck = true; ran_out = Some why } }
     {

@@ -1,4 +1,4 @@
-//! Lanes whose calls go in turn, and which record, for proofs alone, what is asked and answered.
+//! Lanes whose calls don't overlap, and which record, for proofs only, what is asked and answered.
 ghost use Rattle.std.specs.Prelude.{ℕ, ◌≡◌, ◌+◌, ◌<◌, ◌∷◌, ◌++◌, [], ⊤, suc, true, false, length, drop};
 ghost use Rattle.std.specs.Prelude.{None, Some, MatchBool, MatchOption, MatchResult, IfOk, IfSome, OnErr};
 ghost use Rattle.iox_command.specs.NegotiateBase.DescribeBase.declared.message_type.MessageTypeDetails.{MessageTypeDetails};
@@ -28,55 +28,55 @@ use iox_queues_base::Words;
 use std::alloc::{AllocError, Global};
 use std::marker::Model;
 
-/// A loan of lanes in turn, by its publisher's place and its slot; its number, by which commands name it, only proofs read.
+/// A loan of such lanes, by its publisher's place and its slot. Its number, by which commands name it, exists for proofs only.
 ///
-/// This port's own.
+/// Not in `iceoryx2`.
 #[derive(Drop)]
 pub struct TurnLoan {
     /// The place of its publisher.
     pub publisher: usize,
     /// Its slot.
     pub slot: u64,
-    /// By which number commands name it.
+    /// The number by which commands name it.
     pub number: TurnNumber,
 }
 
-/// A sample of lanes in turn, by its subscriber's place and its slot; its number, by which commands name it, only proofs read.
+/// A sample of such lanes, by its subscriber's place and its slot. Its number, by which commands name it, exists for proofs only.
 ///
-/// This port's own.
+/// Not in `iceoryx2`.
 #[derive(Drop)]
 pub struct TurnSample {
     /// The place of its subscriber.
     pub subscriber: usize,
     /// Its slot.
     pub slot: u64,
-    /// By which number commands name it.
+    /// The number by which commands name it.
     pub number: TurnNumber,
 }
 
-/// What ran out within a call of lanes in turn.
+/// What ran out within a call.
 ///
-/// This port's own.
+/// Not in `iceoryx2`.
 #[derive(Clone, Copy, Debug, PartialEq, Eq)]
 pub enum RanOut {
     /// A step found no memory for what it records.
     Memory,
-    /// The call made so many steps, and isn't over.
+    /// The call made this many steps, and isn't over.
     Steps(u64),
-    /// The call is over, and so many steps were made in all.
+    /// The call is over, and this many steps were made in all.
     Moments(u64),
 }
 
-/// Lanes whose calls go in turn, one whole call after the other. Proofs know what was asked, in the words of commands, and what was
-/// answered.
+/// Lanes that make one whole call after the other. Proofs know what was asked, as commands, and the answers.
 ///
-/// Each call says which command it is, and what it is answered. Where it doesn't fit, or where memory or steps ran out within it, it
-/// answers None, or false, and no command is recorded. Where they ran out, lanes are stuck: no call is made any more. Memory ran out where
-/// a step found none for what it records; steps ran out where a call made 2^62 and isn't over, or where more than 2^63 were made in all.
-/// So it can be only where the calls that were answered, and one more, may make 2^61 steps: for P publishers and S subscribers, where B
-/// messages may wait and R be borrowed, a call makes 4 · S · (B + R + 3) + 8 · P + 7 at most, and one more for each word of user
-/// header and payload.
-/// That what was asked and answered is a run of the machine says `answers_as_machine`. This port's own.
+/// Each method says which command its call is, and how the command is answered. If the call doesn't fit, or if memory or steps ran out
+/// within it, the method returns None or false, and no command is recorded. Once memory or steps ran out, the lanes are stuck: no further
+/// call is made. Memory runs out where a step finds none for what it records. Steps run out where a call made 2^62 and isn't over, or where
+/// more than 2^63 were made in all. This can happen only if the calls that were answered, and one more, may make 2^61 steps: for P
+/// publishers and S subscribers, if B messages may wait and R samples be borrowed, a call makes at most 4 · S · (B + R + 3) + 8 · P + 7
+/// steps, and one more for each word of user header and payload.
+///
+/// `answers_as_machine` says that what was asked and answered is a run of the machine. Not in `iceoryx2`.
 #[derive(Drop)]
 pub struct LanesInTurn {
     lanes: LaneMachine,
@@ -97,8 +97,9 @@ impl Model for LanesInTurn {
 }
 
 impl LanesInTurn {
-    /// Lanes of these sizes, of which nothing was asked. It fails where an allocation fails. Refused as that are 2^61 or more subscribers,
-    /// or messages that may wait or be borrowed, and 2^64 or more slots.
+    /// Lanes of these sizes, of which nothing was asked. `AllocError` is returned where an allocation fails; this includes 2^61 or more
+    /// subscribers, messages that may wait or samples that may be borrowed, and 2^64 or more slots.
+    ///
     /// Example: `let mut lanes = LanesInTurn::new(alloc, sizes)?;`
     pub fn new(alloc: Global, sizes: LaneSizes) -> Result<LanesInTurn, AllocError>
         requires { 0 < sizes.buffer }
@@ -131,8 +132,9 @@ impl LanesInTurn {
         })
     }
 
-    /// Nothing happens. What was asked and answered is a run of the machine, from where it has one service, at which as many ports came as
-    /// these lanes have, and nothing was lent or sent.
+    /// Theorem, by a method that does nothing: what was asked and answered is a run of the machine, from a state in which it has one
+    /// service, where as many ports were created as these lanes have, and nothing was loaned or sent.
+    ///
     /// Example: `lanes.answers_as_machine();`
     pub fn answers_as_machine(&self)
         ensures answers { (types : MessageTypeDetails) (buffer : ℕ) (state : State (List ℕ)) → BeginsTurns self.now.sizes state
@@ -141,7 +143,8 @@ impl LanesInTurn {
         let _ = &self.lanes;
     }
 
-    /// What ran out, if lanes are stuck.
+    /// What ran out, if the lanes are stuck.
+    ///
     /// Example: `let why = lanes.ran_out();`
     pub fn ran_out(&self) -> Option<RanOut>
         ensures { result ≡ self.now.ran_out }
@@ -149,9 +152,11 @@ impl LanesInTurn {
         self.ran_out
     }
 
-    /// The publisher at a place lends a slot for one value: the command `LoanUninit`. It fits where the sizes have such a publisher.
+    /// The publisher at this place loans a slot for one value, which is the command `LoanUninit`. It fits if the sizes have such a
+    /// publisher.
     ///
-    /// Refused where as many loans are out as may be, or each slot is in use.
+    /// Returns `ExceedsMaxLoans` if as many loans are out as may be, and `OutOfMemory` if each slot is in use.
+    ///
     /// Example: `let loan = lanes.loan(0)?;`
     pub fn loan(&mut self, publisher: usize) -> Option<Result<TurnLoan, LoanError>>
         ensures lent { MatchOption result (IsUnanswered (publisher < self.old.sizes.publishers) self.old self.new)
@@ -191,8 +196,9 @@ impl LanesInTurn {
         }
     }
 
-    /// A loan's publisher writes these words of payload into it, and keeps these of the user header for its send: the command `Fill`.
-    /// Whether it did. It fits where they are as many as the lanes' sizes say.
+    /// A loan's publisher writes these words of payload into it, and keeps these of the user header for its send, which is the command
+    /// `Fill`. Returns whether it did. It fits if the words are as many as the lanes' sizes say.
+    ///
     /// Example: `let is_written = lanes.write(&loan, payload, user_header);`
     pub fn write(&mut self, loan: &TurnLoan, payload: Vec<u64>, user_header: Vec<u64>) -> bool
         requires { at loan.now.number.value self.old.lent ≡ Some (record { publisher = loan.now.publisher; slot = loan.now.slot }) }
@@ -233,8 +239,9 @@ impl LanesInTurn {
         }
     }
 
-    /// A loan's publisher writes this value into it, and keeps this user header for its send: as `write` of their words. It fails where an
-    /// allocation fails, and nothing changes then.
+    /// A loan's publisher writes this value into it, and keeps this user header for its send: does what `write` does with the words of
+    /// both. `AllocError` is returned where an allocation fails, and then nothing changes.
+    ///
     /// Example: `let is_written = lanes.write_values(alloc, &loan, &value, &user_header)?;`
     pub fn write_values<T: Words, U: Words>(
         &mut self,
@@ -265,9 +272,11 @@ impl LanesInTurn {
         Ok(self.write(loan, payload, user_header))
     }
 
-    /// A loan is sent, and goes by no number then: the command `Send`. It fits where the loan was written.
+    /// A loan is sent, which is the command `Send`, and has no number after that. It fits if the loan was written. Returns how many
+    /// mailboxes took the message.
     ///
-    /// Refused where the publisher fails at full mailboxes, and one refused the message.
+    /// Returns `UnableToDeliver` if the publisher fails at full mailboxes, and one refused the message.
+    ///
     /// Example: `let taken = lanes.send(&loan)?;`
     pub fn send(&mut self, loan: &TurnLoan) -> Option<Result<u64, SendError>>
         requires { at loan.now.number.value self.old.lent ≡ Some (record { publisher = loan.now.publisher; slot = loan.now.slot }) }
@@ -305,7 +314,8 @@ impl LanesInTurn {
         }
     }
 
-    /// A loan is given up, and goes by no number then: the command `Drop`. Whether it was. It always fits.
+    /// A loan is dropped, which is the command `Drop`, and has no number after that. Returns whether it was dropped. It always fits.
+    ///
     /// Example: `let is_dropped = lanes.drop_loan(&loan);`
     pub fn drop_loan(&mut self, loan: &TurnLoan) -> bool
         requires { at loan.now.number.value self.old.lent ≡ Some (record { publisher = loan.now.publisher; slot = loan.now.slot }) }
@@ -340,9 +350,11 @@ impl LanesInTurn {
         }
     }
 
-    /// The subscriber at a place receives: the command `Receive`. It fits where the sizes have such a subscriber.
+    /// The subscriber at this place receives, which is the command `Receive`. It fits if the sizes have such a subscriber. Returns the
+    /// sample, or `Ok(None)` if no message waits.
     ///
-    /// Refused where it has borrowed as many samples as it may.
+    /// Returns `ExceedsMaxBorrows` if messages wait only where it has borrowed as many samples as it may.
+    ///
     /// Example: `let sample = lanes.receive(0)?;`
     pub fn receive(&mut self, subscriber: usize) -> Option<Result<Option<TurnSample>, ReceiveError>>
         ensures received { MatchOption result (IsUnanswered (subscriber < self.old.sizes.subscribers) self.old self.new)
@@ -387,7 +399,9 @@ impl LanesInTurn {
         }
     }
 
-    /// A sample is read: the command `Read`. The words of its payload, if memory is found for them. It always fits.
+    /// A sample is read, which is the command `Read`. Returns the words of its payload, or `AllocError` if there is no memory for them. It
+    /// always fits.
+    ///
     /// Example: `let words = lanes.read(alloc, &sample)?;`
     pub fn read(
         &mut self,
@@ -429,7 +443,8 @@ impl LanesInTurn {
         }
     }
 
-    /// A sample is released, and goes by no number then: the command `Release`. Whether it was. It always fits.
+    /// A sample is released, which is the command `Release`, and has no number after that. Returns whether it was released. It always fits.
+    ///
     /// Example: `let is_released = lanes.release(&sample);`
     pub fn release(&mut self, sample: &TurnSample) -> bool
         requires { (publisher : ℕ) × (at sample.now.number.value self.old.held
@@ -468,7 +483,7 @@ impl LanesInTurn {
     }
 }
 
-// What a publisher at a place lent, by this number, or why it lent nothing.
+// The loan of the publisher at this place, with this number, or the error.
 fn lent_as(publisher: usize, given: LoanAnswer, number: TurnNumber) -> Result<TurnLoan, LoanError>
     ensures { result ≡ lent_as publisher given number }
 {
@@ -483,7 +498,7 @@ fn lent_as(publisher: usize, given: LoanAnswer, number: TurnNumber) -> Result<Tu
     }
 }
 
-// What a publisher tells of a send.
+// The result of a send, by the lane's answer.
 fn sent_as(given: SendAnswer) -> Result<u64, SendError>
     ensures { result ≡ sent_as given }
 {
@@ -493,7 +508,7 @@ fn sent_as(given: SendAnswer) -> Result<u64, SendError>
     }
 }
 
-// What a receive gave to a subscriber at a place, by this number, or why it gave nothing.
+// The sample that the subscriber at this place received, with this number, none, or the error.
 fn taken_as(
     subscriber: usize,
     given: Receipt,
@@ -512,7 +527,7 @@ fn taken_as(
     }
 }
 
-// What lies behind so many words.
+// The words after the first `count`.
 fn behind(words: &[u64], count: usize) -> &[u64]
     ensures { result.now ≡ drop count words.now }
 {
@@ -522,7 +537,7 @@ fn behind(words: &[u64], count: usize) -> &[u64]
     }
 }
 
-// The words of the payload that a read gave, behind header and user header.
+// The words of the payload that a read returned, after header and user header.
 fn payload_read(lanes: &LaneMachine, from: usize) -> &[u64]
     ensures { result.now ≡ drop lanes.now.table.sizes.user_header_words (drop 3 (drop from lanes.now.read)) }
 {

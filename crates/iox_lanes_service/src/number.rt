@@ -1,11 +1,11 @@
-//! By which numbers commands name what lanes in turn lend.
+//! The numbers by which commands name the loans and samples of lanes whose calls don't overlap.
 ghost use Rattle.std.specs.Prelude.{ℕ, ◌≡◌};
 
 use std::marker::Model;
 
-/// A number that only proofs read. It takes no memory.
+/// A number for proofs only. It takes no memory.
 ///
-/// This port's own.
+/// Not in `iceoryx2`.
 #[derive(Drop)]
 pub struct TurnNumber {
     pub ghost value: { ℕ },
@@ -18,7 +18,7 @@ impl Model for TurnNumber {
 }
 
 impl TurnNumber {
-    // The number that its caller says, from what is at hand.
+    // The number that the caller states, made from what is at hand.
     pub(crate) fn given<A>(_from: &A) -> TurnNumber
         ghost value: { ℕ }
         ensures { result.value ≡ value }

@@ -1,4 +1,4 @@
-//! What lanes were before a call, which only proofs read.
+//! What lanes were before a call, for proofs only.
 ghost use Rattle.std.specs.Prelude.{◌≡◌};
 ghost use Rattle.iox_lanes_machine.specs.World.{World};
 
@@ -6,7 +6,7 @@ use std::marker::Model;
 
 /// Lanes as they were. It takes no memory, and nothing is done with it at run time.
 ///
-/// This port's own.
+/// Not in `iceoryx2`.
 #[derive(Drop)]
 pub(crate) struct Seen {
     pub(crate) ghost lanes: { World },
@@ -19,7 +19,7 @@ impl Model for Seen {
 }
 
 impl Seen {
-    // The lanes that its caller says, from what is at hand.
+    // The lanes that the caller states, made from what is at hand.
     pub(crate) fn of<A>(_from: &A) -> Seen
         ghost lanes: { World }
         ensures { result.lanes ≡ lanes }

@@ -11,21 +11,22 @@ use iox_lanes_machine::LaneMachine;
 use iox_lanes_parties::{Answer, Call, Move, Party};
 use iox_queues_steps::Stepped;
 
-// No call takes so many steps.
+// No call takes this many steps.
 const STEPS: u64 = 1 << 62;
 
-/// How a turn came out.
+/// How a whole call came out.
 #[derive(Clone, Copy)]
 pub(crate) enum Turn {
     /// The call doesn't fit, and nothing changed.
     NotBegun,
     /// It stopped, since memory or steps ran out.
     Stuck(RanOut),
-    /// The call ended, and answered this.
+    /// The call ended with this answer.
     Ended(Answer),
 }
 
-// A party inside a call goes on to its end, with which one call more ended; or what ran out before.
+// Makes the steps of the call that a party is in, up to its last one, with which one call more ended. Returns what ran out before that, if
+// anything did.
 fn goes_to_end(lanes: &mut LaneMachine, party: Party) -> Result<(), RanOut>
     requires { fits lanes.old party Move.GoOn ≡ true }
     ensures { MatchResult result
@@ -44,7 +45,7 @@ fn goes_to_end(lanes: &mut LaneMachine, party: Party) -> Result<(), RanOut>
     Err(RanOut::Steps(STEPS))
 }
 
-/// A whole call of a party, which no other call overlaps.
+/// Makes a whole call of a party, which no other call overlaps.
 pub(crate) fn take_turn(lanes: &mut LaneMachine, party: Party, asking: Call) -> Turn
     requires came { CameTo lanes.old }
     requires between { AllBetween lanes.old }

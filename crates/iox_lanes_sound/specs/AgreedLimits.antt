@@ -9,7 +9,7 @@ use Rattle.iox_lanes_machine.specs.LanesParties.declared.call.Entry.{Entry}
 use Rattle.iox_lanes_machine.specs.LanesParties.declared.call.FinishedCall.{FinishedCall}
 use Rattle.iox_lanes_machine.specs.World.{World, RunsTo}
 
--- Whatever is run on lanes that are as large as agreed: each subscriber may still borrow as many samples as agreed.
+-- Whatever is run on lanes with the agreed sizes, each subscriber may still borrow as many samples as agreed.
 abbrev pub AgreedLimitsStay : Type 0
 AgreedLimitsStay = (agreed : ServiceSizes) (publishers subscribers payload_count header_count : ℕ) (begun : World)
     → AreSized agreed publishers subscribers payload_count header_count begun
@@ -17,8 +17,8 @@ AgreedLimitsStay = (agreed : ServiceSizes) (publishers subscribers payload_count
     → (place : ℕ) (lane : SubscriberLaneState) → slice_get m.subscribers place ≡ Some lane
     → lane.port.most_borrowed ≡ agreed.subscriber_max_borrowed_samples
 
--- And each receive of theirs that ended took at its connections by just that limit: at each it looked where as many samples were borrowed
--- as agreed, and took where fewer were. So it is as long as at most 2^63 steps were made.
+-- Each receive that ended on such lanes took at its connections by exactly that limit: at each it only looked where as many samples were
+-- borrowed as agreed, and took where fewer were. It holds as long as at most 2^63 steps were made.
 abbrev pub ReceivesLookAsAgreed : Type 0
 ReceivesLookAsAgreed = (agreed : ServiceSizes) (publishers subscribers payload_count header_count : ℕ) (begun : World)
     → AreSized agreed publishers subscribers payload_count header_count begun

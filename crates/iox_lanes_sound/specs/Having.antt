@@ -1,4 +1,4 @@
--- What waits and is remembered in the lanes of a domain, by the machine's service for which its ports stand.
+-- What waits and what is in a history in the lanes of a domain, by the machine's service that its ports represent.
 use Rattle.std.specs.Prelude.{ℕ, ◌+◌, ◌-◌, ◌<◌, ◌≤◌, ◌≡◌, Bool, true, List, [], ◌∷◌, length, map, get_or, slice_get, is_some, nat_lt, None}
 use Rattle.std.specs.Prelude.{Some}
 use Rattle.std.specs.Prelude.{if◌then◌else◌}
@@ -18,7 +18,7 @@ use Rattle.iox_lanes_service.specs.Standing.{NumbersFit}
 use Rattle.iox_machine.specs.Service.{Publisher, Service}
 use Rattle.iox_machine.specs.Table.{at}
 
--- The name of the message in a slot: by the number of the publisher whose slots it is one of, and by where it lies among these.
+-- The name of the message in a slot, by the number of the publisher that owns the slot, and by the slot's place among the publisher's own.
 abbrev pub slot_name : (ℕ → ℕ → ℕ) → List ℕ → List PublisherLaneState → ℕ → ℕ
 slot_name name [] lanes slot = 0
 slot_name name (number ∷ numbers) [] slot = 0
@@ -26,8 +26,7 @@ slot_name name (number ∷ numbers) (lane ∷ lanes) slot =
     if nat_lt slot (lane.port.book.first + length lane.port.book.loans) then name number (slot - lane.port.book.first)
     else slot_name name numbers lanes slot
 
--- The names of what lanes have: the ports at their places have those that the domain's ports of these numbers have, and so have their
--- messages.
+-- The names of what lanes have: ports and messages have the names that the domain's ports with these numbers, and their messages, have.
 abbrev pub lane_names : Naming → Bool → List ℕ → List ℕ → World → LaneNaming
 lane_names names numbered senders readers m = record {
   publisher = λ place. names.publisher (get_or senders place 0);
@@ -36,13 +35,13 @@ lane_names names numbered senders readers m = record {
   numbered = numbered;
 }
 
--- the words of a message's values give them back, and it has a number just where messages have numbers
+-- The words of a message's values give them back, and the message has a sequence number exactly if messages have them.
 pub record IsReadBack {T U : Type 0} (payload_words : T → List ℕ) (value : List ℕ → T) (numbered : Bool) (message : Message T U)
     : Type 0 where
   pub values : All (λ x. value (payload_words x) ≡ x) message.values
   pub numbers : is_some message.sequence ≡ numbered
 
--- so it is with each message that a publisher of a domain remembers, or that waits at a connection of it
+-- Each message in a publisher's history, and each that waits at a connection, is read back from its words (`IsReadBack`).
 pub record AreReadBack {T U : Type 0} (payload_words : T → List ℕ) (value : List ℕ → T) (ports : ServicePorts T U) : Type 0 where
   pub remembered : (number : ℕ) (port : PublisherPort T U) → port_of number ports.publishers ≡ Some port
       → All (IsReadBack payload_words value ports.sizes.sequence_numbers) port.sender.uses.history
@@ -50,8 +49,8 @@ pub record AreReadBack {T U : Type 0} (payload_words : T → List ℕ) (value : 
       → All (IsReadBack payload_words value ports.sizes.sequence_numbers) (connection_of index port).waiting
 
 module _ {T : Type 0} (value : List ℕ → T) (names : LaneNaming) (m : World) where
-  -- A publisher of lanes is this one of the machine, but for whom it is connected to. It stands, no send of it waits, it may lend as many
-  -- messages, each of one value; it gave the same number last, and remembers the same messages.
+  -- A publisher of lanes is this one of the machine, apart from its connections. It isn't closed, no send of it waits, its loan limit is
+  -- the same for messages of one value, and its last sequence number and its history are the same.
   pub record RemembersAs (lane : PublisherLaneState) (publisher : Publisher T) : Type 0 where
     pub stands : publisher.stands ≡ true
     pub free : publisher.blocked ≡ None
@@ -61,10 +60,10 @@ module _ {T : Type 0} (value : List ℕ → T) (names : LaneNaming) (m : World) 
     pub last : publisher.last_sequence ≡ lane.last
     pub history : publisher.history ≡ map (slot_message value names m.table) lane.port.book.history
 
-  -- Lanes before their first step have the messages of a service: each publisher is one of the service and remembers the same, and each
-  -- connection is the mailbox of its ports, where the same messages wait and none is borrowed, and which lets its oldest go or refuses
-  -- as agreed. No two publishers have one name, nor have two subscribers. Nothing is lent or borrowed in the service, and where sends
-  -- number their messages, there is room for the numbers.
+  -- Lanes before their first step have the messages of a service: each publisher is one of the service with the same history, and each
+  -- connection is the mailbox of its ports, where the same messages wait and none is borrowed, and which overflows or refuses as agreed. No
+  -- two publishers have one name, and no two subscribers. Nothing is loaned or borrowed in the service, and if messages have sequence
+  -- numbers, headers have a word for them.
   pub record HaveMessages (service : Service T) : Type 0 where
     pub publishers : (place : ℕ) (lane : PublisherLaneState) → slice_get m.publishers place ≡ Some lane
         → (publisher : Publisher T) × (at (names.publisher place) service.publishers ≡ Some publisher) × RemembersAs lane publisher

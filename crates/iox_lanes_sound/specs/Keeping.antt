@@ -1,4 +1,5 @@
--- What calls of a domain keep of its publishers: slots of one segment, as long a history as agreed, and connections where one may wait.
+-- What calls of a domain keep of its publishers: slots of one segment, a history no longer than agreed, and connections where a message may
+-- wait.
 use Rattle.std.specs.Prelude.{ℕ, ◌≡◌, ◌≢◌, ◌<◌, ◌≤◌, true, false, List, length, get_or, None, Some}
 use Rattle.std.specs.List.{All}
 use Rattle.iox_domain.specs.Calls.{PortCall, Happens}
@@ -29,24 +30,24 @@ use Rattle.iox_lanes_opening.specs.declared.refusals.into_lanes_error.IntoLanesE
 use Rattle.iox_lanes_sound.specs.Standing.{AllKeepToOne}
 use Rattle.iox_machine.specs.Service.{Service}
 
--- The slots of a publisher whose room doesn't grow are of one segment. It keeps no more messages than agreed. One may wait at each
--- connection that there is, and at each that is made.
+-- The slots of a publisher whose capacity doesn't grow are of one segment. It keeps no more messages than agreed. At least one message may
+-- wait at each connection that exists, and at each that is made.
 pub record KeepsToOneIfStatic {T U : Type 0} (port : PublisherPort T U) : Type 0 where
   pub first : port.allocation ≡ strategy.Static → port.sender.uses.first ≡ 0
   pub few : length port.sender.uses.history ≤ port.sender.uses.kept
   pub some : (index : ℕ) → is_there (connection_of index port) ≡ true → 0 < (connection_of index port).limit
   pub room : 0 < port.sender.uses.most_waiting
 
--- so it is with the publisher of a number
+-- The publisher with this number keeps to this (`KeepsToOneIfStatic`).
 abbrev pub IsKeptToOne : {T U : Type 0} → ℕ × PublisherPort T U → Type 0
 IsKeptToOne (number, port) = KeepsToOneIfStatic port
 
--- one message may wait at least for the subscriber of a number
+-- At least one message may wait for the subscriber with this number.
 abbrev pub MayWaitFor : ℕ × SubscriberPort → Type 0
 MayWaitFor (number, port) = 0 < port.buffer_size
 
--- A service lets one message wait at least, for each subscriber that it has or lists, and each publisher keeps to one segment where its
--- room doesn't grow.
+-- A service lets at least one message wait, for each subscriber that it has or lists, too, and each publisher keeps to one segment if its
+-- capacity doesn't grow.
 pub record KeepToOneIfStatic {T U : Type 0} (ports : ServicePorts T U) : Type 0 where
   pub room : 0 < ports.sizes.subscriber_max_buffer_size
   pub publishers : All IsKeptToOne ports.publishers
@@ -54,8 +55,8 @@ pub record KeepToOneIfStatic {T U : Type 0} (ports : ServicePorts T U) : Type 0 
   pub listed : (place : ℕ) (member : Member SubscriberEntry) → get_or ports.subscriber_list.places place None ≡ Some member
       → 0 < member.value.buffer_size
 
--- So it is of a new service that lets one message wait at least. Each call leaves it so, and so do any calls from a new service on. Then,
--- where no room grows, each publisher keeps to one.
+-- `KeepToOneIfStatic` holds for a new service that lets at least one message wait. It holds after each call, and after any calls from a new
+-- service on. Then, if no capacity grows, each publisher keeps to one segment.
 pub record CallsKeepToOne (T U : Type 0) (overrides : ℕ → ℕ → Type 0) (may : DegradationInfo → DegradationAction
     → Type 0) (decide : BackpressureInfo → BackpressureDecision → Type 0) : Type 0 where
   pub begins : (service : ℕ) (sizes : ServiceSizes) (ports : ServicePorts T U) → 0 < sizes.subscriber_max_buffer_size
@@ -66,8 +67,8 @@ pub record CallsKeepToOne (T U : Type 0) (overrides : ℕ → ℕ → Type 0) (m
       → 0 < sizes.subscriber_max_buffer_size → Happen overrides may decide calls (no_ports service sizes) new → KeepToOneIfStatic new
   pub static : (ports : ServicePorts T U) → KeepToOneIfStatic ports → has_growing ports ≡ false → AllKeepToOne ports
 
--- A domain whose ports any calls from a new service on left, and stand for a service of the machine, is never refused as unsound, where
--- the service lets one message wait at least.
+-- A domain whose ports were left by any calls from a new service on, and represent a service of the machine, is never refused as unsound,
+-- if the service lets at least one message wait.
 abbrev pub NeverUnsound : {T U X Y Z : Type 0} {F : X → Type 0} {G : Y → Type 0} {H : Z → Type 0} → (ℕ → ℕ → Type 0)
     → (DegradationInfo → DegradationAction → Type 0) → (BackpressureInfo → BackpressureDecision → Type 0)
     → Domain T U (Handlers X Y F G) (DegradationHandler Z H) → Type 0

@@ -1,4 +1,4 @@
--- When the lanes of a domain stand for the service of the machine for which its ports do, and what follows for calls in turn.
+-- When the lanes of a domain represent the service of the machine that its ports represent, and what follows for calls that don't overlap.
 use Rattle.std.specs.Prelude.{ℕ, ◌≡◌, false, List, [], ◌∷◌, Some}
 use Rattle.iox_command.specs.DomainValues.Actions.{decision_of}
 use Rattle.iox_command.specs.NegotiateBase.DescribeBase.declared.message_type.MessageTypeDetails.{MessageTypeDetails}
@@ -23,8 +23,8 @@ use Rattle.iox_machine.specs.Service.{Publisher, Service}
 use Rattle.iox_machine.specs.State.{State}
 use Rattle.iox_machine.specs.Table.{at}
 
--- Where a full mailbox doesn't let its oldest message go: what the strategy and the action come to that are kept for a publisher may be
--- chosen for the machine's publisher of its name, when it finds a mailbox full.
+-- If mailboxes don't overflow: the decision of the strategy and the action that are kept for a publisher may be chosen for the machine's
+-- publisher with its name, when it finds a mailbox full.
 abbrev pub DecideAsKept : {T U X Y D : Type 0} {F : X → Type 0} {G : Y → Type 0} → Choices T → Naming → Domain T U (Handlers X Y F G) D
     → Service T → Type 0
 DecideAsKept {T} {U} {X} {Y} {D} {F} {G} choices names domain service =
@@ -35,8 +35,8 @@ DecideAsKept {T} {U} {X} {Y} {D} {F} {G} choices names domain service =
     → choices.publisher_decides (names.publisher number) 0 0 (decision_of publisher.strategy publisher.handler)
     (decision_of handlers.strategy (fixed_answer handlers.backpressure))
 
--- The lanes of a domain, whose publishers and subscribers have these numbers by their places, stand for each service of the machine for
--- which its ports do, where these are in order, the words of messages give their values back, and the machine's publishers may decide so.
+-- The lanes of a domain, whose publishers and subscribers have these numbers by place, represent each service of the machine that its ports
+-- represent, if the ports are in order, the words of messages give their values back, and the machine's publishers may decide as kept.
 abbrev pub StandAsPorts : {T U X Y D : Type 0} {F : X → Type 0} {G : Y → Type 0} → Choices T → (T → List ℕ) → (List ℕ → T)
     → Domain T U (Handlers X Y F G) D → World → List ℕ → List ℕ → Type 0
 StandAsPorts {T} choices payload_words value domain lanes senders readers = (names : Naming) (lent : List (ℕ × LentSlot))
@@ -44,11 +44,11 @@ StandAsPorts {T} choices payload_words value domain lanes senders readers = (nam
     → AreRoomy domain.state.ports → AreReadBack payload_words value domain.state.ports → DecideAsKept choices names domain service
     → LanesStandFor choices value (lane_names names domain.state.ports.sizes.sequence_numbers senders readers lanes) [] [] lanes service
 
--- the numbers that the machine has for what lanes have before their first step: no loan is out, and no sample
+-- The numbers that the machine has for what lanes have before their first step: no loan and no sample is out.
 abbrev pub begun_numbers : LaneNaming → LaneNumbers
 begun_numbers names = record { names = names; lent = []; held = [] }
 
--- Then calls that go in turn from these lanes on are a run of a machine whose one service that is.
+-- Calls that don't overlap, from such lanes on, are a run of a machine whose one service is the one that the ports represent.
 abbrev pub TurnsGoOnAsPorts : {T U X Y D : Type 0} {F : X → Type 0} {G : Y → Type 0} → Choices T → (T → List ℕ) → (List ℕ → T)
     → Domain T U (Handlers X Y F G) D → World → List ℕ → List ℕ → Type 0
 TurnsGoOnAsPorts {T} choices payload_words value domain lanes senders readers = (types : MessageTypeDetails) (most_buffered : ℕ)

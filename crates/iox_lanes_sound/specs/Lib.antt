@@ -1,4 +1,4 @@
--- The definitions that the laws on sound ports, and on what their lanes have, cite.
+-- The definitions that the theorems on sound ports, and on what their lanes have, cite.
 pub mod Standing
 pub mod Having
 pub mod Lanes

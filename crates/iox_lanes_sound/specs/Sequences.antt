@@ -19,23 +19,23 @@ use Rattle.iox_lanes_machine.specs.LanesParties.Parties.{PublisherLaneState}
 use Rattle.iox_lanes_machine.specs.Links.{LinkState}
 use Rattle.iox_lanes_machine.specs.World.{World}
 
--- the sequence numbers of what waits at a connection of a publisher, the oldest first; a message without one counts as 0
+-- The sequence numbers of what waits at a connection of a publisher, the oldest first; a message without one counts as 0.
 abbrev pub waiting_sequences : {T U : Type 0} → ℕ → PublisherPort T U → List ℕ
 waiting_sequences {T} {U} index port = map (λ (message : Message T U). unwrap_or message.sequence 0) (connection_of index port).waiting
 
--- At each connection that leads to a subscriber, of a publisher that numbers its messages: the numbers of what waits go up from above 0 to
--- the last one that the publisher gave, at most.
+-- At each connection that leads to a subscriber, of a publisher with sequence numbers, the numbers of what waits rise, from above 0 up to
+-- the publisher's last number at most.
 abbrev pub SequencesWait : {T U : Type 0} → ServicePorts T U → Type 0
 SequencesWait {T} {U} ports = (number last index subscriber : ℕ) (port : PublisherPort T U) → port_of number ports.publishers ≡ Some port
     → port.last_sequence ≡ Some last → leads_at index subscriber port ≡ true → GoUpTo 0 (waiting_sequences index port) last
 
--- So it is at each connection of lanes with what was found to wait there, by the messages that were found, where its publisher numbers
--- its messages.
+-- At each connection of lanes whose publisher has sequence numbers, those of the messages that were found to wait there rise, from above 0
+-- up to the publisher's last number at most.
 abbrev pub SequencesFound : World → List MessageState → Type 0
 SequencesFound m messages = (connection last : ℕ) (link : LinkState) (lane : PublisherLaneState) → slice_get m.links connection ≡ Some link
     → slice_get m.publishers link.publisher ≡ Some lane → lane.last ≡ Some last → GoUpTo 0 (sequences_found messages link) last
 
--- So any calls leave a new service.
+-- After any calls of a new service, the sequence numbers of what waits rise so (`SequencesWait`).
 abbrev pub SequencesStayUp : (T U : Type 0) → (ℕ → ℕ → Type 0) → (DegradationInfo → DegradationAction → Type 0)
     → (BackpressureInfo → BackpressureDecision → Type 0) → Type 0
 SequencesStayUp T U overrides may decide = (service : ℕ) (sizes : ServiceSizes) (calls : List (PortCall T U × ServicePorts T U))

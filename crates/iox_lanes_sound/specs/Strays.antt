@@ -1,4 +1,4 @@
--- What no call of a domain leaves: messages for a place that lists nobody that go to a connection, of a publisher that followed the list.
+-- What no call of a domain leaves: a place where nobody is listed that is tied to a connection of a publisher that followed the list.
 use Rattle.std.specs.Prelude.{ℕ, ◌≡◌, ◌≢◌, ◌<◌, ◌≤◌, ◌==◌, ◌&&◌, ◌⊎◌, true, false, List, get_or, Option, None, Some}
 use Rattle.std.specs.List.{All}
 use Rattle.iox_domain.specs.Calls.{PortCall, Happens}
@@ -21,23 +21,23 @@ use Rattle.iox_domain.specs.declared.ports.service_ports.ServicePorts.{ServicePo
 use Rattle.iox_lanes_opening.specs.Listed.{of_each_listed}
 use Rattle.iox_lanes_opening.specs.UpToDate.{has_stray_tie, is_connected, is_current_port}
 
--- A publisher has seen no more changes of the list of subscribers than there were. Where it has seen them all, each place whose messages
--- go to a connection lists somebody.
+-- A publisher has seen no more changes of the list of subscribers than there were. If it has seen them all, somebody is listed at each
+-- place that it has tied to a connection.
 pub record IsWithoutStrays {T U : Type 0} (list : RollState SubscriberEntry) (port : PublisherPort T U) : Type 0 where
   pub seen : port.seen ≤ list.changes
   pub listed : port.seen ≡ list.changes → (place index : ℕ) → get_or port.ties.items place None ≡ Some index → is_listed place list ≡ true
 
--- so it is with the publisher of a number
+-- The publisher with this number is without strays (`IsWithoutStrays`).
 abbrev pub IsEntryWithoutStrays : {T U : Type 0} → RollState SubscriberEntry → ℕ × PublisherPort T U → Type 0
 IsEntryWithoutStrays list (number, port) = IsWithoutStrays list port
 
--- so it is with each publisher of a service, also with those that left
+-- Each publisher of a service is without strays (`IsWithoutStrays`), closed publishers included.
 abbrev pub AreWithoutStrays : {T U : Type 0} → ServicePorts T U → Type 0
 AreWithoutStrays ports = All (IsEntryWithoutStrays ports.subscriber_list) ports.publishers
 
--- The publishers of a new service are without strays. Each call leaves them so, and so do any calls from a new service on. Then none that
--- has seen all changes of the list of subscribers has a stray tie. So it is up to date just where it has seen them, and shares a connection
--- with each listed subscriber.
+-- The publishers of a new service are without strays. They are so after each call, and after any calls from a new service on. Then none
+-- that has seen all changes of the list of subscribers has a stray tie. So it is up to date exactly if it has seen them, and shares a
+-- connection with each listed subscriber.
 pub record LeaveNoStrays (T U : Type 0) (overrides : ℕ → ℕ → Type 0) (may : DegradationInfo → DegradationAction
     → Type 0) (decide : BackpressureInfo → BackpressureDecision → Type 0) : Type 0 where
   pub begins : (service : ℕ) (sizes : ServiceSizes) (ports : ServicePorts T U) → ports ≡ no_ports service sizes → AreWithoutStrays ports
@@ -53,29 +53,29 @@ pub record LeaveNoStrays (T U : Type 0) (overrides : ℕ → ℕ → Type 0) (ma
       → is_current_port ports place number (Some port) ≡ (port.seen == ports.subscriber_list.changes)
       && of_each_listed (is_connected place number port ports.subscribers) 0 ports.subscriber_list.places
 
--- a publisher of a place shares no connection with somebody who is listed
+-- The publisher at this place shares no connection with some listed subscriber.
 abbrev pub LacksSubscriber : {T U : Type 0} → ServicePorts T U → ℕ → ℕ → PublisherPort T U → Type 0
 LacksSubscriber ports place number port = (other : ℕ) × (member : Member SubscriberEntry)
     × (get_or ports.subscriber_list.places other None ≡ Some member)
     × (is_connected place number port ports.subscribers other member.value ≡ false)
 
--- A publisher hasn't seen all changes of the list of subscribers, or shares no connection with somebody who is listed; or it isn't there.
+-- The publisher doesn't exist, hasn't seen all changes of the list of subscribers, or shares no connection with some listed subscriber.
 abbrev pub PublisherLags : {T U : Type 0} → ServicePorts T U → ℕ → ℕ → Option (PublisherPort T U) → Type 0
 PublisherLags ports place number None = Unit {0}
 PublisherLags ports place number (Some port)
     = (port.seen < ports.subscriber_list.changes) ⊎ LacksSubscriber ports place number port
 
--- so it is with a publisher that is listed
+-- Some listed publisher lags (`PublisherLags`).
 abbrev pub SomePublisherLags : {T U : Type 0} → ServicePorts T U → Type 0
 SomePublisherLags ports = (place : ℕ) × (member : Member PublisherEntry) × (get_or ports.publisher_list.places place None ≡ Some member)
     × PublisherLags ports place member.value.publisher (port_of member.value.publisher ports.publishers)
 
--- A subscriber hasn't followed the list of publishers as it is, or has to follow it again; or it isn't there.
+-- The subscriber doesn't exist, hasn't followed the current list of publishers, or has to follow it again.
 abbrev pub SubscriberLags : {T U : Type 0} → ServicePorts T U → Option SubscriberPort → Type 0
 SubscriberLags ports None = Unit {0}
 SubscriberLags ports (Some port) = (port.seen ≢ ports.publisher_list.changes) ⊎ (port.again ≡ true)
 
--- so it is with a subscriber that is listed
+-- Some listed subscriber lags (`SubscriberLags`).
 abbrev pub SomeSubscriberLags : {T U : Type 0} → ServicePorts T U → Type 0
 SomeSubscriberLags ports = (place : ℕ) × (member : Member SubscriberEntry) × (get_or ports.subscriber_list.places place None ≡ Some member)
     × SubscriberLags ports (subscriber_of member.value.subscriber ports.subscribers)

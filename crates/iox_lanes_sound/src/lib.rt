@@ -1,9 +1,10 @@
-//! Which domains become lanes, by the machine: of ports that are a service of it most is proved that `refusal` asks at last.
+//! Theorems: which domains become lanes, and what the lanes represent. If the ports represent a service of the machine, most of what
+//! `refusal` checks last is proved to hold.
 //!
-//! And of the lanes that they become it is proved that they stand for the same service, so that calls in turn go on with its run.
+//! The lanes that they become represent the same service, so calls that don't overlap go on with the machine's run.
 //!
-//! A law is the contract of a function that does nothing. A proof cites it by a call of this function; what it states is then among
-//! the facts of the caller:
+//! A theorem is the contract of a function that does nothing. A proof uses it by calling this function; then the theorem is among the facts
+//! that the caller knows:
 //!
 //! ```
 //! standing_ports_are_sound::<T, U>();
@@ -42,24 +43,24 @@ use iox_domain_values::{Decides, Degrades, Overrides};
 use iox_lanes::DomainLanes;
 use iox_queues_base::Words;
 
-/// Ports that stand for a service of the machine are never `Unsound`, where nothing lingers of them, and of each publisher three things
-/// hold that the machine doesn't say: its slots are of one segment, it keeps no more messages than agreed, and one may wait at each of its
-/// connections. Calls keep these, where no room grows (`calls_keep_to_one`). They leave such ports as stand for a service (`StandsFor`, by
-/// the laws of `iox_domain_machine`) and are in order (`AreRoomy`, by those of `iox_domain`).
+/// Ports that represent a service of the machine are never `Unsound`, if nothing lingers of them, and if each publisher has three
+/// properties that the machine doesn't state: its slots are of one segment, it keeps no more messages than agreed, and at least one message
+/// may wait at each of its connections. Calls keep these properties, where no capacity grows (`calls_keep_to_one`). Calls leave ports that
+/// represent a service (`StandsFor`, by the theorems of `iox_domain_machine`) and are in order (`AreRoomy`, by those of `iox_domain`).
 ///
-/// So they are listed each at its own place alone, no two messages of a history or a mailbox stand in one slot, no more wait than may,
+/// So each port is listed only at its own place, no two messages of a history or a mailbox are in one slot, no more messages wait than may,
 /// and no two connections of a subscriber come from one publisher.
 pub fn standing_ports_are_sound<T, U>()
     ensures { StandingPortsAreSound T U }
 {}
 
-/// The lanes that `into_lanes` gives have the messages of each service of the machine for which the ports of their domain stand, by the
-/// names that it has for these. Each publisher remembers the same messages, gave the same number last, and may lend as many. Each
-/// connection is the mailbox of its two ports: the same messages wait there, by the same names, with the same values and numbers, and as
-/// many may. No two ports of a kind have one name.
+/// The lanes that `into_lanes` makes have the messages of each service of the machine that the ports of their domain represent, under the
+/// service's names for these. Each publisher has the same history, last sequence number and loan limit. Each connection is the mailbox of
+/// its two ports: the same messages wait there, under the same names, with the same values and sequence numbers, and as many may wait. No
+/// two ports of a kind have one name.
 ///
-/// What it asks of the lanes is what `into_lanes` says of them. Of the messages it asks that their words give their values back, and that
-/// each has a number just where the service agreed on `sequence_numbers` (`AreReadBack`).
+/// What it requires of the lanes is what `into_lanes` ensures. Of the messages it requires that their words give their values back, and
+/// that each has a sequence number exactly if the service agreed on `sequence_numbers` (`AreReadBack`).
 pub fn lanes_have_messages<T: Words, U: Words>(opened: &DomainLanes<T, U>)
     requires none { first_reason opened.now.domain ≡ None }
     requires came { CameTo opened.now.lanes.lanes }
@@ -74,16 +75,18 @@ pub fn lanes_have_messages<T: Words, U: Words>(opened: &DomainLanes<T, U>)
         opened.now.subscribers.items opened.now.lanes.lanes) opened.now.lanes.lanes service }
 {}
 
-/// The lanes that `into_lanes` gives stand for each service of the machine for which the ports of their domain stand (`LanesStandFor` of
-/// `iox_lanes_service`), by the names that it has for these: their publishers and subscribers are those of the service, with the same
-/// limits, connections and last numbers. Each has followed the other list as it is, and is connected to just who is listed. What waits and
-/// is remembered is the same, each message by its own number. Nothing is lent or borrowed, and other mailboxes have nothing.
+/// The lanes that `into_lanes` makes represent each service of the machine that the ports of their domain represent (`LanesStandFor` of
+/// `iox_lanes_service`), under the service's names for these: their publishers and subscribers are those of the service, with the same
+/// limits, connections and last sequence numbers. Each has followed the current list of the other side, and is connected to exactly who is
+/// listed. What waits and what is in a history is the same, each message with its own number. Nothing is loaned or borrowed, and other
+/// mailboxes are empty.
 ///
-/// What it asks of the lanes is what `into_lanes` says of them, which refuses a domain where a port isn't up to date, something lingers,
-/// or another than a fixed action decides. Ports stand for a service and are in order (`AreRoomy`) after any calls. Of the messages it
-/// asks that their words give their values back, and that each has a number just where the service agreed on `sequence_numbers`
-/// (`AreReadBack`). Where mailboxes may refuse, what the fixed action comes to that is kept for a publisher may be chosen for the machine's
-/// publisher (`DecideAsKept`): so it is where its command named that action, or its handlers are handed in.
+/// What it requires of the lanes is what `into_lanes` ensures; that refuses a domain where a port isn't up to date, something lingers, or a
+/// handler other than a fixed action decides. Ports represent a service and are in order (`AreRoomy`) after any calls. Of the messages it
+/// requires that their words give their values back, and that each has a sequence number exactly if the service agreed on
+/// `sequence_numbers` (`AreReadBack`). If mailboxes may refuse, the decision of the fixed action that is kept for a publisher must be one
+/// that may be chosen for the machine's publisher (`DecideAsKept`): this holds if its command named that action, or its handlers are handed
+/// in.
 pub fn lanes_stand<T: Words + Default, U: Words, B: Decides + Degrades, D: Degrades>(
     opened: &DomainLanes<T, U>,
 )
@@ -103,10 +106,10 @@ pub fn lanes_stand<T: Words + Default, U: Words, B: Decides + Degrades, D: Degra
         opened.now.subscribers.items }
 {}
 
-/// Whole calls in turn of the lanes that `into_lanes` gives, of which none overlaps another, are a run of a machine whose one service is
-/// that for which the ports of their domain stand: the run goes on from it. Each call is a command, with its reply, and the lanes stand
-/// then for the service that the machine has. The premises are those of `lanes_stand`, and there are fewer than 2^64 slots: so
-/// `into_lanes` says. It holds as long as at most 2^63 steps were made.
+/// Whole calls of the lanes that `into_lanes` makes, none of which overlaps another, are a run of a machine whose one service is the one
+/// that the ports of their domain represent: the run goes on from it. Each call is a command, with its reply, and the lanes represent then
+/// the service that the machine has. The premises are those of `lanes_stand`, and that there are fewer than 2^64 slots, as `into_lanes`
+/// ensures. It holds as long as at most 2^63 steps were made.
 pub fn turns_go_on_from_ports<T: Words + Default, U: Words, B: Decides + Degrades, D: Degrades>(
     opened: &DomainLanes<T, U>,
 )
@@ -127,9 +130,9 @@ pub fn turns_go_on_from_ports<T: Words + Default, U: Words, B: Decides + Degrade
         opened.now.domain opened.now.lanes.lanes opened.now.publishers.items opened.now.subscribers.items }
 {}
 
-/// In the lanes that `into_lanes` gives, the sequence numbers of what was found to wait at a connection go up from above 0 to the last one
-/// that its publisher gave, at most: `gaps_are_missed` of `iox_lanes_laws` asks just that of them. So it is where they do in the domain
-/// (`SequencesWait`), as `sequences_stay_up` says of any calls. What it asks of the lanes is what `into_lanes` says of them.
+/// In the lanes that `into_lanes` makes, the sequence numbers of what was found to wait at a connection rise, from above 0 up to the last
+/// number of its publisher at most, as `gaps_are_missed` of `iox_lanes_laws` requires. It holds if they do in the domain (`SequencesWait`),
+/// as `sequences_stay_up` says of any calls. What it requires of the lanes is what `into_lanes` ensures.
 pub fn found_sequences_go_up<T: Words, U: Words>(opened: &DomainLanes<T, U>)
     requires none { first_reason opened.now.domain ≡ None }
     requires came { CameTo opened.now.lanes.lanes }
@@ -141,20 +144,20 @@ pub fn found_sequences_go_up<T: Words, U: Words>(opened: &DomainLanes<T, U>)
     ensures { SequencesWait opened.now.domain.state.ports → SequencesFound opened.now.lanes.lanes opened.now.lanes.messages }
 {}
 
-/// Any calls of a new service leave its ports so that the sequence numbers of what waits at a connection go up from above 0 to the last one
-/// that its publisher gave, at most, whatever override and handlers answer.
+/// Any calls of a new service leave its ports so that the sequence numbers of what waits at a connection rise, from above 0 up to the last
+/// number of its publisher at most, whatever override and handlers answer.
 pub fn sequences_stay_up<T, U, O: Overrides, B: Decides + Degrades>(_overriding: &O, _handlers: &B)
     ensures { SequencesStayUp T U (O.overrides _overriding.now) (B.degrades _handlers.now cause.FailedToEstablishConnection)
         (B.decides _handlers.now) }
 {}
 
-/// No call leaves a stray tie: a publisher that followed the list of subscribers as it is has no connection for a place that lists nobody.
-/// What is kept is `AreWithoutStrays`: each publisher has seen at most as many changes of the list as there were, and where it has seen
-/// them all, each place that is tied to a connection lists somebody. So it is of a new service (`begins`), each call leaves it so, whatever
-/// override and handlers answer (`goes_on`), and so do any calls from a new service on (`stays`).
+/// No call leaves a stray tie: a publisher that has followed the current list of subscribers has no connection for a place where nobody is
+/// listed. The invariant is `AreWithoutStrays`: each publisher has seen at most as many changes of the list as there were, and if it has
+/// seen them all, somebody is listed at each place that is tied to a connection. It holds for a new service (`begins`), after each call,
+/// whatever override and handlers answer (`goes_on`), and so after any calls from a new service on (`stays`).
 ///
-/// Of such ports none that has seen all changes has a stray tie (`tame`). So a publisher is up to date just where it has seen them all, and
-/// shares a connection with each subscriber that is listed (`current`).
+/// Of such ports none that has seen all changes has a stray tie (`tame`). So a publisher is up to date exactly if it has seen them all, and
+/// shares a connection with each listed subscriber (`current`).
 pub fn calls_leave_no_strays<T, U, O: Overrides, B: Decides + Degrades>(
     _overriding: &O,
     _handlers: &B,
@@ -163,28 +166,30 @@ pub fn calls_leave_no_strays<T, U, O: Overrides, B: Decides + Degrades>(
         (B.decides _handlers.now) }
 {}
 
-/// A domain whose ports calls left (`AreWithoutStrays`) is `ConnectionsNotUpToDate` only where a port that is listed lags behind. A
-/// publisher isn't there, or hasn't seen all changes of the list of subscribers, or shares no connection with one who is listed. Or a
-/// subscriber isn't there, or hasn't followed the list of publishers as it is, or has to follow it again.
+/// A domain whose ports calls left (`AreWithoutStrays`) is refused as `ConnectionsNotUpToDate` only if a listed port lags behind. Either a
+/// listed publisher doesn't exist, hasn't seen all changes of the list of subscribers, or shares no connection with a listed subscriber; or
+/// a listed subscriber doesn't exist, hasn't followed the current list of publishers, or has to follow it again.
 pub fn refused_where_ports_lag<T, U>(domain: &Domain<T, U>)
     requires without { AreWithoutStrays domain.now.state.ports }
     requires told { first_reason domain.now ≡ Some reason.ConnectionsNotUpToDate }
     ensures { SomePublisherLags domain.now.state.ports ⊎ SomeSubscriberLags domain.now.state.ports }
 {}
 
-/// Each publisher whose room doesn't grow has slots of one segment, keeps no more messages than agreed, and lets one wait at each of its
-/// connections. What is kept is `KeepToOneIfStatic`: so it is of each publisher, and one may wait for each subscriber that is there or
-/// listed. So it is of a new service that lets one message wait at least (`begins`), each call leaves it so, whatever override and handlers
-/// answer (`goes_on`), and so do any calls from a new service on (`stays`).
+/// Each publisher whose capacity doesn't grow has slots of one segment, keeps no more messages than agreed, and lets at least one message
+/// wait at each of its connections. The invariant is `KeepToOneIfStatic`: this holds for each publisher, and at least one message may wait
+/// for each subscriber that exists or is listed. It holds for a new service that lets at least one message wait (`begins`), after each
+/// call, whatever override and handlers answer (`goes_on`), and so after any calls from a new service on (`stays`).
 ///
-/// Where no publisher may grow (`NotStatic` isn't told), that is what `standing_ports_are_sound` asks of each (`static`).
+/// If no publisher's capacity may grow (so `NotStatic` isn't returned), this is what `standing_ports_are_sound` requires of each
+/// (`static`).
 pub fn calls_keep_to_one<T, U, O: Overrides, B: Decides + Degrades>(_overriding: &O, _handlers: &B)
     ensures { CallsKeepToOne T U (O.overrides _overriding.now) (B.degrades _handlers.now cause.FailedToEstablishConnection)
         (B.decides _handlers.now) }
 {}
 
-/// A domain whose ports calls made is never refused as `Unsound`: any calls from a new service on that lets one message wait at least,
-/// whatever override and handlers answer. The ports stand for a service of the machine, as the laws of `iox_domain_machine` say of calls.
+/// A domain whose ports calls made is never refused as `Unsound`: this holds for any calls from a new service on that lets at least one
+/// message wait, whatever override and handlers answer. The ports represent a service of the machine, as the theorems of
+/// `iox_domain_machine` say of calls.
 pub fn never_refused_as_unsound<T, U, O: Overrides, B: Decides + Degrades>(
     _overriding: &O,
     _handlers: &B,
@@ -194,9 +199,9 @@ pub fn never_refused_as_unsound<T, U, O: Overrides, B: Decides + Degrades>(
         (B.decides _handlers.now) domain.now }
 {}
 
-/// Each subscriber of the lanes that `into_lanes` gives may borrow as many samples as the service agreed on, whatever was run on them. So
-/// each receive of theirs that ended looked just where as many were borrowed as agreed, and took where fewer were; as long as at most 2^63
-/// steps were made.
+/// Each subscriber of the lanes that `into_lanes` makes may borrow as many samples as the service agreed on, whatever was run on them. So
+/// each of their receives that ended only looked exactly where as many samples were borrowed as agreed, and took where fewer were; as long
+/// as at most 2^63 steps were made.
 pub fn agreed_limits_stay()
     ensures limits { AgreedLimitsStay }
     ensures receives { ReceivesLookAsAgreed }

@@ -1,33 +1,33 @@
--- Which ports are all those of a board.
+-- When ports are all the ports of a board.
 use Rattle.std.specs.Prelude.{ℕ, ◌≡◌, ◌<◌, ◌==◌, ◌&&◌, Bool, true, List, length}
 use Rattle.std.specs.List.{All, list_any, list_all}
 use Rattle.iox_lanes_threads.specs.Ports.{BoardPublisher, BoardSubscriber, BoardState}
 
--- one of the publishers is the board's at a place
+-- One of the publishers is the board's publisher at this place.
 abbrev pub has_publisher : BoardState → ℕ → List BoardPublisher → Bool
 has_publisher board place ports = list_any (λ p. (p.board == board.number) && (p.place == place)) ports
 
--- one of the subscribers is
+-- One of the subscribers is the board's subscriber at this place.
 abbrev pub has_subscriber : BoardState → ℕ → List BoardSubscriber → Bool
 has_subscriber board place ports = list_any (λ p. (p.board == board.number) && (p.place == place)) ports
 
--- the board knows all of the publishers by its number
+-- The board knows all of these publishers by its number.
 abbrev pub knows_publishers : BoardState → List BoardPublisher → Bool
 knows_publishers board ports = list_all (λ p. p.board == board.number) ports
 
--- and all of the subscribers
+-- The board knows all of these subscribers by its number.
 abbrev pub knows_subscribers : BoardState → List BoardSubscriber → Bool
 knows_subscribers board ports = list_all (λ p. p.board == board.number) ports
 
--- those publishers that the board knows by its number step on its words
+-- Each of these publishers that has the board's number steps on the board's words.
 abbrev pub ArePublishersOf : BoardState → List BoardPublisher → Type 0
 ArePublishersOf board ports = All (λ p. p.board ≡ board.number → p.own.table ≡ board.table) ports
 
--- and those subscribers
+-- Each of these subscribers that has the board's number steps on the board's words.
 abbrev pub AreSubscribersOf : BoardState → List BoardSubscriber → Type 0
 AreSubscribersOf board ports = All (λ p. p.board ≡ board.number → p.own.table ≡ board.table) ports
 
--- as many ports as the board has, all of them known to it, with one at each place
+-- These are all ports of the board: as many as it has, all with its number, and one at each place.
 pub record AreAll (board : BoardState) (ps : List BoardPublisher) (ss : List BoardSubscriber) : Type 0 where
   pub publishers_many : length ps ≡ board.publishers
   pub subscribers_many : length ss ≡ board.subscribers

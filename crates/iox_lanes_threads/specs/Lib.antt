@@ -1,4 +1,4 @@
--- The definitions that contracts about opening and ending cite.
+-- The definitions that the contracts of opening and ending cite.
 pub mod Opening
 pub mod Ports
 pub mod Threads

@@ -1,4 +1,4 @@
--- What lanes are as a service that threads share: its connections and slots, and what each port knows at first.
+-- Lanes as a service that threads share: its connections and slots, and what each port knows at first.
 use Rattle.std.specs.Prelude.{ℕ, ◌≡◌, ◌+◌, List, [], ◌∷◌, ◌++◌, map, length}
 use Rattle.atomic_table.specs.Seated.{TableId}
 use Rattle.atomic_table.specs.Table.{Me}
@@ -16,15 +16,15 @@ use Rattle.iox_lanes_threads_ports.specs.LanesThreadsRule.declared.view.PortPart
 use Rattle.iox_lanes_threads_ports.specs.LanesThreadsRule.declared.view.PortParty.TheVariants as party
 use Rattle.iox_lanes_threads_ports.specs.LanesThreadsRule.declared.view.View.{View}
 
--- the slots of a publisher
+-- The slots of a publisher.
 abbrev pub range_of : PublisherLaneState → SlotRange
 range_of lane = record { first = lane.port.book.first; count = length lane.port.book.loans }
 
--- the service that the lanes are
+-- The service that these lanes have.
 abbrev pub service_of : World → Service
 service_of m = record { sizes = m.table.sizes; lines = map line_of m.links; ranges = map range_of m.publishers }
 
--- a port that knows what each word of the lanes holds, and made no access yet
+-- A port that knows what each word of the lanes contains, and has made no access yet.
 abbrev pub opened : World → ℕ → Party → PortParty → Port
 opened m number name own = record {
   number = number;
@@ -36,30 +36,30 @@ opened m number name own = record {
   seen = [];
 }
 
--- publishers as ports, from a place on
+-- These publishers as ports, the first of them at this place.
 abbrev pub publishers_from : World → ℕ → List PublisherLaneState → List Port
 publishers_from m place [] = []
 publishers_from m place (lane ∷ lanes) = opened m place (Publisher place) (party.Publisher lane) ∷ publishers_from m (place + 1) lanes
 
--- subscribers as ports, from a place on: they are numbered behind all publishers
+-- These subscribers as ports, the first of them at this place; they are numbered after all publishers.
 abbrev pub subscribers_from : World → ℕ → List SubscriberLaneState → List Port
 subscribers_from m place [] = []
 subscribers_from m place (lane ∷ lanes) = opened m (length m.publishers + place) (Subscriber place) (party.Subscriber lane)
     ∷ subscribers_from m (place + 1) lanes
 
--- all ports of lanes
+-- All ports of the lanes, the publishers first.
 abbrev pub ports_of : World → List Port
 ports_of m = publishers_from m 0 m.publishers ++ subscribers_from m 0 m.subscribers
 
--- at first all wait
+-- The first view of the lanes' words, in which all ports wait.
 abbrev pub first_view : World → View
 first_view m = waits 0 (ports_of m)
 
--- the words of the lanes and their ports fit, and lanes stand behind them
+-- The words and the ports of the lanes fit (`Fits`), and are those of some lanes (`IsBacked`).
 abbrev pub Fitting : World → Type 0
 Fitting m = Fits (service_of m) m.table.words (ports_of m) × IsBacked (service_of m) m.table.words (ports_of m)
 
--- the seat at which ports wait, of a table with as many words as the lanes have
+-- `me` is the seat at which these ports wait, the first of them with number `from`, and the table has as many words as the lanes.
 pub record WaitsFor (m : World) (table : TableId) (me : Me ℕ View) (from : ℕ) (ports : List Port) : Type 0 where
   pub words : table.words ≡ length m.table.words
   pub me_is : me ≡ (waits from ports, [])

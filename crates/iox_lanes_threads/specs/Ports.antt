@@ -1,4 +1,4 @@
--- Ports in threads as callers see them, and how they follow from lanes.
+-- Ports in threads as callers see them, and how they are made from lanes.
 use Rattle.std.specs.Prelude.{ℕ, ◌≡◌, ◌+◌, ◌≤◌, ◌^◌, List, [], ◌∷◌, length}
 use Rattle.atomic_table.specs.Seated.{TableId}
 use Rattle.iox_lanes_machine.specs.LanesParties.Parties.{PublisherLaneState, SubscriberLaneState}
@@ -9,34 +9,34 @@ use Rattle.iox_lanes_threads_ports.specs.LanesThreadsRule.declared.view.PortPart
 use Rattle.iox_lanes_threads_ports.specs.Values.{PublisherPort, SubscriberPort, SamePublisher, SameSubscriber}
 use Rattle.iox_lanes_threads.specs.Opening.{opened}
 
--- a publisher of a board, at its place among the publishers
+-- A publisher of a board: the board's number, its place among the publishers, and the port itself.
 pub record BoardPublisher : Type 0 where
   pub board : ℕ
   pub place : ℕ
   pub own : PublisherPort
 
--- a subscriber likewise
+-- A subscriber of a board: the board's number, its place among the subscribers, and the port itself.
 pub record BoardSubscriber : Type 0 where
   pub board : ℕ
   pub place : ℕ
   pub own : SubscriberPort
 
--- a board: its number, its words, and how many ports it has
+-- A board: its number, its words, and how many publishers and subscribers it has.
 pub record BoardState : Type 0 where
   pub number : ℕ
   pub table : TableId
   pub publishers : ℕ
   pub subscribers : ℕ
 
--- a publisher stays the one that it was
+-- The publisher has the same board and place, and is the same port on the same table.
 abbrev pub StaysPublisher : BoardPublisher → BoardPublisher → Type 0
 StaysPublisher old new = (new.board ≡ old.board) × (new.place ≡ old.place) × SamePublisher old.own new.own
 
--- a subscriber likewise
+-- The subscriber has the same board and place, and is the same port on the same table.
 abbrev pub StaysSubscriber : BoardSubscriber → BoardSubscriber → Type 0
 StaysSubscriber old new = (new.board ≡ old.board) × (new.place ≡ old.place) × SameSubscriber old.own new.own
 
--- the publishers of lanes as they are opened, from a place on
+-- The publishers of a board that was opened from these lanes, the first of them at this place.
 abbrev pub opened_publishers : ℕ → TableId → World → ℕ → List PublisherLaneState → List BoardPublisher
 opened_publishers board table m place [] = []
 opened_publishers board table m place (lane ∷ lanes) =
@@ -48,7 +48,7 @@ opened_publishers board table m place (lane ∷ lanes) =
     }
     ∷ opened_publishers board table m (place + 1) lanes
 
--- the subscribers likewise
+-- The subscribers of a board that was opened from these lanes, the first of them at this place.
 abbrev pub opened_subscribers : ℕ → TableId → World → ℕ → List SubscriberLaneState → List BoardSubscriber
 opened_subscribers board table m place [] = []
 opened_subscribers board table m place (lane ∷ lanes) =
@@ -66,7 +66,7 @@ opened_subscribers board table m place (lane ∷ lanes) =
     }
     ∷ opened_subscribers board table m (place + 1) lanes
 
--- lanes that threads may take over
+-- The lanes may be opened for threads: no port is inside a call, no loan or sample is out, and at most 2^63 steps were made.
 pub record MayOpen (m : World) : Type 0 where
   pub between : AllBetween m
   pub none_out : NoneOut m

@@ -1,4 +1,4 @@
--- Room for all ports of lanes in threads.
+-- What all ports of lanes need in threads.
 use Rattle.std.specs.Prelude.{◌≡◌, ◌≤◌, [], length, vec_capacity}
 use Rattle.atomic_table.specs.Seated.{TableId}
 use Rattle.std.specs.List.{All}
@@ -8,7 +8,8 @@ use Rattle.iox_lanes_threads_ports.specs.Values.{HasRoom}
 use Rattle.iox_lanes_threads.specs.Opening.{first_view}
 use Rattle.iox_lanes_threads.specs.declared.room.Room.{Room}
 
--- all ports wait at one seat of a table with the words of the lanes; there is a share of it for each, and room for it
+-- All ports of the lanes wait at one seat of a table with the lanes' words; each port has a share of the table, each publisher a write with
+-- memory for its words, and there is memory for all ports.
 pub record IsRoomFor (m : World) (room : Room) : Type 0 where
   pub of_is : room.of.value ≡ m
   pub table : room.home.table_id ≡ room.words

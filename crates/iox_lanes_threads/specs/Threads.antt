@@ -7,14 +7,14 @@ use Rattle.iox_lanes_threads.specs.declared.errors.OpenError.{OpenError}
 use Rattle.iox_lanes_threads.specs.declared.errors.OpenError.TheVariants as open_error
 use Rattle.iox_lanes_threads.specs.declared.threads.LaneThreads.{LaneThreads}
 
--- why lanes are not opened, in this order
+-- Why lanes aren't opened: the first reason, in this order.
 abbrev pub RefusesToOpen : OpenError → World → Type 0
 RefusesToOpen open_error.PartyInCall m = AllBetween m → ⊥
 RefusesToOpen open_error.SamplesOut m = AllBetween m × (NoneOut m → ⊥)
 RefusesToOpen open_error.TooManySteps m = AllBetween m × NoneOut m × (2 ^ 63 < m.moments)
 RefusesToOpen open_error.OutOfMemory m = MayOpen m
 
--- lanes that are opened on a board of this number: each of their ports, which knows what each word of the lanes holds
+-- The threads are those of lanes opened on a board with this number: they have each port of the lanes, which knows what each word contains.
 pub record OpenedAs (board : ℕ) (m : World) (threads : LaneThreads) : Type 0 where
   pub number : threads.board.number ≡ board
   pub publishers_are : threads.publishers.items ≡ opened_publishers board threads.board.table m 0 m.publishers

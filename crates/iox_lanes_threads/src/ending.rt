@@ -1,4 +1,4 @@
-//! From threads to ports that exist still.
+//! From threads back to lanes.
 ghost use Rattle.std.specs.Prelude.{◌≡◌, ◌<◌, ◌≤◌, ◌++◌, ℕ, true, false, [], map, length, IfOk, IfErr, vec_capacity};
 ghost use Rattle.std.specs.List.{All};
 ghost use Rattle.iox_lanes_threads_ports.specs.LanesThreadsRule.Gathered.{Agree};
@@ -13,30 +13,30 @@ use crate::threads::{Board, LaneThreads};
 use iox_lanes_parties::{PublisherLane, SubscriberLane};
 use iox_lanes_threads_rule::{WordSeat, agree, gather};
 
-/// The ports of a service that stand still again. Loans and samples that were still out are void: the words are gone.
+/// The ports of a service after their threads ended. Loans and samples that were still out are void, since the words are gone.
 #[derive(Drop)]
 pub struct EndedThreads {
-    /// The publishers, in the order in which they were handed in.
+    /// The lanes of the publishers, in the order in which these were handed in.
     pub publishers: Vec<PublisherLane>,
-    /// The subscribers likewise.
+    /// The lanes of the subscribers, in the order in which these were handed in.
     pub subscribers: Vec<SubscriberLane>,
 }
 
-// Whether the board knows all of the publishers.
+// Whether the board knows all of these publishers by its number.
 fn knows_publishers(board: &Board, ports: &[LanePublisher]) -> bool
     ensures { result ≡ knows_publishers board.now ports.now }
 {
     ports.iter().all(|port| board.knows(port))
 }
 
-// Whether it knows all of the subscribers.
+// Whether the board knows all of these subscribers by its number.
 fn knows_subscribers(board: &Board, ports: &[LaneSubscriber]) -> bool
     ensures { result ≡ knows_subscribers board.now ports.now }
 {
     ports.iter().all(|port| board.knows(port))
 }
 
-// Whether one of the publishers is the board's at a place.
+// Whether one of the publishers is the board's publisher at this place.
 fn has_publisher(board: &Board, place: usize, ports: &[LanePublisher]) -> bool
     ensures { result ≡ has_publisher board.now place ports.now }
 {
@@ -45,7 +45,7 @@ fn has_publisher(board: &Board, place: usize, ports: &[LanePublisher]) -> bool
         .any(|port| board.knows(port) && port.place() == place)
 }
 
-// Whether one of the subscribers is.
+// Whether one of the subscribers is the board's subscriber at this place.
 fn has_subscriber(board: &Board, place: usize, ports: &[LaneSubscriber]) -> bool
     ensures { result ≡ has_subscriber board.now place ports.now }
 {
@@ -54,7 +54,7 @@ fn has_subscriber(board: &Board, place: usize, ports: &[LaneSubscriber]) -> bool
         .any(|port| board.knows(port) && port.place() == place)
 }
 
-// Whether the board's publishers have one at each place.
+// Whether each of the board's places for publishers has one.
 fn at_each_publisher(board: &Board, ports: &[LanePublisher]) -> bool
     ensures all { result ≡ true → (place : ℕ) → place < board.now.publishers → has_publisher board.now place ports.now ≡ true }
     ensures lacks { result ≡ false → (place : ℕ) × (place < board.now.publishers) × (has_publisher board.now place ports.now ≡ false) }
@@ -67,7 +67,7 @@ fn at_each_publisher(board: &Board, ports: &[LanePublisher]) -> bool
     true
 }
 
-// Whether its subscribers do.
+// Whether each of the board's places for subscribers has one.
 fn at_each_subscriber(board: &Board, ports: &[LaneSubscriber]) -> bool
     ensures all { result ≡ true → (place : ℕ) → place < board.now.subscribers → has_subscriber board.now place ports.now ≡ true }
     ensures lacks { result ≡ false → (place : ℕ) × (place < board.now.subscribers) × (has_subscriber board.now place ports.now ≡ false) }
@@ -80,7 +80,7 @@ fn at_each_subscriber(board: &Board, ports: &[LaneSubscriber]) -> bool
     true
 }
 
-/// Whether these are all ports of the board.
+/// Whether these are all ports of the board: as many as it has, with its number, and one at each place.
 pub fn are_all(board: &Board, publishers: &[LanePublisher], subscribers: &[LaneSubscriber]) -> bool
     ensures all { result ≡ true → AreAll board.now publishers.now subscribers.now }
     ensures lacks { result ≡ false → AreAll board.now publishers.now subscribers.now → ⊥ }
@@ -94,7 +94,7 @@ pub fn are_all(board: &Board, publishers: &[LanePublisher], subscribers: &[LaneS
     at_each_publisher(board, publishers) && at_each_subscriber(board, subscribers)
 }
 
-// The lanes of publishers, in the room for them.
+// The lanes of the publishers, in the memory reserved for them.
 fn publisher_lanes(ports: Vec<LanePublisher>, room: Vec<PublisherLane>) -> Vec<PublisherLane>
     requires { (room.items ≡ []) × (length ports.items ≤ vec_capacity room) }
     ensures { result.items ≡ map (λ p. p.own.lane) ports.items }
@@ -107,7 +107,7 @@ fn publisher_lanes(ports: Vec<LanePublisher>, room: Vec<PublisherLane>) -> Vec<P
     lanes
 }
 
-// The lanes of subscribers likewise.
+// The lanes of the subscribers, in the memory reserved for them.
 fn subscriber_lanes(ports: Vec<LaneSubscriber>, room: Vec<SubscriberLane>) -> Vec<SubscriberLane>
     requires { (room.items ≡ []) × (length ports.items ≤ vec_capacity room) }
     ensures { result.items ≡ map (λ p. p.own.lane) ports.items }
@@ -120,8 +120,8 @@ fn subscriber_lanes(ports: Vec<LaneSubscriber>, room: Vec<SubscriberLane>) -> Ve
     lanes
 }
 
-/// Ends all ports of a board: they stand still again, each with what its lane knows, and the words are gone. It takes no memory.
-/// All come back where a port is missing or is another board's (`NotAllPorts`).
+/// Ends all ports of a board: returns their lanes, each as its port left it. The words are gone. It allocates nothing. If a port is missing
+/// or belongs to another board, it returns `NotAllPorts` with the board and all ports.
 pub fn end(
     board: Board,
     publishers: Vec<LanePublisher>,
@@ -156,7 +156,7 @@ pub fn end(
     })
 }
 
-// The seats of publishers come to one seat, and their lanes into the room for them.
+// Gathers the seats of the publishers in one seat, and returns their lanes in the memory reserved for them.
 fn gather_publishers(
     words: &Share,
     home: &mut WordSeat,
@@ -180,7 +180,7 @@ fn gather_publishers(
     lanes
 }
 
-// The seats of subscribers likewise.
+// Gathers the seats of the subscribers in one seat, and returns their lanes in the memory reserved for them.
 fn gather_subscribers(
     words: &Share,
     home: &mut WordSeat,
@@ -204,10 +204,10 @@ fn gather_subscribers(
     lanes
 }
 
-/// Ends all ports of a board as [`end`] does, where each port that the board knows by its number steps on the board's own words: so it
-/// is where no two boards have one number, whatever other boards' ports are handed in (`NotAllPorts`). Then what a subscriber has
-/// read of a sample that it has still is what its publisher knows of the slot, as long as the ports know that no write position
-/// came to 2^64 - 1.
+/// Ends all ports of a board as [`end`] does, with the same error. It requires that each port with the board's number steps on the board's
+/// own words, which holds if no two boards have the same number; then ports of other boards may be handed in, and are refused. In return it
+/// ensures that what a subscriber has read of a sample that it still holds is what the publisher knows of the slot, if the ports know that
+/// no write position came to 2^64 - 1.
 pub fn end_together(
     board: Board,
     publishers: Vec<LanePublisher>,

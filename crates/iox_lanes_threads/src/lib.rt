@@ -1,14 +1,15 @@
-//! Publishers and subscribers of one service in threads of their own: the lanes' steps on one table of atomic words, with no lock anywhere.
+//! Publishers and subscribers of one service in threads of their own: they make the lanes' steps on one table of atomic words, without any
+//! lock.
 //!
 //! - [`table`]: the words that the ports share, and the seats that they step with.
 //! - [`publisher`], [`subscriber`]: a port with its share of the words.
 //! - [`threads`]: all ports of a service.
-//! - [`errors`]: why they are not opened or ended.
+//! - [`errors`]: why they aren't opened or ended.
 //! - [`opening`]: from lanes to threads.
-//! - `room`: the room that the ports need.
-//! - [`ending`]: from threads to ports that exist still.
+//! - `room`: the memory that the ports need.
+//! - [`ending`]: from threads back to lanes.
 //!
-//! First calls, of lanes that stand between calls. The program `example_threads` has the ports in threads of their own.
+//! First calls, of lanes of which no port is inside a call. The program `example_threads` runs the ports in threads of their own.
 //!
 //! ```
 //! let mut threads = iox_lanes_threads::open_threads(alloc, 1, lanes).ok()?;

@@ -11,7 +11,7 @@ use crate::threads::LaneThreads;
 use iox_lanes_machine::{LaneMachine, Unrest};
 use std::alloc::{AllocError, Global};
 
-// Why the lanes may not be opened, memory aside.
+// Why the lanes may not be opened, except for memory.
 fn refusal(lanes: &LaneMachine) -> Option<OpenError>
     ensures some { IfSome result (λ error. RefusesToOpen error lanes.now) }
     ensures none { IfNone result (MayOpen lanes.now) }
@@ -27,11 +27,10 @@ fn refusal(lanes: &LaneMachine) -> Option<OpenError>
     None
 }
 
-/// Threads take over from lanes: each publisher and subscriber gets its share of the words, which stay as the lanes left them,
-/// and may go to a thread of its own. The board has this number, by which it knows its ports: whoever opens two gives them two.
-/// The lanes come back where a party is inside a call (`PartyInCall`), a loan or a sample is out (`SamplesOut`), more than 2^63
-/// steps were made (`TooManySteps`), or an allocation fails (`OutOfMemory`), in this order. The ports take no memory from here
-/// on.
+/// Opens lanes for threads: each publisher and each subscriber gets its share of the words, which are as the lanes left them, and may move
+/// to a thread of its own. `board` is the number by which the board knows its ports; give two boards two numbers. The lanes come back with
+/// an error if a party is inside a call (`PartyInCall`), a loan or a sample is out (`SamplesOut`), more than 2^63 steps were made
+/// (`TooManySteps`), or an allocation fails (`OutOfMemory`), checked in this order. From then on the ports allocate nothing.
 pub fn open_threads(
     alloc: Global,
     board: u64,

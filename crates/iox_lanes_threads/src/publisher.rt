@@ -15,8 +15,8 @@ use iox_lanes_threads_rule::WordSeat;
 use iox_queues_base::Words;
 use std::marker::Model;
 
-/// A publisher that steps on the words that it shares with the other ports of its board. It may go to any thread; no call takes a
-/// lock, memory or leave to wait.
+/// A publisher that makes its steps on the words that it shares with the other ports of its board. It may move to any thread. No call
+/// locks, allocates or waits.
 pub struct LanePublisher {
     words: Share,
     board: u64,
@@ -24,7 +24,7 @@ pub struct LanePublisher {
     port: ThreadedPublisher,
 }
 
-/// Said here once, so that no crate above proves it anew.
+/// Writes the drop out once, so that no crate above proves it anew.
 impl Drop for LanePublisher {
     fn drop(self) {
         let LanePublisher {
@@ -65,17 +65,17 @@ impl LanePublisher {
         }
     }
 
-    /// Which of the publishers it is.
+    /// Its place among the board's publishers.
     pub fn place(&self) -> usize
         ensures { result ≡ self.now.place }
     {
         self.place
     }
 
-    /// Asks for a slot to be written. It ends after at most as many steps as its connections need to give back all that they have
-    /// room for, and one more sample each. It answers, unless the port stands inside a call. That is so as long as no write
-    /// position stands at 2^64 - 1 when it loads a word: a call that doesn't answer stays inside, with more samples taken back at
-    /// one connection than its ring of samples given back has cells.
+    /// Loans a slot, in at most `loan_steps` steps: as many as its connections need to give back all the samples that they have cells for,
+    /// and one sample more each. The answer is None if the port is inside a call; then nothing is done. It is None, too, if the loan isn't
+    /// over after that many steps. This happens only where a write position was 2^64 - 1 when the call loaded a word, and more samples came
+    /// back at one connection than its completion ring has cells. The port stays inside that call.
     pub fn loan_uninit(&mut self) -> Option<LoanAnswer>
         ensures same { StaysPublisher self.old self.new }
         ensures call { Loans self.old.own self.new.own result }
@@ -83,9 +83,9 @@ impl LanePublisher {
         self.port.loan_uninit(self.words.words())
     }
 
-    /// Writes the words of a payload into the slot of a loan, and keeps those of a user header for its send. False where the slot
-    /// is no loan of this port, or the words are not as many as a payload and a user header have, or the port stands inside a
-    /// call; then nothing is done.
+    /// Writes the words of a payload into the slot of a loan, and keeps the words of a user header for its send. Returns false if the slot
+    /// isn't a loan of this port, the words aren't as many as a payload and a user header have, or the port is inside a call; then nothing
+    /// is done.
     pub fn write(&mut self, loan: u64, payload: &[u64], user_header: &[u64]) -> bool
         ensures same { StaysPublisher self.old self.new }
         ensures call { Writes self.old.own loan payload.now user_header.now self.new.own result }
@@ -97,8 +97,9 @@ impl LanePublisher {
             .write(self.words.words(), loan, payload, user_header)
     }
 
-    /// Writes a value into the slot of a loan, and keeps a user header for its send: as `write` of their words. False where the slot is no
-    /// loan of this port, the service has values of another width, or the port stands inside a call; then nothing is done.
+    /// Writes a value into the slot of a loan, and keeps a user header for its send: does what `write` does with the words of both. Returns
+    /// false if the slot isn't a loan of this port, the value or the user header has another number of words than the service's, or the
+    /// port is inside a call; then nothing is done.
     pub fn write_values<T: Words, U: Words>(
         &mut self,
         loan: u64,
@@ -115,8 +116,9 @@ impl LanePublisher {
             .write_values(self.words.words(), loan, value, user_header)
     }
 
-    /// Sends a loan that is written, and tells how many connections took it. It is `UnableToDeliver` just where the publisher
-    /// fails at a full mailbox and one refused. It answers, unless the slot is no such loan of this port, or as a loan.
+    /// Sends a loan that is written, and returns how many connections took it. The answer is `UnableToDeliver` exactly where the publisher
+    /// fails at a full mailbox and a connection refused the message. It is None if the slot isn't a written loan of this port, and where a
+    /// loan's answer would be None.
     pub fn send(&mut self, loan: u64) -> Option<SendAnswer>
         ensures same { StaysPublisher self.old self.new }
         ensures call { Sends self.old.own loan self.new.own result }
@@ -128,21 +130,22 @@ impl LanePublisher {
         self.port.send(self.words.words(), loan)
     }
 
-    /// The number that it gave last, or the one before the first; None where messages have no numbers.
+    /// The sequence number of the last message that it sent, or the number before the first one. None where messages have no sequence
+    /// numbers.
     pub fn last_sequence(&self) -> Option<u64>
         ensures { result ≡ self.now.own.lane.last }
     {
         self.port.last_sequence()
     }
 
-    /// The lane, which stands still from now on.
+    /// The lane, which makes no more steps in a thread.
     pub(crate) fn into_lane(self) -> PublisherLane
         ensures { result ≡ self.own.lane }
     {
         self.into_parts().1
     }
 
-    /// Its seat and its lane, which stands still from now on.
+    /// The seat and the lane, which makes no more steps in a thread.
     pub(crate) fn into_parts(self) -> (WordSeat, PublisherLane)
         ensures { (result.0.table_id ≡ self.own.table) × (result.0.me ≡ single self.own.port) × (result.1 ≡ self.own.lane) }
     {

@@ -1,4 +1,4 @@
-//! The room for ports in threads, and how they take their seats.
+//! The memory that all ports need in threads, and how they take their seats.
 ghost use Rattle.std.specs.Prelude.{◌≡◌, ◌<◌, ◌≤◌, ◌+◌, ◌++◌, ℕ, List, [], length, IfOk, vec_len, vec_capacity};
 ghost use Rattle.std.specs.List.{All};
 ghost use Rattle.iox_lanes_machine.specs.LanesBase.Numbers.{words_of, IsSmall};
@@ -26,7 +26,7 @@ use iox_lanes_threads_rule::WordSeat;
 use std::alloc::{AllocError, Global};
 use std::snapshot::Snapshot;
 
-/// What the ports of lanes need in threads: their words, a share of them for each, and room for the ports themselves.
+/// What the ports of lanes need in threads: their words, a share of the words for each port, and memory for the ports themselves.
 pub(crate) struct Room {
     // The lanes as they were.
     of: Snapshot<LaneMachine>,
@@ -35,7 +35,7 @@ pub(crate) struct Room {
     sizes: TableSizes,
     publisher_shares: Vec<Share>,
     subscriber_shares: Vec<Share>,
-    // What each publisher is asked for.
+    // The write that each publisher begins next, with memory for its words.
     writes: Vec<Move>,
     publishers: Vec<LanePublisher>,
     subscribers: Vec<LaneSubscriber>,
@@ -43,7 +43,7 @@ pub(crate) struct Room {
     subscriber_room: Vec<SubscriberLane>,
 }
 
-// So many shares of the words.
+// `count` shares of the words.
 fn shares(alloc: Global, words: &Share, count: usize) -> Result<Vec<Share>, AllocError>
     ensures { IfOk result (λ made. (length made.items ≡ count) × All (λ share. share ≡ words.now) made.items) }
 {
@@ -55,7 +55,7 @@ fn shares(alloc: Global, words: &Share, count: usize) -> Result<Vec<Share>, Allo
     Ok(list)
 }
 
-// Room for so many writes.
+// Memory for `count` writes.
 fn writes(alloc: Global, sizes: &TableSizes, count: usize) -> Result<Vec<Move>, AllocError>
     ensures { IfOk result (λ made. (length made.items ≡ count) × All (HasRoom sizes.now) made.items) }
 {
@@ -68,7 +68,7 @@ fn writes(alloc: Global, sizes: &TableSizes, count: usize) -> Result<Vec<Move>, 
     Ok(list)
 }
 
-// The publisher with the first seat.
+// The publisher at the first seat that waits.
 fn seat_publisher(
     board: u64,
     place: usize,
@@ -97,7 +97,7 @@ fn seat_publisher(
     LanePublisher::new(share, board, place, port)
 }
 
-// The subscriber with the first seat.
+// The subscriber at the first seat that waits.
 fn seat_subscriber(
     board: u64,
     place: usize,
@@ -125,14 +125,14 @@ fn seat_subscriber(
     LaneSubscriber::new(share, board, place, port)
 }
 
-// What the publishers need to take their seats: for each a share of the words and what it is asked for, and room for all of them.
+// What the publishers need to take their seats: for each a share of the words and a write, and memory for all of them.
 struct PublisherNeeds {
     shares: Vec<Share>,
     writes: Vec<Move>,
     seated: Vec<LanePublisher>,
 }
 
-// All publishers with their seats, in the room for them.
+// Seats all publishers, in the memory reserved for them.
 fn seat_publishers(
     of: &Snapshot<LaneMachine>,
     board: u64,
@@ -171,7 +171,7 @@ fn seat_publishers(
     seated
 }
 
-// All subscribers likewise.
+// Seats all subscribers, in the memory reserved for them.
 fn seat_subscribers(
     of: &Snapshot<LaneMachine>,
     board: u64,
@@ -202,7 +202,7 @@ fn seat_subscribers(
 }
 
 impl Room {
-    /// Room for the ports of these lanes. It fails only where an allocation fails.
+    /// Allocates what the ports of these lanes need. `AllocError` is returned only where an allocation fails.
     pub(crate) fn new(alloc: Global, lanes: &LaneMachine) -> Result<Room, AllocError>
         requires { MayOpen lanes.now }
         ensures { IfOk result (λ room. IsRoomFor lanes.now room) }
@@ -228,7 +228,7 @@ impl Room {
         })
     }
 
-    /// The ports of these lanes with their seats, on a board of this number.
+    /// Seats the ports of these lanes, on a board with this number.
     pub(crate) fn seat(self, board: u64, lanes: LaneMachine) -> LaneThreads
         requires room { IsRoomFor lanes self }
         requires may { MayOpen lanes }

@@ -19,8 +19,8 @@ use iox_queues_base::Words;
 use std::marker::Model;
 use std::sync::Wait;
 
-/// A subscriber that steps on the words that it shares with the other ports of its board. It may go to any thread; no call takes
-/// a lock or memory, and `receive` alone leave to wait.
+/// A subscriber that makes its steps on the words that it shares with the other ports of its board. It may move to any thread. No call
+/// locks or allocates, and only `receive` may wait.
 pub struct LaneSubscriber {
     words: Share,
     board: u64,
@@ -28,7 +28,7 @@ pub struct LaneSubscriber {
     port: ThreadedSubscriber,
 }
 
-/// Said here once, so that no crate above proves it anew.
+/// Writes the drop out once, so that no crate above proves it anew.
 impl Drop for LaneSubscriber {
     fn drop(self) {
         let LaneSubscriber {
@@ -69,14 +69,15 @@ impl LaneSubscriber {
         }
     }
 
-    /// Which of the subscribers it is.
+    /// Its place among the board's subscribers.
     pub fn place(&self) -> usize
         ensures { result ≡ self.now.place }
     {
         self.place
     }
 
-    /// Asks for a message. It may go on forever where its publishers move a ring on again and again.
+    /// Asks the connections, in their order, for a message, and returns the receipt. It may go on forever if publishers move the positions
+    /// of a ring again and again.
     pub fn receive<R: Wait>(&mut self, rt: &R) -> Receipt
         ensures same { StaysSubscriber self.old self.new }
         ensures call { SubscriberEnds self.old.own.port (subscriber_begun 0 Call.Receive self.old.own.lane) self.new.own.port
@@ -86,9 +87,9 @@ impl LaneSubscriber {
         self.port.receive(rt, self.words.words())
     }
 
-    /// Reads the words of header, user header and payload of a sample. False where the slot is no sample of this port. Two reads of one
-    /// sample lend the same words, where no call between them gives it back, and no write position stood at 2^64 - 1 when they loaded them
-    /// (`held_reads_agree` of `iox_lanes_threads_ports`).
+    /// Reads the words of header, user header and payload of a sample, which `words` then lends. Returns false if the slot isn't a sample
+    /// of this port; then nothing is read. Two reads of one sample lend the same words, if no call between them releases it, and no write
+    /// position was 2^64 - 1 when they loaded the words (`held_reads_agree` of `iox_lanes_threads_ports`).
     pub fn read(&mut self, sample: u64) -> bool
         ensures same { StaysSubscriber self.old self.new }
         ensures call { Reads self.old.own sample self.new.own result }
@@ -101,14 +102,14 @@ impl LaneSubscriber {
         self.port.read(self.words.words(), sample)
     }
 
-    /// The words that were read, one behind the other, if the last call was a read.
+    /// The words that the last call read, first the header, then the user header and the payload; empty if that call wasn't a read.
     pub fn words(&self) -> &[u64]
         ensures { result.now ≡ self.now.own.words }
     {
         self.port.words()
     }
 
-    /// The user header and the value that were read, if the last call was a read, and of as many words.
+    /// The user header and the value that the last call read. None if that call wasn't a read, or read another number of words.
     pub fn values<T: Words, U: Words>(&self) -> Option<(U, T)>
         ensures some { IfSome result (AreValues T.of_parts U.of_parts T.WORDS U.WORDS self.now.own.words) }
         ensures none { result ≡ None → length self.now.own.words ≡ 3 + U.WORDS + T.WORDS → ⊥ }
@@ -116,7 +117,8 @@ impl LaneSubscriber {
         values_in::<T, U>(self.port.words())
     }
 
-    /// Gives a sample back, and answers whether it went back. None where the slot is no sample of this port.
+    /// Releases a sample, and returns whether it went back to its publisher. Returns None if the slot isn't a sample of this port; then
+    /// nothing is done.
     pub fn release(&mut self, sample: u64) -> Option<bool>
         ensures same { StaysSubscriber self.old self.new }
         ensures call { Releases self.old.own sample self.new.own result }
@@ -127,14 +129,14 @@ impl LaneSubscriber {
         self.port.release(self.words.words(), sample)
     }
 
-    /// The lane, which stands still from now on.
+    /// The lane, which makes no more steps in a thread.
     pub(crate) fn into_lane(self) -> SubscriberLane
         ensures { result ≡ self.own.lane }
     {
         self.into_parts().1
     }
 
-    /// Its seat and its lane, which stands still from now on.
+    /// The seat and the lane, which makes no more steps in a thread.
     pub(crate) fn into_parts(self) -> (WordSeat, SubscriberLane)
         ensures { (result.0.table_id ≡ self.own.table) × (result.0.me ≡ single self.own.port) × (result.1 ≡ self.own.lane) }
     {

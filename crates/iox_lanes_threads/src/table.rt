@@ -11,7 +11,7 @@ use std::marker::Model;
 use std::snapshot::Snapshot;
 use std::sync::Arc;
 
-/// The lanes whose words a table started from. It has no bytes.
+/// The lanes whose words a table started from. At run time it has no bytes.
 #[derive(Drop)]
 pub struct OpenedFrom {
     lanes: Snapshot<LaneMachine>,
@@ -23,7 +23,7 @@ impl Opening for OpenedFrom {
     ghost first = { λ from. first_view from.lanes.value };
 }
 
-/// A share of the words: the table lives as long as one of them does.
+/// A share of the words. The table lives as long as one of its shares does.
 #[derive(Drop)]
 pub(crate) struct Share {
     table: Arc<Words<OpenedFrom>, Global>,
@@ -39,7 +39,7 @@ impl Model for Share {
 }
 
 impl Share {
-    /// The first share of a table. It fails only where an allocation fails.
+    /// The first share of a table. `AllocError` is returned only where an allocation fails.
     pub(crate) fn new(alloc: Global, table: Words<OpenedFrom>) -> Result<Share, AllocError>
         ensures { IfOk result (λ share. share ≡ table.table_id) }
     {
@@ -49,7 +49,7 @@ impl Share {
         }
     }
 
-    /// One more share. It fails only where there are as many as can be counted.
+    /// One share more. It fails only where there are as many shares as can be counted.
     pub(crate) fn another(&self) -> Result<Share, AllocError>
         ensures { IfOk result (λ share. share ≡ self.now) }
     {
@@ -66,7 +66,8 @@ impl Share {
     }
 }
 
-/// A table that starts from the words of lanes, with a seat at which all their ports wait. It fails only where an allocation fails.
+/// A table that starts with the words of lanes, and a seat at which all their ports wait. `AllocError` is returned only where an allocation
+/// fails.
 pub(crate) fn open_table(
     alloc: Global,
     lanes: &LaneMachine,
@@ -81,7 +82,7 @@ pub(crate) fn open_table(
     Words::open(alloc, lanes.table().words(), &from)
 }
 
-/// The first port that waits, with a seat of its own.
+/// The first port that waits, on a seat of its own.
 pub(crate) fn next_seat(share: &Share, home: &mut WordSeat) -> WordSeat
     requires table { (home.old.table_id ≡ share.now) × (0 < share.now.words) }
     requires waits { IsWaiting home.old.me }

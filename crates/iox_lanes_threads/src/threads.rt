@@ -8,16 +8,16 @@ use iox_lanes_parties::{PublisherLane, SubscriberLane};
 use iox_lanes_threads_rule::WordSeat;
 use std::marker::Model;
 
-/// The words that the ports of a service share, as who opened them keeps them. It knows its ports by the number that it was opened with.
+/// What whoever opened the threads keeps: the words that the ports of a service share, and the number by which it knows its ports.
 #[derive(Drop)]
 pub struct Board {
     pub(crate) number: u64,
     pub(crate) publishers: usize,
     pub(crate) subscribers: usize,
     pub(crate) words: Share,
-    // The seat at which all ports waited, and to which they come when they end together.
+    // The seat at which all ports waited, and in which they are gathered when they end together.
     pub(crate) home: WordSeat,
-    // Room for the ports when they end.
+    // Memory for the lanes of the ports when they end.
     pub(crate) publisher_room: Vec<PublisherLane>,
     pub(crate) subscriber_room: Vec<SubscriberLane>,
 }
@@ -35,20 +35,20 @@ impl Model for Board {
         × (0 < b.words.words) × (b.home.me.0.ports ≡ []) };
 }
 
-/// A port of some board.
+/// A port of a board.
 pub trait OnBoard {
     ghost use Rattle.std.specs.Prelude.{ℕ};
 
-    // The number of its board.
+    // the number of the port's board
     ghost board_of: { Self → ℕ };
 
-    /// The number of its board.
+    /// The number of the port's board.
     fn board(&self) -> u64
         ensures { result ≡ Self.board_of self.now };
 }
 
 impl Board {
-    /// Whether the port is one of this board's: whether both were opened with one number.
+    /// Whether the port belongs to this board, that is, whether both were opened with the same number.
     pub fn knows<P: OnBoard>(&self, port: &P) -> bool
         ensures { result ≡ (P.board_of port.now == self.now.number) }
     {
@@ -56,13 +56,13 @@ impl Board {
     }
 }
 
-/// All ports of a service, each with its share of the words.
+/// All ports of a service in threads, each with its share of the words.
 #[derive(Drop)]
 pub struct LaneThreads {
-    /// The board that they were opened on.
+    /// The board of these ports.
     pub board: Board,
-    /// The publishers, by their places.
+    /// The publishers, by place.
     pub publishers: Vec<LanePublisher>,
-    /// The subscribers, by their places.
+    /// The subscribers, by place.
     pub subscribers: Vec<LaneSubscriber>,
 }

@@ -20,19 +20,19 @@ use Rattle.iox_lanes_threads_rule.specs.Rule.{held}
 use Rattle.iox_lanes_threads_rule.specs.Service.{write_word, read_word}
 use Rattle.iox_lanes_threads_rule.specs.declared.view.Port.{Port}
 
--- what a port knows of a word
+-- The value of the word that the port knows.
 abbrev pub knows : Port → SharedWord → ℕ
 knows p w = held p.service p.known w
 
--- the number of a slot, where there are slots
+-- The value is the number of a slot, if there are slots.
 abbrev pub NamesSlot : Port → ℕ → Type 0
 NamesSlot p value = 0 < p.service.sizes.slots → value < p.service.sizes.slots
 
--- a position that the port knows, and the next one
+-- The port knows that the position in this word is `seen`, which is below 2^64.
 abbrev pub At : Port → SharedWord → ℕ → Type 0
 At p w seen = (knows p w ≡ seen) × (seen < 2 ^ 64)
 
--- a pop, or a look, of the one port that moves the read position
+-- What the port knows at each stage of a pop, or a look, if it alone moves the read position.
 abbrev pub LonePop : Port → SharedWord → refusing_pop_type.Pop → Type 0
 LonePop p read refusing_pop.Idle = Unit {0}
 LonePop p read refusing_pop.Begun = Unit {0}
@@ -44,7 +44,7 @@ LonePop p read refusing_pop.LookBegun = Unit {0}
 LonePop p read (refusing_pop.LookRead seen) = Unit {0}
 LonePop p read (refusing_pop.Looked some) = Unit {0}
 
--- a push on a ring that refuses
+-- What the port knows at each stage of a push on a refusing ring.
 abbrev pub LonePush : Port → SharedWord → refusing_push_type.Push → Type 0
 LonePush p write refusing_push.Idle = Unit {0}
 LonePush p write (refusing_push.Begun limit value) = NamesSlot p value
@@ -53,7 +53,7 @@ LonePush p write (refusing_push.SawRoom value seen next) = NamesSlot p value × 
 LonePush p write (refusing_push.Filled value next) = knows p write ≤ next
 LonePush p write (refusing_push.Pushed value answer) = Unit {0}
 
--- a push on the ring of messages of a connection that overflows
+-- What the port knows at each stage of a push on the overflowing submission ring of a connection.
 abbrev pub OverPush : Port → ℕ → overflowing_push_type.Push → Type 0
 OverPush p connection overflowing_push.Idle = Unit {0}
 OverPush p connection (overflowing_push.Begun limit value) = (0 < limit) × NamesSlot p value
@@ -67,11 +67,11 @@ OverPush p connection (overflowing_push.Full value read next) = (read ≤ next) 
 OverPush p connection (overflowing_push.SawOldest value read next oldest) = (read ≤ next) × (next < knows p (write_word connection))
 OverPush p connection (overflowing_push.Pushed value answer) = Unit {0}
 
--- something waits at the position that the subscriber knows
+-- A message waits at the read position `seen` that the subscriber knows, and `next` is the position after it.
 abbrev pub WaitsAt : Port → ℕ → ℕ → ℕ → Type 0
 WaitsAt p connection seen next = At p (read_word connection) seen × (seen < knows p (write_word connection)) × (next ≡ successor seen)
 
--- a pop, or a look, on the ring of messages of a connection that overflows
+-- What the port knows at each stage of a pop, or a look, on the overflowing submission ring of a connection.
 abbrev pub OverPop : Port → ℕ → overflowing_pop_type.Pop → Type 0
 OverPop p connection overflowing_pop.Idle = Unit {0}
 OverPop p connection overflowing_pop.Begun = Unit {0}
@@ -83,12 +83,12 @@ OverPop p connection overflowing_pop.LookBegun = Unit {0}
 OverPop p connection (overflowing_pop.LookRead seen) = Unit {0}
 OverPop p connection (overflowing_pop.Looked some) = Unit {0}
 
--- a push on the ring of messages of a connection
+-- What the port knows at each stage of a push on the submission ring of a connection.
 abbrev pub PushKnows : Port → Route → Push → Type 0
 PushKnows p route (push.Overflowing own) = (route.kind ≡ kind.Overflowing) × OverPush p route.connection own
 PushKnows p route (push.Refusing own) = LonePush p (write_word route.connection) own
 
--- a pop, or a look, on the ring of messages of a connection
+-- What the port knows at each stage of a pop, or a look, on the submission ring of a connection.
 abbrev pub PopKnows : Port → Route → Pop → Type 0
 PopKnows p route (pop.Overflowing own) = (route.kind ≡ kind.Overflowing) × OverPop p route.connection own
 PopKnows p route (pop.Refusing own) = (route.kind ≡ kind.Refusing) × LonePop p (read_word route.connection) own

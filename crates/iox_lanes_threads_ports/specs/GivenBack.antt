@@ -7,8 +7,8 @@ use Rattle.iox_lanes_threads_ports.specs.Pace.{HasNotLoaded}
 use Rattle.iox_lanes_threads_ports.specs.Paces.{taken_in, AreLoadedEarly}
 use Rattle.iox_lanes_threads_ports.specs.Ports.{PublisherStands}
 
--- Behind any steps of a call that begins, no more samples were taken back at a connection than its ring of samples given back has
--- cells, as long as no write position stood at 2^64 - 1 when these steps loaded a word.
+-- After any steps of a call that begins, no more samples were taken back at a connection than its completion ring has cells, provided that
+-- no write position was 2^64 - 1 when these steps loaded a word.
 abbrev pub NoMoreComesBack : Type 0
 NoMoreComesBack = (p : Port) (lane : PublisherLaneState) (q : Port) (now : PublisherLaneState) (steps : PublisherGoes p lane q now)
     → PublisherStands p lane → HasNotLoaded lane.port.call → AreLoadedEarly steps

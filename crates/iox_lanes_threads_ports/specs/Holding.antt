@@ -1,4 +1,4 @@
--- Two reads of one sample, by the calls between them.
+-- Two reads of one sample, with the calls between them.
 use Rattle.std.specs.Prelude.{ℕ, ◌≡◌, ◌+◌, ◌<◌, Bool, true, false, List, length, slice_index, Option}
 use mathlib.Core.Option.{some}
 use lib.ListN.{get_elem?}
@@ -20,24 +20,24 @@ use Rattle.iox_lanes_threads_ports.specs.OneValue.{AreAnsweredEarly}
 use Rattle.iox_lanes_threads_ports.specs.Ports.{SubscriberStands}
 use Rattle.iox_lanes_threads_ports.specs.Values.{SubscriberPort, Reads, ReadsWords, Releases}
 
--- a subscriber is between calls, where its port knows what the next step needs
+-- The subscriber is between calls, and its port knows what the next step needs.
 pub record StandsBetween (s : SubscriberPort) : Type 0 where
   pub stands : SubscriberStands s.port s.lane
   pub idle : subscriber_is_idle s.lane.port.call ≡ true
 
--- these are all words of header, user header and payload of the sample: the port's view lists them as loaded, and knows them to be these
+-- `lent` is all words of header, user header and payload of the sample: the port's view lists them as loaded, with these values.
 pub record HasRead (p : Port) (extent : SlotExtent) (sample : ℕ) (lent : List ℕ) : Type 0 where
   pub listed : ListsRead p extent sample
   pub known : KnowsRead p extent sample lent
   pub whole : length lent ≡ 3 + extent.user_header_words + extent.payload_words
 
--- no write position stood at 2^64 - 1 when a read loaded its words
+-- No write position was 2^64 - 1 when the read loaded its words; a read that wasn't made needs nothing.
 abbrev pub IsReadEarly : (old : SubscriberPort) (sample : ℕ) (new : SubscriberPort) (done : Bool) → Reads old sample new done → Type 0
 IsReadEarly old sample new false read = Unit {0}
 IsReadEarly old sample new true read = AreAnsweredEarly sample read.goes
 
--- Calls of a subscriber, one behind the other, with what each ensures: receives, reads, of this sample too, and releases of others. No
--- write position stood at 2^64 - 1 when they loaded words of the sample.
+-- A subscriber goes from one state to another by calls, one after the other, each with what it ensures: receives, reads (of this sample,
+-- too), and releases of other samples. No write position was 2^64 - 1 when these calls loaded words of this sample.
 pub data GoesOnHolding (sample : ℕ) (from : SubscriberPort) : SubscriberPort → Type 0 where
   stays : GoesOnHolding sample from from
   receives : (old new : SubscriberPort) (receipt : Receipt) → GoesOnHolding sample from old → StandsBetween old
@@ -48,15 +48,15 @@ pub data GoesOnHolding (sample : ℕ) (from : SubscriberPort) : SubscriberPort �
   releases : (old new : SubscriberPort) (other : ℕ) (done : Option Bool) → GoesOnHolding sample from old → StandsBetween old
       → Releases old other new done → (other ≡ sample → ⊥) → GoesOnHolding sample from new
 
--- A subscriber that has read a sample has it still, and knows its words to be those, behind calls none of which gives it back.
+-- A subscriber that has read a sample still holds it after any calls that don't release it, and still knows its words to be these.
 abbrev pub HeldReadsStay : Type 0
 HeldReadsStay = (sample : ℕ) (from to : SubscriberPort) (extent : SlotExtent) (lent : List ℕ)
     → GoesOnHolding sample from to → IsExtent from.port.service.sizes extent → is_borrowed (place_of sample from.lane) ≡ true
     → HasRead from.port extent sample lent
     → (is_borrowed (place_of sample to.lane) ≡ true) × HasRead to.port extent sample lent
 
--- Two reads of one sample lend the same words, where no call between them gives it back, and no write position stood at 2^64 - 1 when
--- they loaded them: `first` is the subscriber behind the one, and `second` behind the other.
+-- Two reads of one sample lend the same words, if no call between them releases it, and no write position was 2^64 - 1 when they loaded the
+-- words. `first` is the subscriber after the first read, and `second` after the second one.
 abbrev pub HeldReadsAgree : Type 0
 HeldReadsAgree = (sample : ℕ) (before first between second : SubscriberPort)
     → StandsBetween before → ReadsWords before first sample → HasRead first.port before.lane.port.extent sample first.words
@@ -65,8 +65,8 @@ HeldReadsAgree = (sample : ℕ) (before first between second : SubscriberPort)
     → HasRead second.port between.lane.port.extent sample second.words
     → second.words ≡ first.words
 
--- Once ports have in common what `Agree` says, what one of them has read of a sample that it has still is what the port knows that
--- stores the words of the slot; as long as they know that no write position stands at 2^64 - 1.
+-- If ports agree (`Agree`) and know that no write position is 2^64 - 1, then the words that one of them has read of a sample that it still
+-- holds are what the port that stores the slot's words knows of them.
 abbrev pub HeldReadsAreKnown : Type 0
 HeldReadsAreKnown = (ports : List Port) (at number : ℕ) (q p : Port) (extent : SlotExtent) (sample : ℕ) (lent : List ℕ)
     → Agree ports → KnowEarly q.service ports → get_elem? ports at ≡ some q → get_elem? ports number ≡ some p

@@ -1,4 +1,4 @@
--- The definitions that contracts about ports in threads cite.
+-- The definitions that the contracts of ports in threads cite.
 pub mod Ends
 pub mod Ports
 pub mod Known

@@ -1,4 +1,4 @@
--- Two reads of one sample, by the steps between them.
+-- Two reads of one sample, with the steps between them.
 use Rattle.std.specs.Prelude.{ℕ, ◌≡◌, ◌+◌, ◌<◌, true, List, length, slice_index}
 use Rattle.iox_lanes_machine.specs.LanesBase.Subscribing.{subscriber_next}
 use Rattle.iox_lanes_machine.specs.LanesBase.declared.calls.subscriber.SlotExtent.{SlotExtent}
@@ -15,7 +15,7 @@ use Rattle.iox_lanes_threads_ports.specs.Courses.SubscriberGoes.{stays, goes}
 use Rattle.iox_lanes_threads_ports.specs.Known.{KnowsRead, ListsRead}
 use Rattle.iox_lanes_threads_ports.specs.Ports.{SubscriberStands}
 
--- no write position stood at 2^64 - 1 when a load of a word of this slot got its answer; of other accesses nothing is asked
+-- If this access is a load of a word of this slot, no write position was 2^64 - 1 when it was answered.
 abbrev pub IsAnsweredEarly : (slot : ℕ) (p : Port) (access : SharedAccess) (answer : ℕ) → ToldBy p access answer → Type 0
 IsAnsweredEarly slot p (Load (Ring connection ring word)) answer told = Unit {0}
 IsAnsweredEarly slot p (Load (Slot other word)) answer told = other ≡ slot → IsEarly (as_table p.service told.1.words)
@@ -23,23 +23,23 @@ IsAnsweredEarly slot p (Store w new) answer told = Unit {0}
 IsAnsweredEarly slot p (Exchange w old new) answer told = Unit {0}
 IsAnsweredEarly slot p Local answer told = Unit {0}
 
--- so it was at each of these steps
+-- No write position was 2^64 - 1 at any of these steps that loaded a word of this slot.
 abbrev pub AreAnsweredEarly : {p : Port} {lane : SubscriberLaneState} {q : Port} {now : SubscriberLaneState} → ℕ
     → SubscriberGoes p lane q now → Type 0
 AreAnsweredEarly slot stays = Unit {0}
 AreAnsweredEarly slot (goes q now answer before told) =
     AreAnsweredEarly slot before × IsAnsweredEarly slot q (subscriber_next now.port.call) answer told
 
--- behind each of these steps the subscriber has the sample
+-- The subscriber holds the sample after each of these steps.
 abbrev pub HasThroughout : {p : Port} {lane : SubscriberLaneState} {q : Port} {now : SubscriberLaneState} → ℕ
     → SubscriberGoes p lane q now → Type 0
 HasThroughout sample stays = Unit {0}
 HasThroughout sample (goes q now answer before told) =
     HasThroughout sample before × (is_borrowed (place_of sample (subscriber_after answer now)) ≡ true)
 
--- While a port has a sample all whose words its view lists, it goes on listing them and knowing of them what it knew: behind any
--- steps of its calls, if no write position stood at 2^64 - 1 when they loaded a word of it. Words that it knows there to be those of the
--- sample are the same, one by one.
+-- A port that holds a sample, and whose view lists all words of it, still lists them after any steps of its calls that keep the sample, and
+-- knows the same of them, if no write position was 2^64 - 1 when these steps loaded a word of it. So whatever words it knows the sample to
+-- have then, they are the same, one by one.
 abbrev pub ReadsGiveOneValue : Type 0
 ReadsGiveOneValue = (p : Port) (lane : SubscriberLaneState) (q : Port) (now : SubscriberLaneState) (steps : SubscriberGoes p lane q now)
     (extent : SlotExtent) (sample : ℕ) (lent : List ℕ)

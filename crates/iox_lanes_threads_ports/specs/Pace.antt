@@ -1,4 +1,4 @@
--- How many steps a publisher's call in threads may still make, if it takes no more than so many samples back at one connection.
+-- How many steps a publisher's call in threads may still make, if at most a given number of samples comes back at each connection.
 use Rattle.std.specs.Prelude.{ℕ, ◌≡◌, ◌+◌, ◌-◌, ◌*◌, ◌≤◌}
 use Rattle.iox_lanes_machine.specs.QueuesSteps.declared.rings.refusing.pop.Pop.TheVariants.{Begun}
 use Rattle.iox_lanes_machine.specs.LanesBase.declared.words.sizes.TableSizes.{TableSizes}
@@ -11,7 +11,7 @@ use Rattle.iox_lanes_machine.specs.LanesParties.declared.call.Move.{Move}
 use Rattle.iox_lanes_machine.specs.LanesParties.declared.call.Move.TheVariants.{Begin, GoOn}
 use Rattle.iox_lanes_threads_ports.specs.Paces.{loan_steps, write_steps, send_steps}
 
--- a call is under way, and what it stores are no more than so many words
+-- A call is under way, and it stores at most `words` words.
 abbrev pub IsGoing : TableSizes → ℕ → PublisherCall → Type 0
 IsGoing sizes words publishing.Idle = ⊥
 IsGoing sizes words (publishing.LoanReclaims at route pop) = TakesSome 1 pop
@@ -25,7 +25,8 @@ IsGoing sizes words (publishing.Pushing slot at route push delivery) = PushGoes 
 IsGoing sizes words (publishing.Sent slot delivery) = Unit {0}
 IsGoing sizes words (publishing.Dropping slot) = Unit {0}
 
--- its steps, if it took so many back at each place already, and stores so many words
+-- The most steps that the call may still make, if it took `taken place` samples back at each place already, takes at most `most` there, and
+-- stores `words` words.
 abbrev pub steps_to_go : ℕ → ℕ → ℕ → (ℕ → ℕ) → PublisherCall → ℕ
 steps_to_go most connections words taken publishing.Idle = 0
 steps_to_go most connections words taken (publishing.LoanReclaims at route pop)
@@ -43,7 +44,7 @@ steps_to_go most connections words taken (publishing.Pushing slot at route push 
 steps_to_go most connections words taken (publishing.Sent slot delivery) = 1
 steps_to_go most connections words taken (publishing.Dropping slot) = 1
 
--- a call that takes back has loaded no word of a connection yet
+-- The call has loaded no word of a connection yet, if it is one that takes samples back.
 abbrev pub HasNotLoaded : PublisherCall → Type 0
 HasNotLoaded publishing.Idle = Unit {0}
 HasNotLoaded (publishing.LoanReclaims at route pop) = pop ≡ Begun
@@ -57,14 +58,14 @@ HasNotLoaded (publishing.Pushing slot at route push delivery) = Unit {0}
 HasNotLoaded (publishing.Sent slot delivery) = Unit {0}
 HasNotLoaded (publishing.Dropping slot) = Unit {0}
 
--- a call that begins makes so many steps at most
+-- A call that begins makes at most `most` steps.
 pub record StartsWithin (sizes : TableSizes) (most : ℕ) (c : PublisherCall) : Type 0 where
   pub words : ℕ
   pub going : IsGoing sizes words c
   pub first : HasNotLoaded c
   pub few : steps_to_go (sizes.completion_cells + 1) sizes.connections words (λ place. 0) c ≤ most
 
--- a loan, a write or a send has so many steps at most
+-- The move begins a loan, a write or a send, which makes at most `most` steps.
 abbrev pub HasSteps : TableSizes → Move → ℕ → Type 0
 HasSteps sizes GoOn most = ⊥
 HasSteps sizes (Begin call.LoanUninit) most = loan_steps sizes ≤ most

@@ -15,7 +15,7 @@ use Rattle.iox_lanes_threads_rule.specs.declared.view.Port.{Port}
 use Rattle.iox_lanes_threads_ports.specs.Courses.{PublisherGoes}
 use Rattle.iox_lanes_threads_ports.specs.Courses.PublisherGoes.{stays, goes}
 
--- how many samples of the connection at a place a step takes back that changes so much
+-- How many samples a step that makes this change takes back at the connection of this place: one or none.
 abbrev pub back_at : ℕ → PublisherChange → ℕ
 back_at place change.Nothing = 0
 back_at place change.Lend = 0
@@ -26,35 +26,35 @@ back_at place (change.Put at slot) = 0
 back_at place (change.LeftOut at slot) = 0
 back_at place (change.DropLoan slot) = 0
 
--- how many steps these are
+-- The number of these steps.
 abbrev pub steps_in : {p : Port} {lane : PublisherLaneState} {q : Port} {now : PublisherLaneState} → PublisherGoes p lane q now → ℕ
 steps_in stays = 0
 steps_in (goes q now answer before told) = steps_in before + 1
 
--- how many samples they took back of the connection at a place
+-- How many samples these steps took back at the connection of a place.
 abbrev pub taken_in : {p : Port} {lane : PublisherLaneState} {q : Port} {now : PublisherLaneState} → PublisherGoes p lane q now → ℕ → ℕ
 taken_in stays = λ place. 0
 taken_in (goes q now answer before told) = λ place. taken_in before place + back_at place (publisher_change now.port.call answer)
 
--- at each connection four steps for each sample that its ring of samples given back has a cell for, four for one more, and two
--- that find none
+-- The most steps of taking samples back: at each connection four for each cell of its completion ring, four for one sample more, and two
+-- that find no further one.
 abbrev pub sweep_steps : TableSizes → ℕ
 sweep_steps sizes = sizes.connections * (4 * (sizes.completion_cells + 1) + 2)
 
--- the most steps of a loan: it takes back, and looks for a slot
+-- The most steps of a loan: it takes samples back, and then looks for a free slot.
 abbrev pub loan_steps : TableSizes → ℕ
 loan_steps sizes = sweep_steps sizes + 1
 
--- the most steps of a write: one for each word, and one that ends it
+-- The most steps of a write: one for each word, and one that ends it.
 abbrev pub write_steps : TableSizes → ℕ
 write_steps sizes = sizes.payload_words + 1
 
--- the most steps of a send: one for each word of header and user header, and one for the history; it takes back, makes at most
--- six at each connection, and ends
+-- The most steps of a send: one for each word of header and user header, one for the history, those of taking samples back, at most six at
+-- each connection, and one that ends it.
 abbrev pub send_steps : TableSizes → ℕ
 send_steps sizes = 3 + sizes.user_header_words + 1 + sweep_steps sizes + 6 * sizes.connections + 1
 
--- the steps of a publisher's call up to its last, and that one, which answers: at most so many in all
+-- A publisher makes the steps of its call, at most `most` in all with the last one, which gives this answer.
 pub record PublisherEnds (most : ℕ) (p : Port) (lane : PublisherLaneState) (q : Port) (now : PublisherLaneState) (answer : Answer) :
     Type 0 where
   pub last : PublisherLaneState
@@ -64,22 +64,22 @@ pub record PublisherEnds (most : ℕ) (p : Port) (lane : PublisherLaneState) (q 
   pub after : now ≡ publisher_after 0 last
   pub answers : publisher_answer last.fails last.port.call now.port.book.answer ≡ Some answer
 
--- no write position stood at 2^64 - 1 when a load got its answer; of other accesses nothing is asked
+-- If this access is a load, no write position was 2^64 - 1 when it was answered.
 abbrev pub IsLoadedEarly : (p : Port) (access : SharedAccess) (answer : ℕ) → ToldBy p access answer → Type 0
 IsLoadedEarly p (Load w) answer told = IsEarly (as_table p.service told.1.words)
 IsLoadedEarly p (Store w new) answer told = Unit {0}
 IsLoadedEarly p (Exchange w old new) answer told = Unit {0}
 IsLoadedEarly p Local answer told = Unit {0}
 
--- so it was at each load of these steps of a publisher
+-- No write position was 2^64 - 1 at any of these publisher's steps that loaded a word.
 abbrev pub AreLoadedEarly : {p : Port} {lane : PublisherLaneState} {q : Port} {now : PublisherLaneState} → PublisherGoes p lane q now
     → Type 0
 AreLoadedEarly stays = Unit {0}
 AreLoadedEarly (goes q now answer before told) =
     AreLoadedEarly before × IsLoadedEarly q (publisher_next now.port.call) answer told
 
--- So many steps of a publisher's call, without its last. That is so only where some write position stood at 2^64 - 1 when one of
--- them loaded a word, and one connection gave back more samples in this one call than its ring of samples given back has cells.
+-- A publisher made `most` steps of its call, and not the last one. This happens only where some write position was 2^64 - 1 when one of
+-- these steps loaded a word, and more samples came back at one connection in this one call than its completion ring has cells.
 pub record StaysInside (most : ℕ) (p : Port) (lane : PublisherLaneState) (q : Port) (now : PublisherLaneState) : Type 0 where
   pub goes : PublisherGoes p lane q now
   pub all : steps_in goes ≡ most
@@ -89,7 +89,8 @@ pub record StaysInside (most : ℕ) (p : Port) (lane : PublisherLaneState) (q : 
   pub more : p.service.sizes.completion_cells < taken_in goes place
   pub late : AreLoadedEarly goes → ⊥
 
--- the steps of a publisher's call: with an answer to its end, and else so many to somewhere inside it
+-- A publisher runs its call: with an answer, to its end, in at most `most` steps; without one, by `most` steps, and it is still inside the
+-- call.
 abbrev pub PublisherRuns : ℕ → Port → PublisherLaneState → Port → PublisherLaneState → Option Answer → Type 0
 PublisherRuns most p lane q now None = StaysInside most p lane q now
 PublisherRuns most p lane q now (Some answer) = PublisherEnds most p lane q now answer

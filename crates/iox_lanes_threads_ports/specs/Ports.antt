@@ -1,4 +1,4 @@
--- A port in threads: its lane, what it knows, and how the two fit.
+-- A port in threads: its lane, what it knows, and how the two fit together.
 use Rattle.std.specs.Prelude.{ℕ, ◌≡◌, ◌+◌, ◌<◌, ◌≤◌, List, length, slice_get, Some, true}
 use Rattle.std.specs.List.{All}
 use Rattle.iox_lanes_machine.specs.QueuesSteps.declared.access.Word.TheVariants.{Write, Read}
@@ -30,15 +30,15 @@ use Rattle.iox_lanes_threads_rule.specs.declared.service.SlotRange.{SlotRange}
 use Rattle.iox_lanes_threads_rule.specs.declared.view.Port.{Port}
 use Rattle.iox_lanes_threads_ports.specs.Ends.{LonePop, LonePush, PushKnows, PopKnows}
 
--- the publisher of a line
+-- The publisher of a line.
 abbrev pub sender_of : Line → Party
 sender_of line = Publisher line.publisher
 
--- the subscriber of a line
+-- The subscriber of a line.
 abbrev pub receiver_of : Line → Party
 receiver_of line = Subscriber line.subscriber
 
--- a connection that a port has is a line of its service, at the end that is its own
+-- A port's connection is a line of its service, and the port itself is this end of the line.
 pub record IsEnd (s : Service) (end : Line → Party) (name : Party) (route : Route) : Type 0 where
   pub line : Line
   pub found : slice_get s.lines route.connection ≡ Some line
@@ -46,24 +46,24 @@ pub record IsEnd (s : Service) (end : Line → Party) (name : Party) (route : Ro
   pub kind : route.kind ≡ line.kind
   pub room : 0 < route.limit
 
--- no connection stands twice in the list
+-- No connection is in the list twice.
 abbrev pub EachOnce : List Route → Type 0
 EachOnce routes = (i j : ℕ) (one other : Route) → slice_get routes i ≡ Some one → slice_get routes j ≡ Some other
     → one.connection ≡ other.connection → i ≡ j
 
--- a slot of the publisher's own
+-- The slot is one of the publisher's own.
 abbrev pub IsOwnSlot : BookState → ℕ → Type 0
 IsOwnSlot book slot = (book.first ≤ slot) × (slot < book.first + length book.loans)
 
--- the read position of the samples given back at a connection
+-- The word with the read position of a connection's completion ring.
 abbrev pub back_read : Route → SharedWord
 back_read route = Ring route.connection Completion Read
 
--- and their write position
+-- The word with the write position of a connection's completion ring.
 abbrev pub back_write : Route → SharedWord
 back_write route = Ring route.connection Completion Write
 
--- what a publisher knows at each stage of its calls
+-- What a publisher knows at each stage of its calls.
 abbrev pub PublisherKnows : Port → BookState → PublisherCall → Type 0
 PublisherKnows p book publishing.Idle = Unit {0}
 PublisherKnows p book (publishing.LoanReclaims place route pop) = LonePop p (back_read route) pop
@@ -77,7 +77,7 @@ PublisherKnows p book (publishing.Pushing slot place route push delivery) = IsOw
 PublisherKnows p book (publishing.Sent slot delivery) = Unit {0}
 PublisherKnows p book (publishing.Dropping slot) = Unit {0}
 
--- what a subscriber knows at each stage of its calls
+-- What a subscriber knows at each stage of its calls.
 abbrev pub SubscriberKnows : Port → SubscriberCall → Type 0
 SubscriberKnows p subscribing.Idle = Unit {0}
 SubscriberKnows p (subscribing.Receiving place route pop waits) = PopKnows p route pop
@@ -87,7 +87,7 @@ SubscriberKnows p (subscribing.WasRead slot) = Unit {0}
 SubscriberKnows p (subscribing.Releasing place route push) = LonePush p (back_write route) push
 SubscriberKnows p (subscribing.Released done) = Unit {0}
 
--- a publisher's lane stands where its port knows what the next step needs, and comes there from what its view has it be
+-- A publisher's lane is at a stage at which its port knows what the next step needs, and the party in its port's view comes to this lane.
 pub record PublisherStands (p : Port) (lane : PublisherLaneState) : Type 0 where
   pub place : ℕ
   pub range : SlotRange
@@ -102,7 +102,7 @@ pub record PublisherStands (p : Port) (lane : PublisherLaneState) : Type 0 where
   pub knows : PublisherKnows p lane.port.book lane.port.call
   pub comes : ComesToPublisher p.party lane
 
--- a subscriber's lane likewise
+-- A subscriber's lane is at a stage at which its port knows what the next step needs, and the party in its port's view comes to this lane.
 pub record SubscriberStands (p : Port) (lane : SubscriberLaneState) : Type 0 where
   pub wide : length p.known ≡ words_of p.service.sizes
   pub room : length lane.port.words ≡ slot_words p.service.sizes
@@ -111,8 +111,8 @@ pub record SubscriberStands (p : Port) (lane : SubscriberLaneState) : Type 0 whe
   pub knows : SubscriberKnows p lane.port.call
   pub comes : ComesToSubscriber p.party lane
 
--- a publisher's begin that fits keeps it standing so, and its next access is one that its port may make, after whose answer it
--- stands so again
+-- A publisher that stands (`PublisherStands`) still does after it begins a call that fits; its port may make its next access; and it stands
+-- again after the answer of that access.
 abbrev pub PublishersGoOn : Type 0
 PublishersGoOn = (p : Port) (lane : PublisherLaneState) → PublisherStands p lane
     → ((moment : ℕ) (call : Call) → publisher_fits lane (Begin call) ≡ true → PublisherStands p (publisher_begun moment call lane))
@@ -120,7 +120,8 @@ PublishersGoOn = (p : Port) (lane : PublisherLaneState) → PublisherStands p la
     × ((answer : ℕ) → ToldBy p (publisher_next lane.port.call) answer
     → PublisherStands (publisher_stepped p lane answer) (publisher_after answer lane))
 
--- a subscriber's likewise
+-- A subscriber that stands (`SubscriberStands`) still does after it begins a call that fits; its port may make its next access; and it
+-- stands again after the answer of that access.
 abbrev pub SubscribersGoOn : Type 0
 SubscribersGoOn = (p : Port) (lane : SubscriberLaneState) → SubscriberStands p lane
     → ((moment : ℕ) (call : Call) → subscriber_fits lane (Begin call) ≡ true → SubscriberStands p (subscriber_begun moment call lane))

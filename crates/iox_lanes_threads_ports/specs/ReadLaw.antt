@@ -1,4 +1,4 @@
--- What a read lent of a sample that its subscriber has still.
+-- What a read lent of a sample that its subscriber still holds.
 use Rattle.std.specs.Prelude.{ℕ, ◌≡◌, ◌+◌, ◌<◌, true, List, length, slice_get, slice_index, Some}
 use mathlib.Core.Option.{some}
 use lib.ListN.{get_elem?}
@@ -17,8 +17,8 @@ use Rattle.iox_lanes_threads_rule.specs.declared.view.Port.{Port}
 use Rattle.iox_lanes_threads_rule.specs.declared.view.PortParty.{PortParty}
 use Rattle.iox_lanes_threads_ports.specs.Known.{KnowsRead, ListsRead}
 
--- While a port's view lists all words of a slot, and knows them to be these, each of these is what the slot's word holds, and what
--- the port that stores it knows; as long as no write position stands at 2^64 - 1.
+-- If a port's view lists all words of a slot, with these values, then each value is what the slot's word holds, and what the port that
+-- stores this word knows of it, as long as no write position is 2^64 - 1.
 abbrev pub ReadsStand : Type 0
 ReadsStand = (s : Service) (words : List ℕ) (ports : List Port) (at number : ℕ) (q p : Port) (extent : SlotExtent) (slot : ℕ)
     (lent : List ℕ)
@@ -30,7 +30,7 @@ ReadsStand = (s : Service) (words : List ℕ) (ports : List Port) (at number : �
     × (get_elem? ports number ≡ some p → Stores s p.name (Slot slot (word_at extent k))
     → held s p.known (Slot slot (word_at extent k)) ≡ slice_index lent k)
 
--- A word that a port's view lists as loaded is listed behind an access too, where it is one of a sample that the port has then.
+-- A word that a port's view lists as loaded is still listed after an access, if it is a word of a sample that the port holds then.
 abbrev pub ListedWordsStay : Type 0
 ListedWordsStay = (p : Port) (access : SharedAccess) (answer place : ℕ) (after : ℕ → PortParty) (w : SharedWord)
     → slice_get p.seen place ≡ Some w → is_of_sample (after answer) w ≡ true

@@ -1,4 +1,5 @@
--- Until a pop or a push of a call asks for no more words, or moves a position, an answer takes the call from one of its stages to the next.
+-- How a call goes from one stage of its pop or push to the next with each answer, as long as that pop or push asks for more words and moves
+-- no position.
 use Rattle.std.proofs.Common.{ℕ, ◌≡◌, Bool, None, refl, ap, subst, sym, ◌∙◌}
 use Rattle.iox_lanes_machine.specs.QueuesSteps.Ends.{pop_next, pop_take, push_next, push_take}
 use Rattle.iox_lanes_machine.specs.QueuesSteps.Overflowing as overflowing
@@ -31,37 +32,37 @@ use Rattle.iox_lanes_machine.specs.LanesBase.declared.words.word.ConnectionRing.
 use Rattle.iox_lanes_threads_ports.specs.declared.ring_calls.RouteRing.{RouteRing}
 use Rattle.iox_lanes_threads_ports.specs.Strides.{called, subscriber_called, AsksWord, KeepsPositions}
 
--- the ring of a connection that its messages go through
+-- The submission ring of a connection, which its messages go through.
 abbrev pub submission_ring : Route → RouteRing
 submission_ring route = record { connection = route.connection; ring = own_ring.Submission; cells = route.submission_cells }
 
--- the ring that they come back through
+-- The completion ring of a connection, which its samples come back through.
 abbrev pub completion_ring : Route → RouteRing
 completion_ring route = record { connection = route.connection; ring = own_ring.Completion; cells = route.completion_cells }
 
--- Calls of one kind are calls of either kind: they ask for the same accesses, and take answers alike.
+-- The calls of one kind of ring are calls on either kind (`whole`): they ask for the same accesses, and take answers alike.
 pub record AreAlike {S E : Type 0} (whole : S → E) (asks : S → Access) (takes : S → ℕ → S) (asks_as : E → Access) (takes_as : E → ℕ → E)
     : Type 0 where
   pub asks_alike : (s : S) → asks_as (whole s) ≡ asks s
   pub takes_alike : (s : S) (answer : ℕ) → takes_as (whole s) answer ≡ whole (takes s answer)
 
--- so are pushes on a ring that refuses
+-- Pushes on a refusing ring are pushes on a ring of either kind.
 pub refusing_pushes : AreAlike (λ s. push.Refusing s) refusing.push_next refusing.push_take push_next push_take
 refusing_pushes = record { asks_alike = λ s. refl; takes_alike = λ s answer. refl }
 
--- pushes on one that overflows
+-- Pushes on an overflowing ring are pushes on a ring of either kind.
 pub overflowing_pushes : AreAlike (λ s. push.Overflowing s) overflowing.push_next overflowing.push_take push_next push_take
 overflowing_pushes = record { asks_alike = λ s. refl; takes_alike = λ s answer. refl }
 
--- pops on a ring that refuses
+-- Pops on a refusing ring are pops on a ring of either kind.
 pub refusing_pops : AreAlike (λ s. pop.Refusing s) refusing.pop_next refusing.pop_take pop_next pop_take
 refusing_pops = record { asks_alike = λ s. refl; takes_alike = λ s answer. refl }
 
--- and pops on one that overflows
+-- Pops on an overflowing ring are pops on a ring of either kind.
 pub overflowing_pops : AreAlike (λ s. pop.Overflowing s) overflowing.pop_next overflowing.pop_take pop_next pop_take
 overflowing_pops = record { asks_alike = λ s. refl; takes_alike = λ s answer. refl }
 
--- what asks for a word has no answer yet
+-- A pop on a refusing ring that asks for a word has no answer yet.
 refusing_pop_unanswered : (s : refusing_pop_type.Pop) → AsksWord (refusing.pop_next s) → refusing_pop_answer s ≡ None
 refusing_pop_unanswered refusing_pop.Idle a = refl
 refusing_pop_unanswered refusing_pop.Begun a = refl
@@ -104,7 +105,7 @@ push_unanswered (push.Overflowing (overflowing_push.SawOldest value read next ol
 push_unanswered (push.Overflowing (overflowing_push.Pushed value answer)) a = absurd a
 push_unanswered (push.Refusing s) a = refusing_push_unanswered s a
 
--- what moves no position puts nothing
+-- A push whose next access moves no position puts nothing.
 puts_nothing : (place : ℕ) (s : Push) (answer : ℕ) → KeepsPositions (push_next s) → push_change place s answer ≡ publisher_change.Nothing
 puts_nothing place (push.Refusing refusing_push.Idle) answer k = refl
 puts_nothing place (push.Refusing (refusing_push.Begun limit value)) answer k = refl
@@ -130,7 +131,7 @@ gives_nothing_back place (refusing_push.SawRoom value write next) k = refl
 gives_nothing_back place (refusing_push.Filled value next) k = absurd k
 gives_nothing_back place (refusing_push.Pushed value answer) k = refl
 
--- a loan that takes back
+-- A loan that takes back goes to the next stage of its pop.
 pub loan_goes_on : (lane : PublisherLaneState) (place : ℕ) (route : Route) (s : refusing_pop_type.Pop) (answer : ℕ)
     → AsksWord (refusing.pop_next (refusing.pop_take s answer))
     → publisher_after answer (called (publishing.LoanReclaims place route s) lane)
@@ -144,7 +145,7 @@ loan_goes_on lane place route s answer a =
       };
     }
 
--- a send that takes back
+-- A send that takes back goes to the next stage of its pop.
 pub sweep_goes_on : (lane : PublisherLaneState) (slot place : ℕ) (route : Route) (s : refusing_pop_type.Pop) (answer : ℕ)
     → AsksWord (refusing.pop_next (refusing.pop_take s answer))
     → publisher_after answer (called (publishing.SendReclaims slot place route s) lane)
@@ -158,7 +159,7 @@ sweep_goes_on lane slot place route s answer a =
       };
     }
 
--- a send that pushes
+-- A send that pushes goes to the next stage of its push.
 pub push_goes_on : {S : Type 0} {whole : S → Push} {asks : S → Access} {takes : S → ℕ → S}
     → AreAlike whole asks takes push_next push_take
     → (lane : PublisherLaneState) (slot place : ℕ) (route : Route) (delivery : Delivery) (s : S) (answer : ℕ) → KeepsPositions (asks s)
@@ -177,7 +178,7 @@ push_goes_on {whole = whole} {takes = takes} alike lane slot place route deliver
       };
     }
 
--- a receive that pops
+-- A receive that pops goes to the next stage of its pop.
 pub pop_goes_on : {S : Type 0} {whole : S → Pop} {asks : S → Access} {takes : S → ℕ → S}
     → AreAlike whole asks takes pop_next pop_take
     → (lane : SubscriberLaneState) (place : ℕ) (route : Route) (waits : Bool) (s : S) (answer : ℕ) → AsksWord (asks (takes s answer))
@@ -195,7 +196,7 @@ pop_goes_on {whole = whole} {takes = takes} alike lane place route waits s answe
           });
     }
 
--- a release that pushes
+-- A release that pushes goes to the next stage of its push.
 pub release_goes_on : (lane : SubscriberLaneState) (place : ℕ) (route : Route) (s : refusing_push_type.Push) (answer : ℕ)
     → KeepsPositions (refusing.push_next s) → AsksWord (refusing.push_next (refusing.push_take s answer))
     → subscriber_after answer (subscriber_called (subscribing.Releasing place route s) lane)

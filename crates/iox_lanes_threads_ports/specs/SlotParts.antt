@@ -8,17 +8,17 @@ use Rattle.iox_lanes_machine.specs.LanesBase.declared.words.word.SlotWord.TheVar
 use Rattle.iox_lanes_threads_ports.specs.declared.strides.SlotPart.{SlotPart}
 use Rattle.iox_lanes_threads_ports.specs.declared.strides.SlotPart.TheVariants.{Payload, Head}
 
--- a call that stores this word of a part next
+-- The stage at which a call stores this value next, in this word of a part of the slot.
 abbrev pub storing : SlotPart → ℕ → ℕ → ℕ → PublisherCall
 storing Payload slot word value = Writing slot word value
 storing Head slot word value = Heading slot word value
 
--- a call that stores the words of a part, at one of them
+-- The stage at which a call that stores these words in a part of the slot is at word `word`.
 abbrev pub storing_at : SlotPart → List ℕ → ℕ → ℕ → PublisherCall
 storing_at Payload words slot word = write_at words slot word
 storing_at Head words slot word = head_at words slot word
 
--- a word of a part
+-- The word of the slot that is this word of the part.
 abbrev pub part_word : SlotPart → ℕ → SlotWord
 part_word Payload word = own.Payload word
 part_word Head word = header_word word

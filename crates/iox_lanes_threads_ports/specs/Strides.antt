@@ -1,4 +1,4 @@
--- Several steps of a port, which its lane makes up for at once.
+-- Several steps of a port at once, which its lane records after the last of them.
 use Rattle.std.specs.Prelude.{ℕ, ◌≡◌, ◌+◌, ◌<◌, Bool, false}
 use Rattle.atomic_table.specs.Seated.{TableId}
 use Rattle.atomic_table.specs.Table.{Me}
@@ -22,11 +22,12 @@ use Rattle.iox_lanes_threads_rule.specs.declared.view.View.{View}
 use Rattle.iox_lanes_threads_ports.specs.Courses.{publisher_stepped, publisher_party, subscriber_party, SubscriberGoes}
 use Rattle.iox_lanes_threads_ports.specs.Ports.{PublisherStands, SubscriberStands}
 
--- a publisher whose call stands there
+-- The publisher's lane with its call set to this stage.
 abbrev pub called : PublisherCall → PublisherLaneState → PublisherLaneState
 called call lane = record lane { port = record lane.port { call = call } }
 
--- so many steps of a publisher, one after the other, and not the last of its call: each makes the access that its call names next
+-- A publisher goes from one state to another by so many steps, none of which is the last one of a call: each makes the access that its call
+-- names next, and goes on with the answer.
 pub data PublisherStrides (p : Port) (lane : PublisherLaneState) : ℕ → Port → PublisherLaneState → Type 0 where
   stays : PublisherStrides p lane 0 p lane
   goes : (made : ℕ) (q : Port) (now : PublisherLaneState) (answer : ℕ) → PublisherStrides p lane made q now
@@ -34,8 +35,8 @@ pub data PublisherStrides (p : Port) (lane : PublisherLaneState) : ℕ → Port 
       → ToldBy q (publisher_next now.port.call) answer
       → PublisherStrides p lane (made + 1) (publisher_stepped q now answer) (publisher_after answer now)
 
--- a port with a seat of its own whose lane made steps: it stands where the port knows what its next step needs, and `Went` says how
--- it came there
+-- A port that is alone on its seat, and whose lane made steps: the port knows what the lane's next step needs (`Stands`), and `Went` says
+-- by which steps the lane came there.
 pub record Strode {L : Type 0} (Stands : Port → L → Type 0) (Went : Port → L → Type 0) (p : Port) (me : Me ℕ View) (now : L) : Type 0 where
   pub alone : me ≡ single (port_of me)
   pub service : (port_of me).service ≡ p.service
@@ -43,32 +44,32 @@ pub record Strode {L : Type 0} (Stands : Port → L → Type 0) (Went : Port →
   pub stands : Stands (port_of me) now
   pub strides : Went (port_of me) now
 
--- a publisher that made so many steps
+-- A publisher, alone on its seat, that made `made` steps.
 abbrev pub PublisherStrode : Port → PublisherLaneState → ℕ → Me ℕ View → PublisherLaneState → Type 0
 PublisherStrode p lane made me now = Strode PublisherStands (PublisherStrides p lane made) p me now
 
--- a subscriber whose call stands there
+-- The subscriber's lane with its call set to this stage.
 abbrev pub subscriber_called : SubscriberCall → SubscriberLaneState → SubscriberLaneState
 subscriber_called call lane = record lane { port = record lane.port { call = call } }
 
--- the steps of a subscriber, which are not counted
+-- A subscriber goes from one state to another by steps; their number isn't used.
 abbrev pub SubscriberStrides : Port → SubscriberLaneState → ℕ → Port → SubscriberLaneState → Type 0
 SubscriberStrides p lane made q now = SubscriberGoes p lane q now
 
--- a subscriber that made some steps
+-- A subscriber, alone on its seat, that made some steps.
 abbrev pub SubscriberStrode : Port → SubscriberLaneState → Me ℕ View → SubscriberLaneState → Type 0
 SubscriberStrode p lane me now = Strode SubscriberStands (SubscriberGoes p lane) p me now
 
--- the access is one to a shared word
+-- The access is one to a shared word.
 abbrev pub TouchesWord : SharedAccess → Type 0
 TouchesWord (Load w) = Unit {0}
 TouchesWord (Store w new) = Unit {0}
 TouchesWord (Exchange w old new) = Unit {0}
 TouchesWord Local = ⊥
 
--- What the lanes of a kind do with their calls: `standing` is where the call of a lane stands, `called` a lane whose call stands there,
--- `next` the access that comes next there, `after` a lane after an answer, and `party` what its port is then. A lane `Stands` where its
--- port knows what its next step needs, and `Strides` so many steps.
+-- What the lanes of a kind do with their calls: `standing` is the stage of a lane's call, `called` the lane with its call set to a stage,
+-- `next` the access that comes next at a stage, `after` the lane after an answer, and `party` what its port is after that answer. A lane
+-- `Stands` where its port knows what its next step needs, and `Strides` says that it goes on by so many steps.
 pub record LaneKind (L C : Type 0) : Type 1 where
   pub standing : L → C
   pub called : C → L → L
@@ -78,7 +79,7 @@ pub record LaneKind (L C : Type 0) : Type 1 where
   pub Stands : Port → L → Type 0
   pub Strides : Port → L → ℕ → Port → L → Type 0
 
--- publishers
+-- The kind of the publishers' lanes.
 abbrev pub publishers : LaneKind PublisherLaneState PublisherCall
 publishers = record {
   standing = λ lane. lane.port.call;
@@ -90,7 +91,7 @@ publishers = record {
   Strides = PublisherStrides;
 }
 
--- subscribers
+-- The kind of the subscribers' lanes.
 abbrev pub subscribers : LaneKind SubscriberLaneState SubscriberCall
 subscribers = record {
   standing = λ lane. lane.port.call;
@@ -102,17 +103,17 @@ subscribers = record {
   Strides = SubscriberStrides;
 }
 
--- a lane of a kind with a seat of its own that made so many steps
+-- A lane of a kind, alone on its seat, that made `made` steps.
 abbrev pub StrodeBy : {L C : Type 0} → LaneKind L C → Port → L → ℕ → Me ℕ View → L → Type 0
 StrodeBy kind p lane made me now = Strode kind.Stands (kind.Strides p lane made) p me now
 
--- a port goes from one lane to another by so many steps: whatever steps it made before, it made so many more
+-- A port goes from one lane to another by `more` steps: whatever steps it made before, it made `more` steps more after.
 abbrev pub StridesOn : {L C : Type 0} → LaneKind L C → ℕ → Me ℕ View → L → Me ℕ View → L → Type 0
 StridesOn {L = L} kind more me lane me' next = (p : Port) (begun : L) (made : ℕ) → StrodeBy kind p begun made me lane
     → StrodeBy kind p begun (made + more) me' next
 
--- A port may make the next access of a lane of a kind, on a ring of so many cells. Its table, `seat`, has these words and sizes, which its
--- service has too; the seat is its own; where the lane stands the port knows what its next step needs; and the ring has cells.
+-- A port may make the next access of a lane of a kind, on a ring with `count` cells: its seat is one of this table, which has the words of
+-- these sizes, as its service has; the port is alone on its seat, and knows what the lane's next step needs; and the ring has cells.
 pub record MayStride {L C : Type 0} (kind : LaneKind L C) (words seat : TableId) (me : Me ℕ View) (sizes : TableSizes) (lane : L)
     (count : ℕ) : Type 0 where
   pub table : (seat ≡ words) × (words.words ≡ words_of sizes) × IsSmall sizes
@@ -120,8 +121,8 @@ pub record MayStride {L C : Type 0} (kind : LaneKind L C) (words seat : TableId)
   pub stands : kind.Stands (port_of me) lane
   pub cells : 0 < count
 
--- Accesses may be made ahead of lanes of a kind. Where a lane stands its port may make the access that comes next, and makes it next.
--- Behind no step it made none, and behind one more on a shared word, after its answer, it stands again and made one step more.
+-- Lanes of a kind may be set to where their port's accesses lead. Where a lane stands, its port may make the access that comes next. By no
+-- steps a lane stays as it is, and by one access more to a shared word, after its answer, it stands again and has made one step more.
 pub record GoesAhead (L C : Type 0) (kind : LaneKind L C) : Type 0 where
   pub itself : (lane : L) → lane ≡ kind.called (kind.standing lane) lane
   pub may : (p : Port) (call : C) (lane : L) → kind.Stands p (kind.called call lane) → MayAct p (kind.next call)
@@ -135,7 +136,7 @@ pub record GoesAhead (L C : Type 0) (kind : LaneKind L C) : Type 0 where
       × kind.Strides p begun (made + 1) (stepped q (kind.next call) answer (kind.party (kind.called call lane)))
       (kind.after answer (kind.called call lane))
 
--- the access of a ring's end moves no position
+-- The access of a ring's end moves no position.
 abbrev pub KeepsPositions : Access → Type 0
 KeepsPositions (own.Load word) = Unit {0}
 KeepsPositions (own.Store Write value) = ⊥
@@ -144,21 +145,21 @@ KeepsPositions (own.Store (Cell position) value) = Unit {0}
 KeepsPositions (own.Exchange word old new) = ⊥
 KeepsPositions own.Local = Unit {0}
 
--- the access of a ring's end is one to a word
+-- The access of a ring's end is one to a word.
 abbrev pub AsksWord : Access → Type 0
 AsksWord (own.Load word) = Unit {0}
 AsksWord (own.Store word value) = Unit {0}
 AsksWord (own.Exchange word old new) = Unit {0}
 AsksWord own.Local = ⊥
 
--- a pop or a push makes two accesses to words from a stage on, and the first moves no position
+-- A pop or a push makes two accesses to words from this stage on, and the first of them moves no position.
 pub record MakesTwo {S : Type 0} (asks : S → Access) (takes : S → ℕ → S) (stage : S) : Type 0 where
   pub first : AsksWord (asks stage)
   pub keeps : KeepsPositions (asks stage)
   pub second : (answer : ℕ) → AsksWord (asks (takes stage answer))
 
--- A pop or a push makes two accesses to words from a stage on, and two more unless it is over then. Of the first three none moves a
--- position where it makes four.
+-- A pop or a push makes two accesses to words from this stage on, and two more unless it is over then. Where it makes four, none of the
+-- first three moves a position.
 pub record RunsAhead {S : Type 0} (asks : S → Access) (takes : S → ℕ → S) (over : S → Bool) (begun : S) : Type 0 where
   pub two : MakesTwo asks takes begun
   pub keeps : (a b : ℕ) → over (takes (takes begun a) b) ≡ false → KeepsPositions (asks (takes begun a))

@@ -1,4 +1,4 @@
-//! Accesses of a port ahead of its lane, which makes up for them at once.
+//! Accesses that a port makes before its lane records them: the lane catches up at once, after the last of them.
 ghost use Rattle.std.specs.Prelude.{◌≡◌};
 ghost use Rattle.iox_lanes_machine.specs.LanesBase.Numbers.{words_of, IsSmall};
 ghost use Rattle.iox_lanes_threads_rule.specs.Acts.{single, port_of, stepped, ToldBy};
@@ -10,19 +10,19 @@ use iox_lanes_parties::{PublisherLane, SubscriberLane};
 use iox_lanes_threads_rule::{Doing, Opening, WordSeat, Words, act};
 use std::marker::Brand;
 
-/// A lane that makes up at once for accesses that were made ahead of it.
+/// A lane that catches up at once with accesses that its port made before it.
 pub(crate) trait Ahead: Sized {
-    /// Where its call stands.
+    /// The stage of its call.
     type Call: Copy;
 
-    // what it does with its calls
+    // what the lane does with its calls
     ghost kind: { LaneKind Self Self.Call };
 
-    /// Goes on as from where a call stands, after the answer of the access that comes next there.
+    /// Sets the lane to the stage `call`, and lets it go on with `given`, the answer of the access that comes next at that stage.
     fn go_on_from(&mut self, call: Self::Call, given: u64)
         ensures { self.new ≡ kind.after given (kind.called call self.old) };
 
-    /// Accesses may be made ahead of it: proved of the definitions that contracts name.
+    /// Theorem: a port may make accesses before its lane records them, in the terms of the definitions that contracts cite.
     fn goes_ahead()
         ensures { GoesAhead Self Self.Call kind };
 }
@@ -75,7 +75,7 @@ fn access_as<K: Opening, M: Doing, L: Ahead>(
     act::<K, M>(words, seat, sizes, access)
 }
 
-/// Makes the access that a call makes next where it stands, and gives its answer; stores and local steps are answered 0.
+/// Makes the access that comes next at the stage `call`, and returns its answer: 0 for stores and local steps.
 #[inline(always)]
 pub(crate) fn access_ahead<K: Opening, L: Ahead>(
     words: &Words<K>,

@@ -1,12 +1,12 @@
-//! Publishers and subscribers in threads: each access to the words that they share is a step of their lanes.
+//! Publishers and subscribers in threads: each access to the words that they share is a step of a lane.
 //!
 //! - `publishing`: the steps of a publisher's call.
 //! - `subscribing`: the steps of a subscriber's call.
 //! - [`publisher`]: a publisher.
 //! - [`subscriber`]: a subscriber.
-//! - [`laws`]: the stages of their calls know what each step needs.
+//! - [`laws`]: theorems, mainly that at each stage of a call the port knows what its next step needs.
 //!
-//! First calls, of a publisher and of a subscriber over one table `words`. `open_threads` of `iox_lanes_threads` makes both from lanes.
+//! First calls, of a publisher and a subscriber over one table `words`. `open_threads` of `iox_lanes_threads` makes both from lanes.
 //!
 //! ```
 //! let loan = publisher.loan_uninit(&words);

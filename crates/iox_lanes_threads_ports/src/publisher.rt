@@ -1,4 +1,4 @@
-//! A publisher that steps in threads.
+//! A publisher whose calls make their steps on words that threads share.
 ghost use Rattle.std.specs.Prelude.{◌≡◌, true, false, length, is_some, IfOk, IfSome};
 ghost use Rattle.iox_lanes_machine.specs.LanesBase.Numbers.{IsSmall};
 ghost use Rattle.std.specs.List.{All};
@@ -20,16 +20,16 @@ use iox_queues_base::Words as WordValues;
 use std::alloc::{AllocError, Global};
 use std::marker::Model;
 
-/// A publisher that steps in threads.
+/// A publisher whose calls make their steps on words that threads share.
 pub struct ThreadedPublisher {
     seat: WordSeat,
     sizes: TableSizes,
     lane: PublisherLane,
-    // The write that it is asked for next: its room was taken when the port was made.
+    // The write that the lane begins next. Its memory was allocated when the port was made.
     asked: Move,
 }
 
-/// Said here once, so that no crate above proves it anew.
+/// Writes the drop out once, so that no crate above proves it anew.
 impl Drop for ThreadedPublisher {
     fn drop(self) {
         let ThreadedPublisher {
@@ -54,7 +54,7 @@ impl Model for ThreadedPublisher {
         × HasRoom t.sizes t.asked };
 }
 
-/// Room for a write. It fails only where an allocation fails.
+/// Memory for the words of a write, for slots of the table's sizes. `AllocError` is returned only where an allocation fails.
 pub fn write_room(alloc: Global, sizes: &TableSizes) -> Result<Move, AllocError>
     ensures { IfOk result (λ room. HasRoom sizes.now room) }
 {
@@ -65,7 +65,7 @@ pub fn write_room(alloc: Global, sizes: &TableSizes) -> Result<Move, AllocError>
     }))
 }
 
-// Puts what is to be written into the write that a publisher is asked for, if it has as many words as there is room for.
+// Copies slot, payload and user header into the write that the lane begins next, if they have as many words as it has room for.
 fn fill(asked: &mut Move, loan: u64, words: &[u64], header: &[u64]) -> bool
     ensures fills { result ≡ true → Asks loan words.now header.now asked.new }
     ensures refuses { (sizes : TableSizes) → HasRoom sizes asked.old → HasRoom sizes asked.new
@@ -100,7 +100,7 @@ fn fill_call(asked: &mut Call, loan: u64, words: &[u64], header: &[u64]) -> bool
     }
 }
 
-// Puts the words of a value and of a user header there, if they are as many as there is room for.
+// Copies the words of a value and of a user header into that write, if they are as many as it has room for.
 fn fill_values<T: WordValues, U: WordValues>(
     asked: &mut Move,
     loan: u64,
@@ -136,7 +136,7 @@ fn sent(answer: Option<Answer>) -> Option<SendAnswer>
     }
 }
 
-// How many steps a publisher makes at most to take back what came back.
+// The most steps in which a publisher takes back the samples that came back at all its connections.
 fn sweep_steps(sizes: &TableSizes) -> u128
     requires { IsSmall sizes.now }
     ensures { result ≡ sweep_steps sizes.now }
@@ -167,7 +167,7 @@ fn send_steps(sizes: &TableSizes) -> u128
     3 + sizes.user_header_words as u128 + 1 + sweep_steps(sizes) + 6 * sizes.connections as u128 + 1
 }
 
-// Begins what a publisher is asked for.
+// Begins the call that the publisher is asked for.
 fn begin(lane: &mut PublisherLane, step: &Move)
     requires fits { publisher_fits lane.old step.now ≡ true }
     requires heads { length lane.old.heads ≡ length lane.old.port.book.loans }
@@ -179,7 +179,7 @@ fn begin(lane: &mut PublisherLane, step: &Move)
     }
 }
 
-// Does what a publisher is asked for, in at most so many steps.
+// Makes the call that the publisher is asked for, in at most `most` steps.
 fn does<K: Opening>(
     words: &Words<K>,
     seat: &mut WordSeat,
@@ -207,7 +207,7 @@ fn does<K: Opening>(
 }
 
 impl ThreadedPublisher {
-    /// A publisher with a seat of its own.
+    /// A publisher that makes the calls of `lane` on the words of `seat`. `asked` is what `write_room` returned for these sizes.
     pub fn new(
         seat: WordSeat,
         sizes: TableSizes,
@@ -227,10 +227,10 @@ impl ThreadedPublisher {
         }
     }
 
-    /// Asks for a slot to be written, in at most as many steps as its connections need to give back all that they have room for,
-    /// and one more sample each. It answers, unless the port stands inside a call. That is so as long as no write position stands
-    /// at 2^64 - 1 when it loads a word: a call that doesn't answer stays inside, with more samples taken back at one connection
-    /// than its ring of samples given back has cells.
+    /// Loans a slot, in at most `loan_steps` steps: as many as its connections need to give back all the samples that they have cells for,
+    /// and one sample more each. The answer is None if the port is inside a call; then nothing is done. It is None, too, if the loan isn't
+    /// over after that many steps. This happens only where a write position was 2^64 - 1 when the call loaded a word, and more samples came
+    /// back at one connection than its completion ring has cells. The port stays inside that call.
     pub fn loan_uninit<K: Opening>(&mut self, words: &Words<K>) -> Option<LoanAnswer>
         requires { self.old.table ≡ words.now.table_id }
         ensures same { SamePublisher self.old self.new }
@@ -249,9 +249,9 @@ impl ThreadedPublisher {
         lent(answer)
     }
 
-    /// Writes the words of a payload into the slot of a loan, and keeps those of a user header for its send. False where the slot
-    /// is no loan of this port, the words are not as many as a payload and a user header have, or the port stands inside a call;
-    /// then nothing is done.
+    /// Writes the words of a payload into the slot of a loan, and keeps the words of a user header for its send. Returns false if the slot
+    /// isn't a loan of this port, the words aren't as many as a payload and a user header have, or the port is inside a call; then nothing
+    /// is done.
     pub fn write<K: Opening>(
         &mut self,
         words: &Words<K>,
@@ -280,7 +280,7 @@ impl ThreadedPublisher {
         answer.is_some()
     }
 
-    /// Writes a value into the slot of a loan, and keeps a user header for its send: as `write` of their words.
+    /// Writes a value into the slot of a loan, and keeps a user header for its send: does what `write` does with the words of both.
     pub fn write_values<K: Opening, T: WordValues, U: WordValues>(
         &mut self,
         words: &Words<K>,
@@ -310,8 +310,9 @@ impl ThreadedPublisher {
         answer.is_some()
     }
 
-    /// Sends a loan that is written, and tells how many connections took it. It is `UnableToDeliver` just where the publisher
-    /// fails at a full mailbox and one refused. It answers, unless the slot is no such loan of this port, or as a loan.
+    /// Sends a loan that is written, and returns how many connections took it. The answer is `UnableToDeliver` exactly where the publisher
+    /// fails at a full mailbox and a connection refused the message. It is None if the slot isn't a written loan of this port, and where a
+    /// loan's answer would be None.
     pub fn send<K: Opening>(&mut self, words: &Words<K>, loan: u64) -> Option<SendAnswer>
         requires { self.old.table ≡ words.now.table_id }
         ensures same { SamePublisher self.old self.new }
@@ -334,14 +335,15 @@ impl ThreadedPublisher {
         sent(answer)
     }
 
-    /// The number that it gave last, or the one before the first; None where messages have no numbers.
+    /// The sequence number of the last message that it sent, or the number before the first one. None where messages have no sequence
+    /// numbers.
     pub fn last_sequence(&self) -> Option<u64>
         ensures { result ≡ self.now.lane.last }
     {
         self.lane.last_sequence()
     }
 
-    /// The seat and the lane.
+    /// Takes the port apart into its seat and its lane.
     pub fn into_parts(self) -> (WordSeat, PublisherLane)
         ensures { (result.0.table_id ≡ self.table) × (result.0.me ≡ single self.port) × (result.1 ≡ self.lane) }
     {

@@ -1,4 +1,4 @@
-//! Calls of ports inside a pop or a push on a ring, by the stages of that.
+//! The calls of ports that are inside a pop or a push on a ring, by the stages of that pop or push.
 ghost use Rattle.std.specs.Prelude.{◌≡◌, ◌<◌, ℕ};
 ghost use Rattle.iox_lanes_machine.specs.LanesBase.Words.{in_ring, on_ring};
 ghost use Rattle.iox_lanes_machine.specs.LanesBase.declared.words.word.ConnectionRing.TheVariants as own_ring;
@@ -54,7 +54,7 @@ impl RouteRing {
         }
     }
 
-    /// An access to the ring, as one to its connection.
+    /// An access to the ring as one to the shared words of its connection.
     #[inline(always)]
     pub(crate) fn access(self, access: Access) -> SharedAccess
         requires { 0 < self.cells }
@@ -68,7 +68,7 @@ impl RouteRing {
         }
     }
 
-    // A word of the ring, as a word of its connection: positions go round its cells.
+    // A word of the ring as a shared word of its connection; positions go round its cells.
     #[inline(always)]
     fn word(self, word: Word) -> SharedWord
         requires { 0 < self.cells }
@@ -96,7 +96,7 @@ pub(crate) trait IntoPush: End {
     fn push(self) -> Push
         ensures { result ≡ push self };
 
-    // they make the same steps
+    // both make the same steps
     ghost alike: { AreAlike push Self.asks Self.takes push_next push_take };
 }
 
@@ -131,7 +131,7 @@ pub(crate) trait IntoPop: End {
     fn pop(self) -> Pop
         ensures { result ≡ pop self };
 
-    // they make the same steps
+    // both make the same steps
     ghost alike: { AreAlike pop Self.asks Self.takes pop_next pop_take };
 }
 
@@ -159,17 +159,17 @@ impl IntoPop for OverflowingPop {
 
 /// A call of a lane inside a pop or a push on a ring.
 pub(crate) trait RingCall<L: Ahead, S: End>: Copy {
-    // where the call stands at this stage of the pop or push
+    // the stage of the call at this stage of the pop or push
     ghost stage: { Self → S → L.Call };
 
     // the ring
     ghost ring: { Self → RouteRing };
 
-    /// Where the call stands at this stage of the pop or push.
+    /// The stage of the call at this stage of the pop or push.
     fn stage(self, state: S) -> L::Call
         ensures { result ≡ stage self state };
 
-    /// The ring.
+    /// The ring on which the call pops or pushes.
     fn ring(self) -> RouteRing
         ensures { result ≡ ring self };
 

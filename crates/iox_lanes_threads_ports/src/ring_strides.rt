@@ -1,4 +1,4 @@
-//! A port's pops and pushes on its rings, each at once: its lane makes up for one behind its last access.
+//! Several accesses of a port's pop or push on a ring at once: its lane catches up after the last of them.
 ghost use Rattle.std.specs.Prelude.{◌≡◌, ◌<◌, ◌≤◌, ℕ};
 ghost use Rattle.iox_lanes_threads_rule.specs.Acts.{port_of};
 ghost use Rattle.iox_lanes_threads_ports.specs.Strides.{AsksWord, MakesTwo, MayStride, RunsAhead, StridesOn, StrodeBy};
@@ -9,7 +9,7 @@ use iox_lanes_base::words::TableSizes;
 use iox_lanes_threads_rule::{Opening, WordSeat, Words};
 use iox_queues_steps::End;
 
-// Makes the access that a pop or a push makes next at a stage, and gives its answer.
+// Makes the access that a pop or a push makes next at this stage, and returns its answer.
 #[inline(always)]
 fn access_at<K: Opening, L: Ahead, S: End, C: RingCall<L, S>>(
     words: &Words<K>,
@@ -30,7 +30,7 @@ fn access_at<K: Opening, L: Ahead, S: End, C: RingCall<L, S>>(
     access_ahead(words, seat, sizes, lane, call.stage(state), access)
 }
 
-// Makes two accesses, one behind the other. Gives the stage of the second, and its answer.
+// Makes two accesses, one after the other. Returns the stage of the second, and its answer.
 #[inline(always)]
 fn access_twice<K: Opening, L: Ahead, S: End, C: RingCall<L, S>>(
     words: &Words<K>,
@@ -55,7 +55,7 @@ fn access_twice<K: Opening, L: Ahead, S: End, C: RingCall<L, S>>(
     (next, second)
 }
 
-/// Makes two accesses of a pop or a push from a stage on, and two more unless it is over then. Tells how many.
+/// Makes two accesses of a pop or a push from this stage on, and two more unless it is over then. Returns how many.
 #[inline(always)]
 pub(crate) fn ring_stride<K: Opening, L: Ahead, S: End, C: RingCall<L, S>>(
     words: &Words<K>,

@@ -1,4 +1,4 @@
-//! Several steps of a publisher's call at once: its lane makes up for them behind the last one.
+//! Several steps of a publisher's call at once: its lane catches up after the last of them.
 ghost use Rattle.std.specs.Prelude.{◌≡◌, ◌<◌, ◌≤◌, true, false, length, slice_get, Some};
 ghost use Rattle.iox_lanes_machine.specs.LanesBase.Numbers.{words_of, IsSmall};
 ghost use Rattle.iox_lanes_machine.specs.LanesBase.Publishing.{header_word, publisher_is_over};
@@ -20,7 +20,7 @@ use iox_queues_steps::rings::Push;
 use iox_queues_steps::rings::overflowing::Push as OverflowingPush;
 use iox_queues_steps::rings::refusing::{Pop as RefusingPop, Push as RefusingPush};
 
-// Whether a list begins with a number.
+// Whether the list begins with this number.
 fn begins_with(list: &[u64], number: u64) -> bool
     ensures { result ≡ true → slice_get list.now 0 ≡ Some number }
 {
@@ -30,7 +30,7 @@ fn begins_with(list: &[u64], number: u64) -> bool
     }
 }
 
-// A word of header and user header, which lie one behind the other.
+// A word of header and user header, which lie one after the other.
 fn header_word(word: u64) -> SlotWord
     ensures { result ≡ header_word word }
 {
@@ -44,13 +44,13 @@ fn header_word(word: u64) -> SlotWord
 // Which words of a slot a call stores.
 #[derive(Clone, Copy)]
 enum SlotPart {
-    // Those of its payload.
+    // The words of the payload.
     Payload,
-    // Those of its header and user header.
+    // The words of header and user header.
     Head,
 }
 
-// Where a call stands that stores this word next.
+// The stage of a call that stores this value next, in this word of a part.
 #[inline(always)]
 fn storing(part: SlotPart, slot: u64, word: u64, value: u64) -> PublisherCall
     ensures { result ≡ storing part slot word value }
@@ -61,7 +61,7 @@ fn storing(part: SlotPart, slot: u64, word: u64, value: u64) -> PublisherCall
     }
 }
 
-// A word of a part.
+// The word of the slot that is this word of the part.
 #[inline(always)]
 fn part_word(part: SlotPart, word: u64) -> SlotWord
     ensures { result ≡ part_word part word }
@@ -72,7 +72,7 @@ fn part_word(part: SlotPart, word: u64) -> SlotWord
     }
 }
 
-// Stores all words of a part: so many steps.
+// Stores all words of a part. Returns how many steps that took: one for each word.
 #[inline(always)]
 fn store_words<K: Opening>(
     words: &Words<K>,
@@ -107,14 +107,14 @@ fn store_words<K: Opening>(
     count
 }
 
-// Whether a call that stores its first number next may store so many.
+// Whether a call that stores `first` next may store all its words, in at most `room` steps.
 fn may_store_all(stored: &[u64], first: u64, room: u128) -> bool
     ensures { result ≡ true → (slice_get stored.now 0 ≡ Some first) × (length stored.now ≤ room) }
 {
     begins_with(stored, first) && stored.len() as u128 <= room
 }
 
-/// Makes some of the next steps of a publisher's call, at most so many, and tells how many.
+/// Makes some of the next steps of a publisher's call, at most `room`, and returns how many.
 pub(crate) fn stride<K: Opening>(
     words: &Words<K>,
     seat: &mut WordSeat,

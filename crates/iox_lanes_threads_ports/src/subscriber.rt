@@ -1,4 +1,4 @@
-//! A subscriber that steps in threads.
+//! A subscriber whose calls make their steps on words that threads share.
 ghost use Rattle.std.specs.Prelude.{◌≡◌, ◌+◌, ◌||◌, true, false, length, None, Some};
 ghost use Rattle.iox_lanes_machine.specs.LanesBase.Subscribing.{subscriber_is_idle, subscriber_is_over};
 ghost use Rattle.iox_lanes_machine.specs.LanesParties.Parties.{subscriber_begun, words_read};
@@ -18,15 +18,15 @@ use iox_lanes_threads_rule::{Opening, WordSeat, Words};
 use std::marker::Model;
 use std::sync::Wait;
 
-/// A subscriber that steps in threads.
+/// A subscriber whose calls make their steps on words that threads share.
 pub struct ThreadedSubscriber {
     seat: WordSeat,
     sizes: TableSizes,
-    // After a read it lacks its last step, which touches no shared word: until then it lends the words read.
+    // After a read the lane's last step, which touches no shared word, is still to be made: until then the lane lends the words read.
     lane: SubscriberLane,
 }
 
-/// Said here once, so that no crate above proves it anew.
+/// Writes the drop out once, so that no crate above proves it anew.
 impl Drop for ThreadedSubscriber {
     fn drop(self) {
         let ThreadedSubscriber {
@@ -57,7 +57,7 @@ impl Model for ThreadedSubscriber {
         × IsBetween t.lane.port.call };
 }
 
-// Makes the last step of a call, if only that is left.
+// Makes the last step of a call, if it is the only one left.
 fn settle(lane: &mut SubscriberLane)
     requires { IsBetween lane.old.port.call }
     ensures lane { lane.new ≡ settled lane.old }
@@ -87,7 +87,7 @@ fn released(answer: Option<Answer>) -> Option<bool>
 }
 
 impl ThreadedSubscriber {
-    /// A subscriber with a seat of its own.
+    /// A subscriber that makes the calls of `lane` on the words of `seat`.
     pub fn new(seat: WordSeat, sizes: TableSizes, lane: SubscriberLane) -> ThreadedSubscriber
         requires seat { IsSeated seat.table_id seat.me sizes }
         requires stands { SubscriberStands (port_of seat.me) lane }
@@ -98,7 +98,8 @@ impl ThreadedSubscriber {
         ThreadedSubscriber { seat, sizes, lane }
     }
 
-    /// Asks for a message. It may go on forever where its publishers move a ring on again and again.
+    /// Asks the connections, in their order, for a message, and returns the receipt. It may go on forever if publishers move the positions
+    /// of a ring again and again.
     pub fn receive<R: Wait, K: Opening>(&mut self, rt: &R, words: &Words<K>) -> Receipt
         requires { self.old.table ≡ words.now.table_id }
         ensures same { SameSubscriber self.old self.new }
@@ -112,9 +113,9 @@ impl ThreadedSubscriber {
         received(self.lane.go_on(0, 0))
     }
 
-    /// Reads the words of header, user header and payload of a sample. False where the slot is no sample of this port. Two reads of one
-    /// sample lend the same words, where no call between them gives it back, and no write position stood at 2^64 - 1 when they loaded them
-    /// (`held_reads_agree`).
+    /// Reads the words of header, user header and payload of a sample, which `words` then lends. Returns false if the slot isn't a sample
+    /// of this port; then nothing is read. Two reads of one sample lend the same words, if no call between them releases it, and no write
+    /// position was 2^64 - 1 when they loaded the words (`held_reads_agree`).
     pub fn read<K: Opening>(&mut self, words: &Words<K>, sample: u64) -> bool
         requires { self.old.table ≡ words.now.table_id }
         ensures same { SameSubscriber self.old self.new }
@@ -134,14 +135,15 @@ impl ThreadedSubscriber {
         true
     }
 
-    /// The words that were read, one behind the other, if the last call was a read.
+    /// The words that the last call read, first the header, then the user header and the payload; empty if that call wasn't a read.
     pub fn words(&self) -> &[u64]
         ensures { result.now ≡ self.now.words }
     {
         self.lane.words_read()
     }
 
-    /// Gives a sample back, and answers whether it went back, which it does. None where the slot is no sample of this port.
+    /// Releases a sample, and returns whether it went back to its publisher. Returns None if the slot isn't a sample of this port; then
+    /// nothing is done.
     pub fn release<K: Opening>(&mut self, words: &Words<K>, sample: u64) -> Option<bool>
         requires { self.old.table ≡ words.now.table_id }
         ensures same { SameSubscriber self.old self.new }
@@ -159,7 +161,7 @@ impl ThreadedSubscriber {
         released(self.lane.go_on(0, 0))
     }
 
-    /// The seat and the lane.
+    /// Takes the port apart into its seat and its lane.
     pub fn into_parts(self) -> (WordSeat, SubscriberLane)
         ensures { (result.0.table_id ≡ self.table) × (result.0.me ≡ single self.port) × (result.1 ≡ self.lane) }
     {

@@ -1,4 +1,4 @@
-//! Several steps of a subscriber's call at once: its lane makes up for them behind the last one.
+//! Several steps of a subscriber's call at once: its lane catches up after the last of them.
 ghost use Rattle.std.specs.Prelude.{◌≡◌, ◌+◌};
 ghost use Rattle.iox_lanes_machine.specs.LanesBase.Numbers.{words_of, IsSmall};
 ghost use Rattle.iox_lanes_machine.specs.LanesBase.Subscribing.{word_at, read_at};
@@ -23,7 +23,7 @@ use iox_queues_steps::rings::Pop;
 use iox_queues_steps::rings::overflowing::Pop as OverflowingPop;
 use iox_queues_steps::rings::refusing::{Pop as RefusingPop, Push as RefusingPush};
 
-// A word of header, user header and payload, which lie one behind the other.
+// A word of header, user header and payload, which lie one after the other.
 fn word_at(extent: SlotExtent, word: u64) -> SlotWord
     ensures { result ≡ word_at extent word }
 {
@@ -43,7 +43,7 @@ struct SampleRead {
     extent: SlotExtent,
 }
 
-// Loads a word of a sample and keeps its value; the call is left where it stood.
+// Loads a word of a sample and keeps its value; the call stays at its stage.
 #[inline(always)]
 fn read_word<K: Opening>(
     words: &Words<K>,

@@ -32,7 +32,7 @@ pub(crate) fn step<K: Opening>(
     lane.go_on(given, 0);
 }
 
-/// Makes steps of a read or a release, up to where only its last one is left.
+/// Makes the steps of a read or a release, except the last one.
 pub(crate) fn finish<K: Opening>(
     words: &Words<K>,
     seat: &mut WordSeat,
@@ -57,7 +57,7 @@ pub(crate) fn finish<K: Opening>(
     }
 }
 
-/// Makes steps of a subscriber's call up to where only its last one is left.
+/// Makes the steps of a subscriber's call, except the last one.
 pub(crate) fn run_on<R: Wait, K: Opening>(
     rt: &R,
     words: &Words<K>,

@@ -1,4 +1,4 @@
--- One access of a port to the words that threads share: when it may be made, what it tells, and what the port knows then.
+-- One access of a port to the words that threads share: when it may be made, what it reports, and what the port knows then.
 use Rattle.std.specs.Prelude.{ℕ, ◌≡◌, ◌<◌, ◌≤◌, ◌^◌, List, [], ◌∷◌, set}
 use mathlib.Core.Option.{some}
 use lib.ListN.{get_elem?}
@@ -19,15 +19,15 @@ use Rattle.iox_lanes_threads_rule.specs.declared.view.PortParty.{PortParty}
 use Rattle.iox_lanes_threads_rule.specs.declared.view.PortParty.TheVariants as party
 use Rattle.iox_lanes_threads_rule.specs.declared.view.View.{View}
 
--- words and ports of some service fit, and lanes stand behind them as long as the positions are early
+-- Words and ports of some service fit, and are those of some lanes as long as no write position is 2^64 - 1.
 abbrev pub FitSome : List ℕ → List Port → Type 0
 FitSome words ports = (s : Service) × Fits s words ports × IsBacked s words ports
 
--- the rule of the words, as threads keep it
+-- The rule of the words, as threads keep it.
 abbrev pub Holds : State ℕ View → Type 0
 Holds state = Ruled FitSome state
 
--- no service
+-- A service without ports and words.
 abbrev pub no_service : Service
 no_service = record {
   sizes = record { connections = 0; submission_cells = 0; completion_cells = 0; slots = 0; user_header_words = 0; payload_words = 0 };
@@ -35,7 +35,7 @@ no_service = record {
   ranges = [];
 }
 
--- nobody
+-- A party that stands for none.
 abbrev pub no_party : PortParty
 no_party = party.Subscriber (record {
   port = new_subscriber [] 0 (record { user_header_words = 0; payload_words = 0 }) 0 0;
@@ -43,32 +43,32 @@ no_party = party.Subscriber (record {
   first = 0;
 })
 
--- no port
+-- A port that stands for none.
 abbrev pub no_port : Port
 no_port = record { number = 0; name = Publisher 0; service = no_service; known = []; accesses = 0; party = no_party; seen = [] }
 
--- the first of some ports
+-- The first of these ports; `no_port` if there is none.
 abbrev pub first_port : List Port → Port
 first_port [] = no_port
 first_port (p ∷ ps) = p
 
--- the port of a seat that has one
+-- The port of a seat that has one.
 abbrev pub port_of : Me ℕ View → Port
 port_of me = first_port me.0.ports
 
--- a seat with one port
+-- A seat with one port.
 abbrev pub single : Port → Me ℕ View
 single p = (one p, [])
 
--- an access that a port may make
+-- The port may make the access.
 abbrev pub MayAct : Port → SharedAccess → Type 0
 MayAct p (Load w) = IsWord p.service.sizes w
 MayAct p (Store w new) = MayStore p.service p w new
 MayAct p (Exchange w old new) = MayExchange p.service p w old new
 MayAct p Local = Unit {0}
 
--- A moment at which the port loads the word and finds this: words and ports that fit, with lanes behind them as long as the positions
--- are early. The port is one of these ports, and the word holds what is found.
+-- A moment at which the port loads the word and finds this value: words and ports fit, and are those of some lanes as long as no write
+-- position is 2^64 - 1. The port is one of these ports, and the word has the value.
 pub record StandsAt (p : Port) (w : SharedWord) (found : ℕ) : Type 0 where
   pub words : List ℕ
   pub ports : List Port
@@ -77,14 +77,14 @@ pub record StandsAt (p : Port) (w : SharedWord) (found : ℕ) : Type 0 where
   pub there : get_elem? ports p.number ≡ some p
   pub holds : held p.service words w ≡ found
 
--- what the answer of an access tells; stores and local steps are answered 0
+-- What the answer of an access reports; stores and local steps are answered 0.
 abbrev pub ToldBy : Port → SharedAccess → ℕ → Type 0
 ToldBy p (Load w) answer = Told p.service p w answer × StandsAt p w answer
 ToldBy p (Store w new) answer = answer ≡ 0
 ToldBy p (Exchange w old new) answer = (answer < 2 ^ 64) × (held p.service p.known w ≤ answer)
 ToldBy p Local answer = answer ≡ 0
 
--- the port after an access; what a local step changes it knows with its next access
+-- The port after an access; what a local step changes becomes known with the port's next access.
 abbrev pub stepped : Port → SharedAccess → ℕ → (ℕ → PortParty) → Port
 stepped p (Load w) answer after = learned (saw p w) (set p.known (number_of p.service.sizes w) answer) (after answer)
 stepped p (Store w new) answer after = learned p (set p.known (number_of p.service.sizes w) new) (after answer)
@@ -92,17 +92,18 @@ stepped p (Exchange w old new) answer after
     = learned p (known_exchanged p.name p.known (number_of p.service.sizes w) old new answer) (after answer)
 stepped p Local answer after = p
 
--- what a load of the word of a number tells a seat that had just this port before it: so the same load made once more tells nothing
+-- What a load of the word with this number reports to a seat that had only this port before; so a second report of the same load adds
+-- nothing.
 abbrev pub loaded : Port → (ℕ → PortParty) → Step ℕ → Me ℕ View → ℕ → Me ℕ View → Type 0
 loaded p after step before found me = (before ≡ single p)
     × ((w : SharedWord) → IsWord p.service.sizes w → number_of p.service.sizes w ≡ step.word
     → (me ≡ single (learned (saw p w) (set p.known step.word found) (after found))) × Told p.service p w found × StandsAt p w found)
 
--- what a store tells such a seat
+-- What a store reports to a seat that had only this port before.
 abbrev pub stored : Port → (ℕ → PortParty) → Step ℕ → Me ℕ View → ℕ → Me ℕ View → Type 0
 stored p after step before found me = (before ≡ single p) × (me ≡ single (learned p (set p.known step.word step.first) (after 0)))
 
--- what an exchange tells such a seat
+-- What an exchange reports to a seat that had only this port before.
 abbrev pub exchanged : Port → (ℕ → PortParty) → Step ℕ → Me ℕ View → ℕ → Me ℕ View → Type 0
 exchanged p after step before found me
     = (before ≡ single p) × (me ≡ single (learned p (known_exchanged p.name p.known step.word step.first step.second found) (after found)))

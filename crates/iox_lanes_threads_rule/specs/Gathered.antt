@@ -1,4 +1,4 @@
--- What ports that came back to one seat have in common.
+-- What ports agree on that were gathered in one seat.
 use Rattle.std.specs.Prelude.{ℕ, ◌≡◌, ◌-◌, ◌<◌, ◌^◌, List, [], ◌++◌, slice_get, Some}
 use mathlib.Core.Option.{some}
 use lib.ListN.{get_elem?}
@@ -13,27 +13,27 @@ use Rattle.iox_lanes_threads_rule.specs.declared.service.Service.{Service}
 use Rattle.iox_lanes_threads_rule.specs.declared.view.Port.{Port}
 use Rattle.iox_lanes_threads_rule.specs.declared.view.View.{View}
 
--- the views of two seats in one
+-- The views of two seats in one.
 abbrev pub both_views : View → View → View
 both_views one other = record { from = 0; waiting = []; ports = one.ports ++ other.ports }
 
--- the view of a seat with no port
+-- The view of a seat without ports.
 abbrev pub no_view : View
 no_view = record { from = 0; waiting = []; ports = [] }
 
--- each write position is stored by one of these ports, which knows that it does not stand at 2^64 - 1
+-- Each write position is stored by one of these ports, which knows that it isn't 2^64 - 1.
 abbrev pub KnowEarly : Service → List Port → Type 0
 KnowEarly s ports = (connection : ℕ) (ring : ConnectionRing) → connection < s.sizes.connections
     → (at : ℕ) × (p : Port) × (get_elem? ports at ≡ some p) × Stores s p.name (Ring connection ring Write)
     × (held s p.known (Ring connection ring Write) < 2 ^ 64 - 1)
 
--- What one of these ports has loaded of a sample that it has still is what another of them, which stores the word, knows: as long
--- as they know that no write position stands at 2^64 - 1.
+-- What one of these ports has loaded of a sample that it still holds is what another of them, which stores the word, knows; as long as they
+-- know that no write position is 2^64 - 1.
 abbrev pub Agree : List Port → Type 0
 Agree ports = (at number place : ℕ) (q p : Port) (w : SharedWord) → get_elem? ports at ≡ some q → get_elem? ports number ≡ some p
     → KnowEarly q.service ports → slice_get q.seen place ≡ Some w → Stores q.service p.name w
     → held q.service q.known w ≡ held q.service p.known w
 
--- what a load of a word tells a seat of its ports
+-- What a load of a word reports to a seat of its ports.
 abbrev pub agreed : Step ℕ → Me ℕ View → ℕ → Me ℕ View → Type 0
 agreed step before found me = (me ≡ before) × Agree before.0.ports

@@ -1,4 +1,4 @@
--- The lanes that stand behind the words and the ports of threads, and how a port comes to its next access.
+-- The lanes that words and ports of threads are those of, and how a port comes to its next access.
 use Rattle.std.specs.Prelude.{ℕ, ◌≡◌, ◌-◌, ◌<◌, ◌^◌, true, List, map, slice_get, Some}
 use Rattle.std.specs.List.{All}
 use mathlib.Core.Option.{some}
@@ -31,7 +31,7 @@ use Rattle.iox_lanes_threads_rule.specs.declared.view.Port.{Port}
 use Rattle.iox_lanes_threads_rule.specs.declared.view.PortParty.{PortParty}
 use Rattle.iox_lanes_threads_rule.specs.declared.view.PortParty.TheVariants as party
 
--- a publisher comes to a stage by beginning calls that fit, and by steps on no shared word
+-- A publisher comes from one state to another by beginning calls that fit, and by local steps.
 pub data PublisherLeads (lane : PublisherLaneState) : PublisherLaneState → Type 0 where
   stays : PublisherLeads lane lane
   begins : (now : PublisherLaneState) (moment : ℕ) (call : Call) → PublisherLeads lane now → publisher_fits now (Begin call) ≡ true
@@ -39,7 +39,7 @@ pub data PublisherLeads (lane : PublisherLaneState) : PublisherLaneState → Typ
   goes : (now : PublisherLaneState) → PublisherLeads lane now → publisher_next now.port.call ≡ Local
       → PublisherLeads lane (publisher_after 0 now)
 
--- a subscriber likewise
+-- A subscriber comes from one state to another by beginning calls that fit, and by local steps.
 pub data SubscriberLeads (lane : SubscriberLaneState) : SubscriberLaneState → Type 0 where
   stays : SubscriberLeads lane lane
   begins : (now : SubscriberLaneState) (moment : ℕ) (call : Call) → SubscriberLeads lane now → subscriber_fits now (Begin call) ≡ true
@@ -47,72 +47,72 @@ pub data SubscriberLeads (lane : SubscriberLaneState) : SubscriberLaneState → 
   goes : (now : SubscriberLaneState) → SubscriberLeads lane now → subscriber_next now.port.call ≡ Local
       → SubscriberLeads lane (subscriber_after 0 now)
 
--- what a port is in its view comes to this publisher
+-- The party in a port's view comes to this publisher by beginning calls and by local steps.
 abbrev pub ComesToPublisher : PortParty → PublisherLaneState → Type 0
 ComesToPublisher (party.Publisher lane) now = PublisherLeads lane now
 ComesToPublisher (party.Subscriber lane) now = ⊥
 
--- and to this subscriber
+-- The party in a port's view comes to this subscriber by beginning calls and by local steps.
 abbrev pub ComesToSubscriber : PortParty → SubscriberLaneState → Type 0
 ComesToSubscriber (party.Publisher lane) now = ⊥
 ComesToSubscriber (party.Subscriber lane) now = SubscriberLeads lane now
 
--- A publisher that the port comes to makes this access next, and `after` says what it is after each answer.
+-- A publisher that the party comes to makes this access next, and `after` says what it is after each answer.
 pub record PublisherActs (own : PortParty) (access : SharedAccess) (after : ℕ → PortParty) : Type 0 where
   pub now : PublisherLaneState
   pub comes : ComesToPublisher own now
   pub next : publisher_next now.port.call ≡ access
   pub after_is : (answer : ℕ) → after answer ≡ party.Publisher (publisher_after answer now)
 
--- a subscriber likewise
+-- A subscriber that the party comes to makes this access next, and `after` says what it is after each answer.
 pub record SubscriberActs (own : PortParty) (access : SharedAccess) (after : ℕ → PortParty) : Type 0 where
   pub now : SubscriberLaneState
   pub comes : ComesToSubscriber own now
   pub next : subscriber_next now.port.call ≡ access
   pub after_is : (answer : ℕ) → after answer ≡ party.Subscriber (subscriber_after answer now)
 
--- the port makes this access next, and `after` says what it is after each answer
+-- The party makes this access next, and `after` says what it is after each answer.
 abbrev pub MakesNext : PortParty → SharedAccess → (ℕ → PortParty) → Type 0
 MakesNext (party.Publisher lane) access after = PublisherActs (party.Publisher lane) access after
 MakesNext (party.Subscriber lane) access after = SubscriberActs (party.Subscriber lane) access after
 
--- the words of a service as a table of lanes
+-- The words of a service as a table of lanes.
 abbrev pub as_table : Service → List ℕ → TableWords
 as_table s words = record { sizes = s.sizes; words = words }
 
--- no write position stands at 2^64 - 1, the largest number of a word
+-- No write position is 2^64 - 1, the largest value of a word.
 abbrev pub IsEarly : TableWords → Type 0
 IsEarly table = (connection : ℕ) (ring : ConnectionRing) → connection < table.sizes.connections
     → held_by table (Ring connection ring Write) < 2 ^ 64 - 1
 
--- the publisher at a place of lanes is this one, whenever its call began
+-- The publisher at this place of the lanes is this one, whenever its call began.
 abbrev pub HasPublisher : World → ℕ → PublisherLaneState → Type 0
 HasPublisher m place lane = (first : ℕ) × (slice_get m.publishers place ≡ Some (record lane { first = first }))
 
--- a subscriber likewise
+-- The subscriber at this place of the lanes is this one, whenever its call began.
 abbrev pub HasSubscriber : World → ℕ → SubscriberLaneState → Type 0
 HasSubscriber m place lane = (first : ℕ) × (slice_get m.subscribers place ≡ Some (record lane { first = first }))
 
--- lanes have this party
+-- The lanes have this party.
 abbrev pub HasParty : World → Party → PortParty → Type 0
 HasParty m (Publisher place) (party.Publisher lane) = HasPublisher m place lane
 HasParty m (Publisher place) (party.Subscriber lane) = ⊥
 HasParty m (Subscriber place) (party.Publisher lane) = ⊥
 HasParty m (Subscriber place) (party.Subscriber lane) = HasSubscriber m place lane
 
--- a word that a port has loaded of a sample: the port has the sample still, and the word holds what it knows
+-- The port has loaded this word of a sample: it still holds the sample, and the word has the value that the port knows.
 pub record IsSeen (s : Service) (words : List ℕ) (p : Port) (w : SharedWord) : Type 0 where
   pub word : IsWord s.sizes w
   pub sample : is_of_sample p.party w ≡ true
   pub known : held s p.known w ≡ held s words w
 
--- a link as a connection of the service
+-- A link as a connection of the service.
 abbrev pub line_of : LinkState → Line
 line_of link = record { publisher = link.publisher; subscriber = link.subscriber; kind = link.kind; limit = link.limit }
 
--- Some lanes that hold together, with room at each connection for all that may be given back there, have these words and
--- connections, and each port as its last step on a shared word left it. What a port has loaded of a sample that it has is what it
--- knows of it.
+-- Some lanes have these words and connections, and each port as its last step on a shared word left it. These lanes' words, ports and slots
+-- agree (`HoldTogether`), and each connection has enough cells for all that may come back. What a port has loaded of a sample that it holds
+-- is what it knows of it.
 pub record StandBehind (s : Service) (words : List ℕ) (all : List Port) : Type 0 where
   pub lanes : World
   pub together : HoldTogether lanes
@@ -123,6 +123,6 @@ pub record StandBehind (s : Service) (words : List ℕ) (all : List Port) : Type
   pub ports : (number : ℕ) (p : Port) → get_elem? all number ≡ some p → HasParty lanes p.name p.party
   pub seen : (number : ℕ) (p : Port) → get_elem? all number ≡ some p → All (IsSeen s words p) p.seen
 
--- so it is as long as the positions are early
+-- Words and ports are those of some lanes (`StandBehind`), as long as no write position is 2^64 - 1.
 abbrev pub IsBacked : Service → List ℕ → List Port → Type 0
 IsBacked s words all = IsEarly (as_table s words) → StandBehind s words all

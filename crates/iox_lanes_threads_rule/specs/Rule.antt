@@ -13,26 +13,26 @@ use Rattle.iox_lanes_threads_rule.specs.declared.service.Service.{Service}
 use Rattle.iox_lanes_threads_rule.specs.declared.view.Port.{Port}
 use Rattle.iox_lanes_threads_rule.specs.declared.view.View.{View}
 
--- what a word holds, or what is known of it
+-- The value of a word, or what a port knows of it, as the list is.
 abbrev pub held : Service → List ℕ → SharedWord → ℕ
 held s words w = slice_index words (number_of s.sizes w)
 
--- a port of the service at its number, which knows something of each word
+-- The port is one of the service at its number, and knows something of each word.
 pub record IsPort (s : Service) (at : ℕ) (p : Port) : Type 0 where
   pub service : p.service ≡ s
   pub number : p.number ≡ at
   pub name : number_among s p.name ≡ at
   pub wide : length p.known ≡ words_of s.sizes
 
--- a ring that overflows, at a connection of the service
+-- The connection is one of the service, and its submission ring overflows.
 pub record Overflows (s : Service) (connection : ℕ) (line : Line) : Type 0 where
   pub there : connection < s.sizes.connections
   pub found : slice_get s.lines connection ≡ Some line
   pub kind : line.kind ≡ Overflowing
 
--- Words and ports fit. Each word that one port alone stores is what that port knows of it. No port knows more of a position than
--- it has come to. Each cell names a slot below the count. In a ring that overflows the read position is at most the write
--- position, and below it where the subscriber doesn't know of its last move.
+-- Words and ports fit. Each word that only one port stores is what that port knows of it. No port knows more of a position than it has come
+-- to. Each cell names a slot. In an overflowing ring the read position is at most the write position, and below it if the subscriber
+-- doesn't know of the read position's last move.
 pub record Fits (s : Service) (words : List ℕ) (all : List Port) : Type 0 where
   pub rows : RangesInRows s
   pub spare : slice_index words 0 ≡ 0
@@ -50,12 +50,12 @@ pub record Fits (s : Service) (words : List ℕ) (all : List Port) : Type 0 wher
       → (held s p.known (read_word connection) ≡ held s words (read_word connection) → ⊥)
       → held s words (read_word connection) < held s words (write_word connection)
 
--- the seat has the port, which is the one at its number
+-- The seat has the port, which is the one at its number.
 abbrev pub Sits : (ℕ → ℕ) → List Port → ℕ → Port → Type 0
 Sits owner ports seat p = (owner p.number ≡ seat) × (get_elem? ports p.number ≡ some p)
 
--- There is a list of all ports that fits the words, and each port is with one seat: those that wait stand at their numbers, one
--- behind the other.
+-- There is a list of all ports that fits the words, and each port is on one seat; those that wait on a seat have numbers one after the
+-- other.
 pub record Ruled (fits : List ℕ → List Port → Type 0) {S : Type 0} (state : State S View) : Type 0 where
   pub ports : List Port
   pub owner : ℕ → ℕ
@@ -65,6 +65,6 @@ pub record Ruled (fits : List ℕ → List Port → Type 0) {S : Type 0} (state 
   pub seated : (seat : ℕ) (v : View) (i : ℕ) (p : Port) → get_elem? state.views seat ≡ some v → get_elem? v.ports i ≡ some p
       → Sits owner ports seat p
 
--- the view of a seat with one port
+-- The view of a seat with one port.
 abbrev pub one : Port → View
 one p = record { from = 0; waiting = []; ports = p ∷ [] }

@@ -7,27 +7,27 @@ use Rattle.iox_lanes_threads_rule.specs.Rule.{one}
 use Rattle.iox_lanes_threads_rule.specs.declared.view.Port.{Port}
 use Rattle.iox_lanes_threads_rule.specs.declared.view.View.{View}
 
--- words that threads share: which table they are
+-- The words that threads share, as the table that they are.
 pub record WordsState : Type 0 where
   pub table_id : TableId
 
--- so many ports have a seat of their own, and these wait for one
+-- The view in which the first `from` ports have seats of their own, and these wait for one.
 abbrev pub waits : ℕ → List Port → View
 waits from ports = record { from = from; waiting = ports; ports = [] }
 
--- those behind the first
+-- The ports after the first.
 abbrev pub behind_first : List Port → List Port
 behind_first [] = []
 behind_first (p ∷ ps) = ps
 
--- the first that waits is given out
+-- The view after the first waiting port was given out.
 abbrev pub others_wait : View → View
 others_wait v = waits (v.from + 1) (behind_first v.waiting)
 
--- it has a seat of its own
+-- The view of the seat that the first waiting port was given.
 abbrev pub first_seated : View → View
 first_seated v = one (first_port v.waiting)
 
--- a seat at which at least one port waits, and which has none
+-- A seat at which at least one port waits, and which has none.
 abbrev pub IsWaiting : Me ℕ View → Type 0
 IsWaiting me = me ≡ (waits me.0.from (first_port me.0.waiting ∷ behind_first me.0.waiting), [])

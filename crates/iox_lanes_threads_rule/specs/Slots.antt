@@ -1,4 +1,4 @@
--- What holds on threads of the slots that subscribers have, as long as the positions are early.
+-- What holds in threads of the slots that subscribers hold, as long as no write position is 2^64 - 1.
 use Rattle.std.specs.Prelude.{ℕ, ◌≡◌, ◌+◌, ◌<◌, ◌≤◌, ◌==◌, true, false, if◌then◌else◌, List, length, set, slice_get, Some}
 use mathlib.Core.Option.{some}
 use lib.ListN.{get_elem?}
@@ -29,7 +29,7 @@ use Rattle.iox_lanes_threads_rule.specs.declared.view.Port.{Port}
 use Rattle.iox_lanes_threads_rule.specs.declared.view.PortParty.{PortParty}
 use Rattle.iox_lanes_threads_rule.specs.declared.view.PortParty.TheVariants as party
 
--- a load that a port makes next leaves lanes behind words and ports
+-- If words and ports are those of some lanes, they are so after a load that a port makes next.
 abbrev pub LoadsLeaveLanes : Type 0
 LoadsLeaveLanes = (s : Service) (words : List ℕ) (ports : List Port) (p : Port) (w : SharedWord) (after : ℕ → PortParty)
     → Fits s words ports → get_elem? ports p.number ≡ some p → IsWord s.sizes w → MakesNext p.party (Load w) after
@@ -37,7 +37,7 @@ LoadsLeaveLanes = (s : Service) (words : List ℕ) (ports : List Port) (p : Port
     → IsBacked s (set words (number_of s.sizes w) (held s words w))
     (set ports p.number (learned (saw p w) (set p.known (number_of s.sizes w) (held s words w)) (after (held s words w))))
 
--- a store that it may make does
+-- If words and ports are those of some lanes, they are so after a store that a port may make and makes next.
 abbrev pub StoresLeaveLanes : Type 0
 StoresLeaveLanes = (s : Service) (words : List ℕ) (ports : List Port) (p : Port) (w : SharedWord) (new : ℕ) (after : ℕ → PortParty)
     → Fits s words ports → get_elem? ports p.number ≡ some p → MayStore s p w new → MakesNext p.party (Store w new) after
@@ -45,7 +45,7 @@ StoresLeaveLanes = (s : Service) (words : List ℕ) (ports : List Port) (p : Por
     → IsBacked s (set words (number_of s.sizes w) new)
     (set ports p.number (learned p (set p.known (number_of s.sizes w) new) (after 0)))
 
--- and an exchange that it may make does
+-- If words and ports are those of some lanes, they are so after an exchange that a port may make and makes next.
 abbrev pub ExchangesLeaveLanes : Type 0
 ExchangesLeaveLanes = (s : Service) (words : List ℕ) (ports : List Port) (p : Port) (w : SharedWord) (old new : ℕ)
     (after : ℕ → PortParty)
@@ -55,18 +55,18 @@ ExchangesLeaveLanes = (s : Service) (words : List ℕ) (ports : List Port) (p : 
     (set ports p.number (learned p (known_exchanged p.name p.known (number_of s.sizes w) old new (held s words w))
     (after (held s words w))))
 
--- the slot is a sample of the port's view
+-- The slot is a sample in the port's view.
 abbrev pub IsSampleOf : PortParty → ℕ → Type 0
 IsSampleOf (party.Publisher lane) slot = ⊥
 IsSampleOf (party.Subscriber lane) slot = is_borrowed (place_of slot lane) ≡ true
 
--- the slot is a loan of the port's view, and none of its connections has it
+-- The slot is a loan in the port's view, and none of its connections has it.
 abbrev pub IsLoneLoanOf : PortParty → ℕ → Type 0
 IsLoneLoanOf (party.Publisher lane) slot = (is_out (loan_of slot lane.port.book) ≡ true)
     × ((place : ℕ) → place < length lane.port.routes → refers_to lane.port.book place slot ≡ false)
 IsLoneLoanOf (party.Subscriber lane) slot = ⊥
 
--- A port that stores a word of a slot next has the slot as a loan in its view behind the store, and none of its connections has it;
+-- A port that stores a word of a slot next has the slot as a loan in its view after the store, and none of its connections has the slot;
 -- and no port's view has the slot as a sample.
 abbrev pub SlotStoresAreOfLoans : Type 0
 SlotStoresAreOfLoans = (s : Service) (words : List ℕ) (ports : List Port) (p : Port) (slot : ℕ) (word : SlotWord) (new : ℕ)
@@ -76,11 +76,11 @@ SlotStoresAreOfLoans = (s : Service) (words : List ℕ) (ports : List Port) (p :
     → IsLoneLoanOf (after 0) slot
     × ((number : ℕ) (q : Port) → get_elem? ports number ≡ some q → IsSampleOf q.party slot → ⊥)
 
--- what stands in the cells of the ring of messages of a connection, between its two positions
+-- What is in the cells of a connection's submission ring, between its two positions.
 abbrev pub sent_between : Service → List ℕ → Line → ℕ → List ℕ
 sent_between s words line connection = between (ring_in (as_table s words) connection (cells_of line.kind line.limit))
 
--- a connection of a publisher's view and its subscriber's view
+-- A connection of a publisher's view, and the view of its subscriber.
 pub record JoinsViews (s : Service) (ports : List Port) (publisher subscriber : Port) (lane : PublisherLaneState)
     (own : SubscriberLaneState) (place : ℕ) (route : Route) (line : Line) : Type 0 where
   pub sends : get_elem? ports publisher.number ≡ some publisher
@@ -91,8 +91,8 @@ pub record JoinsViews (s : Service) (ports : List Port) (publisher subscriber : 
   pub name : subscriber.name ≡ Subscriber line.subscriber
   pub receiver : subscriber.party ≡ party.Subscriber own
 
--- A publisher's view says that a connection has a slot just if the slot stands there: it waits or lies aside in the ring of
--- messages, the subscriber's view has it as a sample, or it was given back and not taken back. It stands there once.
+-- A publisher's view says that a connection has a slot exactly if the slot is there: it waits or lies aside in the submission ring, the
+-- subscriber's view has it as a sample, or it is in the completion ring. It is there once.
 abbrev pub ReferencesAreCounted : Type 0
 ReferencesAreCounted = (s : Service) (words : List ℕ) (ports : List Port) (publisher subscriber : Port) (lane : PublisherLaneState)
     (own : SubscriberLaneState) (place : ℕ) (route : Route) (line : Line)
@@ -100,7 +100,7 @@ ReferencesAreCounted = (s : Service) (words : List ℕ) (ports : List Port) (pub
     → count slot (sent_between s words line route.connection) + one_if (borrows route.connection slot (Some own))
     + count slot (given_back (as_table s words) route.connection) ≡ one_if (refers_to lane.port.book place slot)
 
--- No read position is beyond its write position, and none lies further behind than its ring has cells.
+-- No read position is beyond its write position, and none is further behind than its ring has cells.
 pub record AreNearAt (s : Service) (words : List ℕ) (connection : ℕ) (line : Line) : Type 0 where
   pub behind : held s words (Ring connection Submission Read) ≤ held s words (Ring connection Submission Write)
   pub near : held s words (Ring connection Submission Write)
@@ -109,14 +109,14 @@ pub record AreNearAt (s : Service) (words : List ℕ) (connection : ℕ) (line :
   pub back_near : held s words (Ring connection Completion Write)
       ≤ held s words (Ring connection Completion Read) + s.sizes.completion_cells
 
--- so it is at each connection
+-- The positions of each connection are near (`AreNearAt`), as long as no write position is 2^64 - 1.
 abbrev pub PositionsAreNear : Type 0
 PositionsAreNear = (s : Service) (words : List ℕ) (ports : List Port) (connection : ℕ) (line : Line) → IsBacked s words ports
     → IsEarly (as_table s words) → slice_get s.lines connection ≡ Some line
     → AreNearAt s words connection line
 
--- A word that a port has loaded of a sample that it has still holds what the port knows of it, and the port that stores the word
--- knows just that.
+-- A word that a port has loaded of a sample that it still holds has the value that the port knows, and the port that stores the word knows
+-- the same value.
 abbrev pub SeenWordsStand : Type 0
 SeenWordsStand = (s : Service) (words : List ℕ) (ports : List Port) (at number place : ℕ) (q p : Port) (w : SharedWord)
     → Fits s words ports → IsBacked s words ports → IsEarly (as_table s words)

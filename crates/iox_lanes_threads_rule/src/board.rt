@@ -15,7 +15,7 @@ use std::marker::{Brand, Model, PhantomData};
 pub trait Opening {
     ghost use Rattle.iox_lanes_threads_rule.specs.declared.view.View.{View};
 
-    // The view of the first seat.
+    // the view of the first seat
     ghost first: { Self → View };
 }
 
@@ -30,8 +30,8 @@ impl<K: Opening> TableRule<u8, View, K> for WordRule {
     ghost first = { K.first };
 }
 
-/// The words of a service, as threads share them, with their memory. Ports step on them by `act` alone, which counts each access, and
-/// by no step of their own. That this file and `gathering` make no other is read in them.
+/// The words of a service, as threads share them, with their memory. Ports make steps on them only by `act`, which counts each access. That
+/// this module and `gathering` make no other steps isn't proved; it can be seen in their code.
 #[derive(Drop)]
 pub struct Words<K: Opening> {
     table: Table<u8, View, K, WordRule, Global>,
@@ -46,7 +46,7 @@ impl<K: Opening> Model for Words<K> {
 }
 
 impl<K: Opening> Words<K> {
-    /// Words that start so, with a seat that has the first view. It fails only where an allocation fails.
+    /// A table that starts with these words, and a seat that has the first view. `AllocError` is returned only where an allocation fails.
     pub fn open(alloc: Global, words: &[u64], from: &K) -> Result<(Words<K>, WordSeat), AllocError>
         requires { Holds (opening words.now [] (K.first from.now)) }
         ensures { IfOk result (λ made. (made.0.table_id.words ≡ length words.now) × (made.1.table_id ≡ made.0.table_id)
@@ -56,7 +56,7 @@ impl<K: Opening> Words<K> {
         Ok((Words { table }, seat))
     }
 
-    // Their steps.
+    // The shared table, for steps.
     #[inline(always)]
     pub(crate) fn shared(&self) -> &Shared<u8, View, K, WordRule>
         ensures { result.now.table_id ≡ self.now.table_id }
@@ -68,7 +68,7 @@ impl<K: Opening> Words<K> {
 /// A token with which a port steps on the words.
 pub type WordSeat = Seat<u8, View>;
 
-/// Whose step it is: the port before it, and the port itself after the answer.
+/// Who makes a step: the port before it, and the party after each answer.
 pub trait Doing {
     ghost use Rattle.std.specs.Prelude.{ℕ};
     ghost use Rattle.iox_lanes_threads_rule.specs.declared.view.Port.{Port};
@@ -120,7 +120,7 @@ impl<M: Doing> Play<u8, View> for Exchanges<M> {
     ghost then = { exchanged M.port M.after };
 }
 
-/// Makes the access of a port that may make it, and makes it next, and gives its answer; stores and local steps are answered 0.
+/// Makes an access of a port, which must be allowed to make it, and make it next. Returns its answer: 0 for stores and local steps.
 #[inline(always)]
 pub fn act<K: Opening, M: Doing>(
     words: &Words<K>,

@@ -1,4 +1,4 @@
-//! Ports that get seats of their own, those that come back to one seat, and what they have in common then.
+//! Gives ports seats of their own, gathers ports in one seat again, and what gathered ports agree on.
 ghost use Rattle.std.specs.Prelude.{◌≡◌, ◌<◌, []};
 ghost use Rattle.iox_lanes_threads_rule.specs.Acts.{first_port, single};
 ghost use Rattle.iox_lanes_threads_rule.specs.Gathered.{both_views, Agree};
@@ -30,7 +30,7 @@ impl Join<View> for Gathers {
     ghost spent = { no_view };
 }
 
-// What the ports of a seat have in common.
+// What the ports of a seat agree on.
 struct Agrees;
 
 impl Play<u8, View> for Agrees {
@@ -39,7 +39,7 @@ impl Play<u8, View> for Agrees {
     ghost then = { agreed };
 }
 
-/// The first port that waits, with a seat of its own.
+/// The first port that waits, on a seat of its own.
 pub fn give_out<K: Opening>(words: &Words<K>, home: &mut WordSeat) -> WordSeat
     requires table { (home.old.table_id ≡ words.now.table_id) × (0 < words.now.table_id.words) }
     requires waits { IsWaiting home.old.me }
@@ -50,7 +50,7 @@ pub fn give_out<K: Opening>(words: &Words<K>, home: &mut WordSeat) -> WordSeat
     words.shared().split_seat::<GiveOut>(home)
 }
 
-/// The ports of another seat come to this one, behind those that it has.
+/// Moves the ports of another seat to this one, behind those that it has.
 pub fn gather<K: Opening>(words: &Words<K>, seat: &mut WordSeat, other: WordSeat)
     requires table { (seat.old.table_id ≡ words.now.table_id) × (other.table_id ≡ words.now.table_id) × (0 < words.now.table_id.words) }
     requires alone { other.me.1 ≡ [] }
@@ -60,7 +60,7 @@ pub fn gather<K: Opening>(words: &Words<K>, seat: &mut WordSeat, other: WordSeat
     words.shared().join_seat::<Gathers>(seat, other);
 }
 
-/// Loads a word for the last time that the seat steps, which tells what its ports have in common.
+/// Loads a word by a seat that makes no step after that; in return, the ports of the seat agree (`Agree`).
 pub fn agree<K: Opening>(words: &Words<K>, mut seat: WordSeat)
     requires table { (seat.table_id ≡ words.now.table_id) × (0 < words.now.table_id.words) }
     ensures agree { Agree seat.me.0.ports }

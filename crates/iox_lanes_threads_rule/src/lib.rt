@@ -2,9 +2,9 @@
 //!
 //! - [`service`]: which ports and connections there are.
 //! - [`view`]: what a port knows.
-//! - [`laws`]: each step that a port may make keeps the rule.
+//! - [`laws`]: theorems that each step that a port may make keeps the rule.
 //! - [`board`]: one step on one of the words.
-//! - [`gathering`]: ports that get seats of their own, or come back to one, and what they have in common.
+//! - [`gathering`]: gives ports seats of their own, and gathers them in one seat again.
 //!
 //! A first call: one access of a port, by its own seat of the table that all threads share. `iox_lanes_threads_ports` makes it.
 //!

@@ -3,31 +3,31 @@ use iox_lanes_base::words::TableSizes;
 use iox_queues_steps::rings::RingKind;
 use std::collections::LinkedList;
 
-/// A connection: which publisher sends to which subscriber, by their numbers, and what its ring of messages does. No value is ever made.
+/// A connection: the numbers of its publisher and its subscriber, and what its submission ring does when it is full. No value is ever made.
 pub struct Line {
     /// The publisher's number.
     pub publisher: u64,
     /// The subscriber's number.
     pub subscriber: u64,
-    /// What its full ring of messages does with one more.
+    /// What its submission ring does with one message more when it is full.
     pub kind: RingKind,
     /// How many messages may wait.
     pub limit: u64,
 }
 
-/// The slots of a publisher: so many from the first one on. No value is ever made.
+/// The slots of a publisher: `count` slots from `first` on. No value is ever made.
 pub struct SlotRange {
-    /// The first one's number.
+    /// The number of the first slot.
     pub first: u64,
-    /// How many they are.
+    /// How many slots there are.
     pub count: u64,
 }
 
-/// What all ports know of their service. No value is ever made: contracts speak of it.
+/// What all ports know of their service. No value is ever made; contracts speak of it.
 pub struct Service {
-    /// How many words there are of each kind.
+    /// How many words of each kind there are.
     pub sizes: TableSizes,
-    /// The connections, by their numbers.
+    /// The connections, by number.
     pub lines: LinkedList<Line>,
     /// The slots of each publisher.
     pub ranges: LinkedList<SlotRange>,

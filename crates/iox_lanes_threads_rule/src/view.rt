@@ -12,7 +12,7 @@ pub enum PortParty {
     Subscriber(SubscriberLane),
 }
 
-/// What a port knows. No value is ever made: the rule of the words and contracts speak of it.
+/// What a port knows. No value is ever made; the rule of the words and contracts speak of it.
 pub struct Port {
     /// Its number among all ports.
     pub number: u64,
@@ -20,14 +20,14 @@ pub struct Port {
     pub name: Party,
     /// Its service.
     pub service: Service,
-    /// What it knows of each word, by the words' numbers: of one that it alone stores what it holds, of any other position how
-    /// far it has come at least, of all else what it saw last.
+    /// What it knows of each word, by the words' numbers: of a word that only this port stores, its value; of any other position, how far
+    /// it has come at least; of any other word, the value that it last saw.
     pub known: LinkedList<u64>,
     /// How many accesses to shared words it made by `act` since it was opened.
     pub accesses: u64,
     /// The port itself, as its last step on a shared word left it.
     pub party: PortParty,
-    /// The words that it has loaded of the samples that it has, each since it got the sample, the newest first.
+    /// The words that it has loaded of samples that it holds, each loaded since it got the sample, the newest first.
     pub seen: LinkedList<SharedWord>,
 }
 
@@ -35,8 +35,8 @@ pub struct Port {
 pub struct View {
     /// How many ports were given out before the waiting ones.
     pub from: u64,
-    /// Those that are still to be given out.
+    /// The ports that are still to be given out.
     pub waiting: LinkedList<Port>,
-    /// Those that step with this seat, or came back.
+    /// The ports that make steps by this seat, or came back to it.
     pub ports: LinkedList<Port>,
 }

@@ -9,13 +9,13 @@ use Rattle.iox_line.specs.declared.error.LineError.{LineError}
 use Rattle.iox_line.specs.declared.error.LineError.TheVariants as fault
 use Rattle.iox_line.specs.Spelling.{Spells}
 
--- A line is read as the command of at most 1,024 bytes that it spells; or it spells none, or is longer.
+-- A line of at most 1,024 bytes is read as the command that it spells, or is faulty if it spells none; a longer line is too long.
 abbrev pub IsReadAs : List ℕ → Result (Command ℕ) LineError → Type 0
 IsReadAs line (Ok command) = (length line ≤ 1024) × Spells line command
 IsReadAs line (Err fault.Faulty) = (length line ≤ 1024) × ((command : Command ℕ) → Spells line command → ⊥)
 IsReadAs line (Err fault.TooLong) = 1024 < length line
 
--- whether a command holds attributes or steps, which alone take memory
+-- Whether the command has attributes or actions of other nodes; only these take memory.
 abbrev pub takes_memory : Command ℕ → Bool
 takes_memory (command.Create node name options attributes steps) = some attributes || some steps
 takes_memory (command.Open node name options requirements steps) = requires_some requirements || some steps
@@ -23,7 +23,7 @@ takes_memory (command.OpenOrCreate node name options requirements steps) = requi
 takes_memory (command.Foreign pattern name steps) = some steps
 takes_memory other = false
 
--- as what a line is read; or want of memory, where it spells a command that takes some
+-- Either what the line is read as; or memory ran out, and the line spells a command that takes memory.
 abbrev pub Answers : List ℕ → Result (Result (Command ℕ) LineError) AllocError → Type 0
 Answers line (Ok read) = IsReadAs line read
 Answers line (Err lacking) = (length line ≤ 1024) × (c : Command ℕ) × Spells line c × (takes_memory c ≡ true)

@@ -1,4 +1,4 @@
--- How a line is read, word for word.
+-- How a line is read, word by word.
 use Rattle.std.specs.Prelude.{ℕ, ◌+◌, ◌==◌, length, codes, Bool, List, [], ◌∷◌, Option, None, Some, Result, Ok, Err, if◌then◌else◌}
 use Rattle.std.specs.Option.{option_map}
 use Rattle.iox_command.specs.declared.command.Command.{Command}
@@ -31,13 +31,13 @@ use Rattle.iox_line.specs.declared.verb.ServiceVerb.{ServiceVerb}
 use Rattle.iox_line.specs.declared.verb.ServiceVerb.TheVariants as service
 use Rattle.iox_line.specs.Verbs.{verb_of, service_verb_of}
 
--- two parts, if both are read
+-- Both parts, if both were read.
 abbrev pub both : {X Y : Type 0} → Option X → Option Y → Option (X × Y)
 both None y = None
 both (Some x) None = None
 both (Some x) (Some y) = Some (x, y)
 
--- the options of a publisher, by their parts
+-- The options of a publisher with these parts.
 abbrev pub publisher_options : Option ℕ → Option BackpressureStrategy → Option ℕ → Option ℕ → Option AllocationStrategy
     → Option BackpressureAction → Option DegradationAction → PublisherOptions
 publisher_options a b c d e f g = record {
@@ -50,53 +50,53 @@ publisher_options a b c d e f g = record {
   degradation_handler = g;
 }
 
--- the options of a subscriber, by their parts
+-- The options of a subscriber with these parts.
 abbrev pub subscriber_options : Option ℕ → Option DegradationAction → SubscriberOptions
 subscriber_options a b = record { buffer_size = a; degradation_handler = b }
 
--- three numbers, if all are read
+-- Three numbers, if all were read.
 abbrev pub three : Option ℕ → Option ℕ → Option ℕ → Option (ℕ × ℕ × ℕ)
 three None y z = None
 three (Some x) None z = None
 three (Some x) (Some y) None = None
 three (Some x) (Some y) (Some z) = Some (x, y, z)
 
--- one made value
+-- The number of a single word, after the letter of its kind.
 abbrev pub only : ℕ → List (List ℕ) → Option ℕ
 only letter (w ∷ []) = tagged letter w
 only letter words = None
 
--- a made value and a number
+-- A number with the letter of its kind, and a second number.
 abbrev pub with_number : ℕ → List (List ℕ) → Option (ℕ × ℕ)
 with_number letter (w ∷ v ∷ []) = both (tagged letter w) (number_of v)
 with_number letter words = None
 
--- a made value and two numbers
+-- A number with the letter of its kind, and two more numbers.
 abbrev pub with_two : ℕ → List (List ℕ) → Option (ℕ × ℕ × ℕ)
 with_two letter (w ∷ v ∷ u ∷ []) = three (tagged letter w) (number_of v) (number_of u)
 with_two letter words = None
 
--- numbers
+-- The numbers that words spell.
 abbrev pub numbers : List (List ℕ) → Option (List ℕ)
 numbers [] = Some []
 numbers (w ∷ ws) = option_map (λ p. p.0 ∷ p.1) (both (number_of w) (numbers ws))
 
--- a made value and numbers, or none after it
+-- A number with the letter of its kind, and any number of numbers after it.
 abbrev pub with_values : ℕ → List (List ℕ) → Option (ℕ × List ℕ)
 with_values letter [] = None
 with_values letter (w ∷ ws) = both (tagged letter w) (numbers ws)
 
--- one port
+-- The port that a single word names.
 abbrev pub port_of : List (List ℕ) → Option PortNumber
 port_of words = or_else (option_map (λ n. port.Publisher n) (only (byte "p") words))
     (option_map (λ n. port.Subscriber n) (only (byte "s") words))
 
--- what a first part makes of what is read, if it is read
+-- What `make` makes of the part that was read, if it was read.
 abbrev pub bind : {X Y : Type 0} → Option X → (X → Option Y) → Option Y
 bind None make = None
 bind (Some x) make = make x
 
--- the options of a publisher, but the words have to be as many as they
+-- The options of a publisher that words spell; none unless there are exactly as many words as options.
 abbrev pub publisher_of : List (List ℕ) → Option PublisherOptions
 publisher_of ws =
     bind (named number_of (find (codes "loans=") ws)) (λ a. bind (named strategy_of (find (codes "strategy=") ws)) (λ b.
@@ -105,69 +105,69 @@ publisher_of ws =
     bind (named degradation_of (find (codes "degrade=") ws)) (λ g.
     if length ws == one a + one b + one c + one d + one e + one f + one g then Some (publisher_options a b c d e f g) else None)))))))
 
--- the options of a subscriber, but the words have to be as many as they
+-- The options of a subscriber that words spell; none unless there are exactly as many words as options.
 abbrev pub subscriber_of : List (List ℕ) → Option SubscriberOptions
 subscriber_of ws =
     bind (named number_of (find (codes "buffer=") ws)) (λ a. bind (named degradation_of (find (codes "degrade=") ws)) (λ b.
     if length ws == one a + one b then Some (subscriber_options a b) else None))
 
--- a factory and the options of a publisher
+-- The command that creates a publisher: a factory, and the options.
 abbrev pub publisher_command : List (List ℕ) → Option (Command ℕ)
 publisher_command [] = None
 publisher_command (w ∷ ws) = option_map (λ p. command.Publisher p.0 p.1) (both (tagged (byte "f") w) (publisher_of ws))
 
--- a factory and the options of a subscriber
+-- The command that creates a subscriber: a factory, and the options.
 abbrev pub subscriber_command : List (List ℕ) → Option (Command ℕ)
 subscriber_command [] = None
 subscriber_command (w ∷ ws) = option_map (λ p. command.Subscriber p.0 p.1) (both (tagged (byte "f") w) (subscriber_of ws))
 
--- the command that is made of a service, of its attributes and of its lists of steps, if all are read
+-- The command that is made of a service, of its attributes and of its lists of actions, if all were read.
 abbrev pub service_command : {A : Type 0} → (NamedService → A → List StepBefore → Command ℕ) → (List (List ℕ) → Option A)
     → List (List ℕ) → Option (Command ℕ)
 service_command make read words = bind (service_of words)
     (λ s. option_map (λ p. make s p.0 p.1) (both (read s.attributes) (lists_of (pattern_of s.options) s.lists)))
 
--- a service that is created
+-- The command that creates a service.
 abbrev pub create_command : List (List ℕ) → Option (Command ℕ)
 create_command words = service_command (λ s a t. command.Create s.node s.name s.options a t) specifier_of words
 
--- a service that is opened
+-- The command that opens a service.
 abbrev pub open_command : List (List ℕ) → Option (Command ℕ)
 open_command words = service_command (λ s a t. command.Open s.node s.name s.options a t) verifier_of words
 
--- a service that is opened or created
+-- The command that opens or creates a service.
 abbrev pub open_or_create_command : List (List ℕ) → Option (Command ℕ)
 open_or_create_command words = service_command (λ s a t. command.OpenOrCreate s.node s.name s.options a t) verifier_of words
 
--- the command that opens a service; it creates one where there is none, if this is asked for
+-- The command that opens a service, or, if `creates`, opens or creates it.
 abbrev pub opening : Bool → NamedService → Required → List StepBefore → Command ℕ
 opening creates s a t =
     if creates then command.OpenOrCreate s.node s.name s.options a t else command.Open s.node s.name s.options a t
 
--- a service that is opened, or opened or created
+-- The command of words that open a service, or, if `creates`, open or create it.
 abbrev pub requiring_command : Bool → List (List ℕ) → Option (Command ℕ)
 requiring_command creates words = service_command (λ s a t. opening creates s a t) verifier_of words
 
--- steps of foreign processes, if the pattern and the name are read
+-- The command by which other nodes act, if the pattern and the name were read.
 abbrev pub foreign_parts : Option MessagingPattern → Option (List ℕ) → List (List ℕ) → Option (Command ℕ)
 foreign_parts None name words = None
 foreign_parts (Some kind) None words = None
 foreign_parts (Some kind) (Some name) words = option_map (λ s. command.Foreign kind name s) (steps_of kind words)
 
--- steps of foreign processes
+-- The command by which other nodes act.
 abbrev pub foreign_command : List (List ℕ) → Option (Command ℕ)
 foreign_command [] = None
 foreign_command (w ∷ []) = None
 foreign_command (w ∷ v ∷ ws) = foreign_parts (pattern_named w) (name_of v) ws
 
--- the command of a verb that names a service, and the words after it
+-- The command of a verb that names a service, and of the words after it.
 abbrev pub of_service : ServiceVerb → List (List ℕ) → Option (Command ℕ)
 of_service service.Create words = create_command words
 of_service service.Open words = open_command words
 of_service service.OpenOrCreate words = open_or_create_command words
 of_service service.Foreign words = foreign_command words
 
--- the command of a verb and the words after it
+-- The command of a verb and of the words after it.
 abbrev pub of_verb : Verb → List (List ℕ) → Option (Command ℕ)
 of_verb verb.Node words = if no_words words then Some command.Node else None
 of_verb verb.Close words = option_map (λ n. command.Close n) (only (byte "f") words)
@@ -190,7 +190,7 @@ of_verb verb.Has words = option_map (λ n. command.Has n) (only (byte "s") words
 of_verb verb.Publisher words = publisher_command words
 of_verb verb.Subscriber words = subscriber_command words
 
--- a command of a port that there is; another is none
+-- The command, if it is one on an existing port; none for any other command.
 abbrev pub if_of_port : Option (Command ℕ) → Option (Command ℕ)
 if_of_port None = None
 if_of_port (Some command.Node) = None
@@ -203,18 +203,18 @@ if_of_port (Some (command.Publisher factory options)) = None
 if_of_port (Some (command.Subscriber factory options)) = None
 if_of_port other = other
 
--- the command of a verb that was read, and the words after it
+-- The command of a verb that was read, and of the words after it.
 abbrev pub of_read : Option Verb → Option ServiceVerb → List (List ℕ) → Option (Command ℕ)
 of_read (Some verb) other words = of_verb verb words
 of_read None (Some verb) words = of_service verb words
 of_read None None words = None
 
--- the command of all words
+-- The command of all words of a line.
 abbrev pub of_words : List (List ℕ) → Option (Command ℕ)
 of_words [] = None
 of_words (w ∷ ws) = of_read (verb_of w) (service_verb_of w) ws
 
--- both of what was read, if both are there; what is no command comes before want of memory
+-- Both parts, if both were read. That a part can't be read comes before an allocation failure.
 abbrev pub together : {A B : Type 0} → Result (Option A) AllocError → Result (Option B) AllocError → Result (Option (A × B)) AllocError
 together (Ok None) second = Ok None
 together (Ok (Some a)) (Ok None) = Ok None

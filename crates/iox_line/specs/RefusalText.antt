@@ -1,4 +1,4 @@
--- What each refusal is written as: the error's type and its variant, with an error within in parentheses.
+-- The text of each refusal: the error's type and its variant, with an inner error in parentheses.
 use Rattle.std.specs.Prelude.{ℕ, List, codes}
 use Rattle.iox_command.specs.NegotiateBase.declared.errors.publish_subscribe.PublishSubscribeCreateError.TheVariants as
     publish_subscribe_create
@@ -25,7 +25,7 @@ use Rattle.iox_command.specs.declared.refusal.HubError.TheVariants as hub
 use Rattle.iox_command.specs.declared.refusal.Refusal.{Refusal}
 use Rattle.iox_command.specs.declared.refusal.Refusal.TheVariants as refusal
 
--- what is written of a refusal behind `err `: the error's type and its variant, with an error within in parentheses
+-- The text of a refusal after `err `: the error's type and its variant, with an inner error in parentheses.
 abbrev pub refusal_text : Refusal → List ℕ
 refusal_text (refusal.Hub hub.OutOfMemory) = codes "HubError::OutOfMemory"
 refusal_text (refusal.PublishSubscribeCreate publish_subscribe_create.AlreadyExists) = codes "PublishSubscribeCreateError::AlreadyExists"

@@ -5,7 +5,7 @@ use Rattle.iox_command.specs.declared.reply.Reply.{Reply}
 use Rattle.iox_command.specs.declared.reply.Reply.TheVariants as reply
 use Rattle.iox_line.specs.RefusalText.{refusal_text}
 
--- what a reply says; values each stand after a space
+-- The text of a reply; each value is written after a space.
 abbrev pub reply_text : Reply ℕ → List ℕ
 reply_text (reply.NodeMade number) = codes "ok n" ++ decimal number
 reply_text (reply.FactoryMade number) = codes "ok f" ++ decimal number

@@ -1,4 +1,4 @@
--- How a service is named in a line: by its node, its pattern, its name and its options.
+-- How a line names a service: by its node, its pattern, its name and its options.
 use Rattle.std.specs.Prelude.{ℕ, ◌≡◌, Bool, true, false, List, [], ◌∷◌, ◌++◌, codes, decimal, IfSome}
 use Rattle.std.specs.Option.{option_map}
 use Rattle.iox_command.specs.DescribeBase.declared.pattern.MessagingPattern.{MessagingPattern}
@@ -11,28 +11,28 @@ use Rattle.iox_command.specs.Patterns.{pattern_of}
 use Rattle.iox_line.specs.Numbers.{IsNumber}
 use Rattle.iox_line.specs.Options.{AnyOrder, option_words}
 
--- how a pattern is written
+-- How a pattern is written.
 abbrev pub pattern_word : MessagingPattern → List ℕ
 pattern_word pattern.PublishSubscribe = codes "ps"
 pattern_word pattern.Event = codes "ev"
 pattern_word pattern.RequestResponse = codes "rr"
 
--- how a switch is written
+-- How a switch is written.
 abbrev pub switch_word : Bool → List ℕ
 switch_word false = codes "0"
 switch_word true = codes "1"
 
--- how a number, or nothing, is written
+-- How a number, or `off`, is written.
 abbrev pub number_or_off_word : NumberOrOff → List ℕ
 number_or_off_word (value.Number n) = decimal n
 number_or_off_word value.Off = codes "off"
 
--- the number, if there is one, has 64 bits
+-- The number, if there is one, is below 2^64.
 abbrev pub IsNumberOrOff : NumberOrOff → Type 0
 IsNumberOrOff (value.Number n) = IsNumber n
 IsNumberOrOff value.Off = Unit {0}
 
--- the options that are named, each a word
+-- The words of the options that are named, one for each.
 abbrev pub service_words : ServiceOptions → List (List ℕ)
 service_words (options.PublishSubscribe o) = option_words
     (codes "subscribers=" ∷ codes "publishers=" ∷ codes "nodes=" ∷ codes "buffer=" ∷ codes "borrowed="
@@ -59,7 +59,7 @@ service_words (options.RequestResponse o) = option_words
     ∷ option_map decimal o.max_loaned_requests ∷ option_map switch_word o.enable_safe_overflow_for_requests
     ∷ option_map switch_word o.enable_safe_overflow_for_responses ∷ option_map switch_word o.enable_fire_and_forget_requests ∷ [])
 
--- their numbers have 64 bits
+-- The numbers of the options are below 2^64.
 abbrev pub ServiceFits : ServiceOptions → Type 0
 ServiceFits (options.PublishSubscribe o) = IfSome o.max_subscribers IsNumber × IfSome o.max_publishers IsNumber
     × IfSome o.max_nodes IsNumber
@@ -75,8 +75,8 @@ ServiceFits (options.RequestResponse o) = IfSome o.max_servers IsNumber × IfSom
     × IfSome o.max_borrowed_responses_per_pending_response IsNumber × IfSome o.max_active_requests_per_client IsNumber
     × IfSome o.max_loaned_requests IsNumber
 
--- the words name the service: its node, its pattern, its name, its options in any order, and then words for attributes and for
--- lists of steps
+-- The words name the service: its node, its pattern, its name, its options in any order, and then the words of attributes and of lists of
+-- actions.
 abbrev pub Names : ℕ → List ℕ → ServiceOptions → List (List ℕ) → List (List ℕ) → List (List ℕ) → Type 0
 Names node name options attributes lists words = (chosen : List (List ℕ)) × AnyOrder chosen (service_words options)
     × (words ≡ (codes "n" ++ decimal node) ∷ pattern_word (pattern_of options) ∷ name ∷ (chosen ++ (attributes ++ lists)))

@@ -1,4 +1,4 @@
--- Which bytes spell a command: how a command is written, word for word.
+-- Which bytes spell a command: how a command is written, word by word.
 use Rattle.std.specs.Prelude.{ℕ, ◌<◌, ◌≤◌, ◌≡◌, true, List, [], ◌∷◌, ◌++◌, length, codes, decimal, map, IfSome}
 use Rattle.std.specs.List.{AllByRecursion, AllZip, join_with_byte}
 use Rattle.std.specs.Option.{option_map}
@@ -19,8 +19,8 @@ use Rattle.iox_line.specs.Steps.{StepFits, WritesStep, WritesLists, ListsFit}
 use Rattle.iox_line.specs.Values.{degradation_word}
 use Rattle.iox_line.specs.Visible.{IsVisibleText}
 
--- a command whose numbers have 64 bits, whose name has 1 to 255 visible bytes, which has at most eight pairs and at most eight keys, whose
--- lists are in their order, and whose foreign steps are at least one
+-- The command can be written: its numbers are below 2^64, its name has 1 to 255 visible bytes, it has at most eight pairs and at most eight
+-- keys, its lists are in order, and a command of actions of other nodes has at least one.
 abbrev pub Fits : Command ℕ → Type 0
 Fits (command.Create node name options attributes steps) = IsNumber node × IsVisibleText 1 255 name × ServiceFits options
     × ((length attributes ≤ 8) × AllByRecursion IsPair attributes)
@@ -59,7 +59,7 @@ Fits (command.Publisher factory options) = IsNumber factory
 Fits (command.Subscriber factory options) = IsNumber factory × IfSome options.buffer_size IsNumber
 Fits command.Node = Unit {0}
 
--- these words write the command
+-- These words write the command.
 abbrev pub Writes : Command ℕ → List (List ℕ) → Type 0
 Writes command.Node words = words ≡ codes "node" ∷ []
 Writes (command.Create node name options attributes steps) words = (attributed : List (List ℕ)) × (listed : List (List ℕ))
@@ -121,7 +121,7 @@ Writes (command.Subscriber factory options) words = (chosen : List (List ℕ))
     (option_map decimal options.buffer_size ∷ option_map degradation_word options.degradation_handler ∷ []))
     × (words ≡ codes "subscriber" ∷ (codes "f" ++ decimal factory) ∷ chosen)
 
--- the line is the words of the command, none of which has a space, with one space between each two
+-- The line consists of the words of the command, none of which has a space, with one space between any two.
 pub record Spells (line : List ℕ) (c : Command ℕ) : Type 0 where
   pub words : List (List ℕ)
   pub fits : Fits c

@@ -1,4 +1,4 @@
--- How steps of foreign processes are written in a line.
+-- How actions of other nodes are written in a line.
 use Rattle.std.specs.Prelude.{ℕ, ◌≡◌, ◌≤◌, ◌==◌, List, [], ◌∷◌, ◌++◌, codes, decimal, if◌then◌else◌}
 use Rattle.std.specs.List.{join_with_byte}
 use Rattle.std.specs.Str.{byte}
@@ -11,8 +11,8 @@ use Rattle.iox_line.specs.Numbers.{IsNumber}
 use Rattle.iox_line.specs.Options.{AnyOrder}
 use Rattle.iox_line.specs.Services.{service_words, ServiceFits}
 
--- the word writes the step: its verb, a colon, an x and the number of its node; to publish, in either version, also options, if there are
--- any, in any order, after a colon and with a comma between each two
+-- The word writes the action: its verb, a colon, an `x` and the number of its node; to publish, in either version, also options, if there
+-- are any, in any order, after a colon and with commas between them.
 abbrev pub WritesStep : ForeignStep → List ℕ → Type 0
 WritesStep (step.Lock node) word = word ≡ codes "lock:x" ++ decimal node
 WritesStep (step.GiveUp node) word = word ≡ codes "giveup:x" ++ decimal node
@@ -26,7 +26,7 @@ WritesStep (step.Register node) word = word ≡ codes "register:x" ++ decimal no
 WritesStep (step.Leave node) word = word ≡ codes "leave:x" ++ decimal node
 WritesStep (step.Remove node) word = word ≡ codes "remove:x" ++ decimal node
 
--- the numbers have 64 bits, and what is published is of the pattern
+-- The numbers of the action are below 2^64, and a service that it publishes has the pattern.
 abbrev pub StepFits : MessagingPattern → ForeignStep → Type 0
 StepFits pattern (step.Lock node) = IsNumber node
 StepFits pattern (step.GiveUp node) = IsNumber node
@@ -36,14 +36,14 @@ StepFits pattern (step.Register node) = IsNumber node
 StepFits pattern (step.Leave node) = IsNumber node
 StepFits pattern (step.Remove node) = IsNumber node
 
--- the words write lists of steps: the steps in their order, and before the first one of a list a bar and the number of its access; the list
--- of access `now` has begun
+-- The words write lists of actions: the actions in their order, and before the first one of a list a bar and the number of its access; the
+-- list of access `now` has begun.
 abbrev pub WritesLists : ℕ → List StepBefore → List (List ℕ) → Type 0
 WritesLists now [] words = words ≡ []
 WritesLists now (t ∷ ts) words = (w : List ℕ) × (ws : List (List ℕ)) × WritesStep t.step w × WritesLists t.access ts ws
     × (words ≡ (if t.access == now then [] else (codes "|" ++ decimal t.access) ∷ []) ++ w ∷ ws)
 
--- the accesses are counted from 1 and never fall, from `now` on, and their numbers have 64 bits
+-- The accesses are numbered from 1 and never fall, from `now` on, and their numbers are below 2^64.
 abbrev pub ListsFit : MessagingPattern → ℕ → List StepBefore → Type 0
 ListsFit pattern now [] = Unit {0}
 ListsFit pattern now (t ∷ ts) = (1 ≤ t.access) × (now ≤ t.access) × IsNumber t.access × StepFits pattern t.step

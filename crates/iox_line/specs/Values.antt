@@ -1,4 +1,4 @@
--- What an option may be set to, and how it is written.
+-- The values of options, and how they are written.
 use Rattle.std.specs.Prelude.{ℕ, List, [], ◌∷◌, Option, codes}
 use Rattle.iox_domain_values.specs.declared.backpressure_strategy.BackpressureStrategy.{BackpressureStrategy}
 use Rattle.iox_domain_values.specs.declared.backpressure_strategy.BackpressureStrategy.TheVariants as strategy
@@ -10,41 +10,41 @@ use Rattle.iox_domain_values.specs.declared.degradation.DegradationAction.{Degra
 use Rattle.iox_domain_values.specs.declared.degradation.DegradationAction.TheVariants as degradation
 use Rattle.iox_line.specs.Words.{choice}
 
--- how it is written what is done where a connection fails
+-- How an action at a failed connection is written.
 abbrev pub degradation_word : DegradationAction → List ℕ
 degradation_word degradation.Ignore = codes "ignore"
 degradation_word degradation.Warn = codes "warn"
 degradation_word degradation.DegradeAndFail = codes "fail"
 
--- each strategy beside its text
+-- Each strategy with its text.
 abbrev pub strategies : List (List ℕ × BackpressureStrategy)
 strategies = (codes "retry", strategy.RetryUntilDelivered) ∷ (codes "discard", strategy.DiscardData) ∷ []
 
--- the strategy that a word names
+-- The strategy that a word spells.
 abbrev pub strategy_of : List ℕ → Option BackpressureStrategy
 strategy_of word = choice strategies word
 
--- each allocation strategy beside its text
+-- Each allocation strategy with its text.
 abbrev pub allocations : List (List ℕ × AllocationStrategy)
 allocations = (codes "static", allocation.Static) ∷ (codes "best", allocation.BestFit) ∷ (codes "power", allocation.PowerOfTwo) ∷ []
 
--- the allocation strategy that a word names
+-- The allocation strategy that a word spells.
 abbrev pub allocation_of : List ℕ → Option AllocationStrategy
 allocation_of word = choice allocations word
 
--- each answer of a handler beside its text
+-- Each action at a full mailbox with its text.
 abbrev pub handlers : List (List ℕ × BackpressureAction)
 handlers = (codes "follow", handler.FollowBackpressureyStrategy) ∷ (codes "retry", handler.Retry)
     ∷ (codes "discard", handler.DiscardData) ∷ (codes "fail", handler.DiscardDataAndFail) ∷ []
 
--- the answer of a handler that a word names
+-- The action at a full mailbox that a word spells.
 abbrev pub handler_of : List ℕ → Option BackpressureAction
 handler_of word = choice handlers word
 
--- what is done where a connection fails, each beside its text
+-- Each action at a failed connection with its text.
 abbrev pub degradations : List (List ℕ × DegradationAction)
 degradations = (codes "ignore", degradation.Ignore) ∷ (codes "warn", degradation.Warn) ∷ (codes "fail", degradation.DegradeAndFail) ∷ []
 
--- what is done where a connection fails, by the word that names it
+-- The action at a failed connection that a word spells.
 abbrev pub degradation_of : List ℕ → Option DegradationAction
 degradation_of word = choice degradations word

@@ -6,7 +6,7 @@ use Rattle.iox_line.specs.declared.verb.Verb.TheVariants as verb
 use Rattle.iox_line.specs.declared.verb.ServiceVerb.{ServiceVerb}
 use Rattle.iox_line.specs.declared.verb.ServiceVerb.TheVariants as service
 
--- how a verb is written
+-- How a verb is written.
 abbrev pub verb_word : Verb → List ℕ
 verb_word verb.Node = codes "node"
 verb_word verb.Close = codes "close"
@@ -29,40 +29,40 @@ verb_word verb.Update = codes "update"
 verb_word verb.Leave = codes "leave"
 verb_word verb.Has = codes "has"
 
--- verbs that are seldom met, each beside its text
+-- The verbs that are seldom used, each with its text.
 abbrev pub seldom_verbs : List (List ℕ × Verb)
 seldom_verbs = (codes "node", verb.Node) ∷ (codes "close", verb.Close) ∷ (codes "publisher", verb.Publisher)
     ∷ (codes "subscriber", verb.Subscriber)
     ∷ (codes "loan_uninit", verb.LoanUninit) ∷ (codes "drop", verb.Drop) ∷ (codes "retry", verb.Retry) ∷ (codes "giveup", verb.GiveUp)
     ∷ (codes "leave", verb.Leave) ∷ (codes "sequence", verb.Sequence) ∷ []
 
--- all verbs but those that name a service, each beside its text
+-- All verbs except those that name a service, each with its text.
 abbrev pub verbs : List (List ℕ × Verb)
 verbs = (codes "put", verb.Put) ∷ (codes "receive", verb.Receive) ∷ (codes "release", verb.Release) ∷ (codes "loan", verb.Loan)
     ∷ (codes "send", verb.Send)
     ∷ (codes "fill", verb.Fill) ∷ (codes "set", verb.Set) ∷ (codes "read", verb.Read) ∷ (codes "has", verb.Has)
     ∷ (codes "update", verb.Update) ∷ seldom_verbs
 
--- the verb that a word is, of those seldom met
+-- The verb that a word spells, of those that are seldom used.
 abbrev pub seldom_verb_of : List ℕ → Option Verb
 seldom_verb_of word = choice seldom_verbs word
 
--- the verb that a word is
+-- The verb that a word spells.
 abbrev pub verb_of : List ℕ → Option Verb
 verb_of word = choice verbs word
 
--- how a verb that names a service is written
+-- How a verb that names a service is written.
 abbrev pub service_verb_word : ServiceVerb → List ℕ
 service_verb_word service.Create = codes "create"
 service_verb_word service.Open = codes "open"
 service_verb_word service.OpenOrCreate = codes "open_or_create"
 service_verb_word service.Foreign = codes "foreign"
 
--- each verb that names a service beside its text
+-- Each verb that names a service with its text.
 abbrev pub service_verbs : List (List ℕ × ServiceVerb)
 service_verbs = (codes "create", service.Create) ∷ (codes "open", service.Open) ∷ (codes "open_or_create", service.OpenOrCreate)
     ∷ (codes "foreign", service.Foreign) ∷ []
 
--- the verb that a word is, of those that name a service
+-- The verb that a word spells, of those that name a service.
 abbrev pub service_verb_of : List ℕ → Option ServiceVerb
 service_verb_of word = choice service_verbs word

@@ -7,7 +7,7 @@ use crate::text::Words;
 use crate::text::number::{number, numbered};
 use iox_command::{PortNumber, Values};
 
-/// One made value.
+/// The number of a single word, after the letter of its kind.
 pub(crate) fn only(letter: u8, words: Words) -> Option<u64>
     ensures { result ≡ only letter words.entry }
 {
@@ -21,7 +21,7 @@ pub(crate) fn only(letter: u8, words: Words) -> Option<u64>
     numbered(letter, word)
 }
 
-/// A made value and a number.
+/// A number with the letter of its kind, and a second number.
 pub(crate) fn with_number(letter: u8, words: Words) -> Option<(u64, u64)>
     ensures { result ≡ with_number letter words.entry }
 {
@@ -40,7 +40,7 @@ pub(crate) fn with_number(letter: u8, words: Words) -> Option<(u64, u64)>
     Some((made, value))
 }
 
-/// A made value and two numbers.
+/// A number with the letter of its kind, and two more numbers.
 pub(crate) fn with_two(letter: u8, words: Words) -> Option<(u64, u64, u64)>
     ensures { result ≡ with_two letter words.entry }
 {
@@ -63,7 +63,7 @@ pub(crate) fn with_two(letter: u8, words: Words) -> Option<(u64, u64, u64)>
     Some((made, first, last))
 }
 
-/// Numbers.
+/// The numbers that words spell.
 fn numbers<'a>(words: Words, scratch: &'a mut Scratch) -> Option<Values<'a, u64>>
     requires { length words ≤ 1025 }
     ensures { result ≡ numbers words.entry }
@@ -81,7 +81,7 @@ fn numbers<'a>(words: Words, scratch: &'a mut Scratch) -> Option<Values<'a, u64>
     })
 }
 
-/// A made value and numbers, or none after it.
+/// A number with the letter of its kind, and any number of numbers after it.
 pub(crate) fn with_values<'a>(
     letter: u8,
     words: Words,
@@ -99,7 +99,7 @@ pub(crate) fn with_values<'a>(
     Some((made, values))
 }
 
-/// One port.
+/// The port that a single word names.
 pub(crate) fn port(words: Words) -> Option<PortNumber>
     ensures { result ≡ port_of words.entry }
 {

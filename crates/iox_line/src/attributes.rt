@@ -1,12 +1,12 @@
 //! How a line gives attributes: `@KEY=VALUE` defines or requires a pair, `@KEY` requires a key.
 //!
-//! How each is written is in `specs/Attributes.antt`.
+//! `specs/Attributes.antt` says how each is written.
 //!
 //! | Module | What it has |
 //! |---|---|
 //! | `part` | one word of attributes |
 //! | `specifier` | the attributes that words define |
-//! | `verifier` | what words require |
+//! | `verifier` | the attributes that words require |
 //!
 //! First calls. `read_command` makes them.
 //!

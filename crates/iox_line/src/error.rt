@@ -1,21 +1,21 @@
-//! Why a line is no command.
+//! Why a line isn't a command.
 ghost use Rattle.std.specs.Prelude.{◌≡◌};
 ghost use Rattle.iox_line.specs.LineFault.{fault_text};
 
 use thiserror::Error;
 
-/// Why a line is no command. This port's own.
+/// Why a line isn't a command. Not in `iceoryx2`.
 #[derive(Clone, Copy, Debug, PartialEq, Eq, Hash, Error)]
 #[error("{}", self.text())]
 pub enum LineError {
-    /// It spells no command.
+    /// The line spells no command.
     Faulty,
-    /// It has more than 1,024 bytes.
+    /// The line has more than 1,024 bytes.
     TooLong,
 }
 
 impl LineError {
-    /// What it displays as, which the reply has after `err `.
+    /// The text that the error displays, which follows `err ` in the reply.
     pub fn text(&self) -> &'static str
         ensures { result.now ≡ fault_text self.now }
     {

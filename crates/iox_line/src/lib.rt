@@ -1,22 +1,22 @@
 //! Script lines: from the bytes of a line to the command that it spells, and from a reply to the bytes of its line.
 //!
-//! Which bytes spell a command is in `specs/Spelling.antt`, the bytes of each reply in `specs/ReplyText.antt`.
+//! `specs/Spelling.antt` says which bytes spell a command, `specs/ReplyText.antt` which bytes each reply has.
 //!
 //! | Module | What it has |
 //! |---|---|
 //! | `text` | words, numbers and options |
 //! | `services` | how a line names a service |
-//! | `attributes` | how it gives attributes |
-//! | `steps` | how it gives steps of foreign processes |
+//! | `attributes` | how a line names attributes |
+//! | `steps` | how a line names actions of other nodes |
 //! | `verb` | the first word of a line |
-//! | `scratch` | room for the values of a line |
+//! | `scratch` | memory for the values of a line |
 //! | `arguments` | the numbers after the first word |
 //! | `port_options` | the options of a publisher and of a subscriber |
 //! | `service` | lines that name a service |
 //! | `read` | from a line to its command |
-//! | `laws` | that a line spells one command at most, and that each command has one |
+//! | `laws` | a line spells at most one command, and each command has a line |
 //! | `print` | from a reply to its line |
-//! | `error` | why a line is no command |
+//! | `error` | why a line isn't a command |
 //!
 //! A first call:
 //!

@@ -9,7 +9,7 @@ use crate::text::value::{
 };
 use iox_command::{PublisherOptions, SubscriberOptions};
 
-/// The options of a publisher; `None` if a word is none of them, or one comes twice.
+/// The options of a publisher; `None` if a word isn't an option, or an option is named twice.
 pub(crate) fn publisher_options(words: &Words) -> Option<PublisherOptions>
     ensures { result ≡ publisher_of words.now }
 {
@@ -27,7 +27,7 @@ pub(crate) fn publisher_options(words: &Words) -> Option<PublisherOptions>
     )
 }
 
-/// The options of a subscriber; `None` if a word is none of them, or one comes twice.
+/// The options of a subscriber; `None` if a word isn't an option, or an option is named twice.
 pub(crate) fn subscriber_options(words: &Words) -> Option<SubscriberOptions>
     ensures { result ≡ subscriber_of words.now }
 {

@@ -7,7 +7,7 @@ use iox_command::{Refusal, Reply};
 use itoa::Buffer;
 use std::alloc::AllocError;
 
-/// Appends the bytes of a reply, without a newline, or changes nothing where an allocation fails.
+/// Appends the bytes of a reply, without a newline. Changes nothing if an allocation fails.
 pub fn print_reply(reply: &Reply<u64>, out: &mut Vec<u8>) -> Result<(), AllocError>
     ensures ok { OnOk result (out.new.items ≡ out.old.items ++ reply_text reply.now) }
     ensures err { OnErr result (out.new.items ≡ out.old.items) }
@@ -45,7 +45,7 @@ fn append_reply(reply: &Reply<u64>, out: &mut Vec<u8>) -> Result<(), AllocError>
     }
 }
 
-// These texts are short, so their bytes are put down one by one.
+// These texts are short, so their bytes are written one by one.
 #[inline(always)]
 fn append(text: &[u8], out: &mut Vec<u8>) -> Result<(), AllocError>
     ensures ok { OnOk result (out.new.items ≡ out.old.items ++ text.now) }

@@ -20,11 +20,11 @@ use iox_command::Command;
 use iox_command::ports::PortCommand;
 use std::alloc::{AllocError, Global};
 
-/// The command that a line spells, without its newline. The values of a message are put into the scratch.
+/// The command that a line spells; the line is given without its newline. The values of a message are put into the scratch.
 ///
-/// The answer is `LineError::TooLong` if the line has more than 1,024 bytes, else `LineError::Faulty` if it spells no command.
-/// Fails for memory only where the line spells a command with attributes or with foreign steps: all others take
-/// none, and a line that is no command is found so without any.
+/// The answer is `LineError::TooLong` if the line has more than 1,024 bytes, and otherwise `LineError::Faulty` if it spells no command.
+/// Fails only if an allocation fails and the line spells a command with attributes or with actions of other nodes: all other commands take
+/// no memory, and that a line isn't a command is found without memory.
 pub fn read_command<'a>(
     alloc: Global,
     line: &[u8],
@@ -42,8 +42,9 @@ pub fn read_command<'a>(
     }
 }
 
-/// The command of a port that a line spells, without its newline; `None` if it spells none, or has more than 1,024 bytes.
-/// The values of a message are put into the scratch. It takes no memory, and what it answers is what `read_command` answers.
+/// The command on an existing port that a line spells, given without its newline; `None` if it spells none, or has more than 1,024 bytes.
+/// The values of a message are put into the scratch. It takes no memory, and a command that it answers is the one that `read_command`
+/// answers.
 pub fn read_port_command<'a>(line: &[u8], scratch: &'a mut Scratch) -> Option<PortCommand<'a, u64>>
     ensures some { IfSome result (λ command. (length line.now ≤ 1024) × Spells line.now (command_of command)) }
     ensures none { result ≡ None → (command : PortCommand ℕ) → length line.now ≤ 1024 → Spells line.now (command_of command) → ⊥ }

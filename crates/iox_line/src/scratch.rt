@@ -1,4 +1,4 @@
-//! Room for the values of a line.
+//! Memory for the values of a line.
 ghost use Rattle.std.specs.Prelude.{◌≡◌, ◌<◌, [], ◌∷◌, ◌++◌, length, IfOk};
 
 use std::alloc::{AllocError, Global};
@@ -7,10 +7,10 @@ use std::marker::Model;
 /// The most values that a line of 1,024 bytes could have, and more than it has.
 const MOST_VALUES: usize = 1_025;
 
-/// Room for the values of one line, which is taken once and used for line after line.
+/// Memory for the values of one line, which is allocated once and used for line after line.
 /// Contracts see it as the list of the values in it.
 ///
-/// This port's own.
+/// Not in `iceoryx2`.
 #[derive(Drop)]
 pub struct Scratch {
     room: Vec<u64>,
@@ -28,7 +28,7 @@ impl Model for Scratch {
 }
 
 impl Scratch {
-    /// Room for the values of any line. Fails only where an allocation fails.
+    /// A scratch with capacity for the values of any line. Fails only if an allocation fails.
     pub fn new(alloc: Global) -> Result<Self, AllocError>
         ensures { IfOk result (λ scratch. scratch ≡ []) }
     {
@@ -37,7 +37,7 @@ impl Scratch {
         })
     }
 
-    /// Lets all values go.
+    /// Removes all values.
     pub(crate) fn clear(&mut self)
         ensures { self.new ≡ [] }
     {

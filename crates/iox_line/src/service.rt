@@ -13,7 +13,7 @@ use crate::verb::ServiceVerb;
 use iox_command::Command;
 use std::alloc::{AllocError, Global};
 
-/// The command of a verb that names a service, and the words after it.
+/// The command of a verb that names a service, and of the words after it.
 pub(crate) fn of_service<'a>(
     alloc: Global,
     verb: ServiceVerb,

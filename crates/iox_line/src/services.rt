@@ -1,10 +1,10 @@
 //! How a line names a service: its node, its pattern and name, and the options of the pattern.
 //!
-//! How each is written is in `specs/Services.antt`.
+//! `specs/Services.antt` says how each is written.
 //!
 //! | Module | What it has |
 //! |---|---|
-//! | `value` | switches, numbers that may be off, patterns and names |
+//! | `value` | switches, numbers that can be off, patterns and names |
 //! | `options` | the options of each pattern |
 //! | `service` | the service that a line names |
 //!

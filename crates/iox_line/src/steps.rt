@@ -1,12 +1,12 @@
-//! How a line gives steps of foreign processes: after `foreign`, and in lists `|I STEP..` before the accesses of a call.
+//! How a line names actions of other nodes: after `foreign`, and in lists `|I STEP..` before the accesses of a call.
 //!
-//! How each is written is in `specs/Steps.antt`.
+//! `specs/Steps.antt` says how each is written.
 //!
 //! | Module | What it has |
 //! |---|---|
-//! | `step` | one step |
-//! | `foreign` | the steps of a line of their own |
-//! | `lists` | the lists of steps before accesses |
+//! | `step` | one action |
+//! | `foreign` | the actions of a `foreign` line |
+//! | `lists` | the lists of actions before accesses |
 //!
 //! First calls. `read_command` makes them.
 //!

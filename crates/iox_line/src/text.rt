@@ -1,11 +1,11 @@
-//! The words of a script line: what is written in single words, and options in any order.
+//! The words of a script line: what single words spell, and options in any order.
 //!
 //! | Module | What it has |
 //! |---|---|
 //! | `words` | the words of a line, one after the other, and other pieces of a text |
-//! | `number` | numbers, and those of made values |
+//! | `number` | numbers, and numbers with the letter of their kind |
 //! | `options` | options of the form `key=value`, in any order |
-//! | `value` | what an option may be set to |
+//! | `value` | the values of options |
 //! | `visible` | texts of visible bytes |
 //!
 //! A first call. `read_command` makes it.

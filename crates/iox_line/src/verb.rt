@@ -3,7 +3,7 @@ ghost use Rattle.std.specs.Prelude.{◌≡◌};
 ghost use Rattle.iox_line.specs.Words.{same};
 ghost use Rattle.iox_line.specs.Verbs.{verb_of, seldom_verb_of, service_verb_of};
 
-/// What a line asks for. This port's own.
+/// What a line asks for. Not in `iceoryx2`.
 #[derive(Clone, Copy)]
 pub enum Verb {
     /// `node`
@@ -48,7 +48,7 @@ pub enum Verb {
     Has,
 }
 
-/// What a line asks for that names a service. This port's own.
+/// What a line asks for that names a service. Not in `iceoryx2`.
 #[derive(Clone, Copy)]
 pub enum ServiceVerb {
     /// `create`
@@ -61,7 +61,7 @@ pub enum ServiceVerb {
     Foreign,
 }
 
-// Whether a word is this text. Verbs are short: to look at their bytes in turn is quicker than to compare slices.
+// Whether a word is this text. Verbs are short: comparing their bytes one by one is quicker than comparing slices.
 #[inline(always)]
 fn is(word: &[u8], text: &[u8]) -> bool
     ensures { result ≡ same word.now text.now }
@@ -77,7 +77,7 @@ fn is(word: &[u8], text: &[u8]) -> bool
     true
 }
 
-/// What a first word asks for, but for those that name a service; `None` if nothing that there is.
+/// The verb that a first word spells, except those that name a service; `None` if it isn't one.
 pub fn first_verb(word: &[u8]) -> Option<Verb>
     ensures { result ≡ verb_of word.now }
 {
@@ -135,7 +135,7 @@ fn seldom_verb(word: &[u8]) -> Option<Verb>
     }
 }
 
-/// What a first word that names a service asks for; `None` if nothing that there is.
+/// The verb that a first word spells, of those that name a service; `None` if it isn't one.
 pub fn service_verb(word: &[u8]) -> Option<ServiceVerb>
     ensures { result ≡ service_verb_of word.now }
 {

@@ -1,4 +1,4 @@
--- What the nodes of a service agree on, and whether that can be and is as it was asked for.
+-- What the nodes of a service agree on, whether it is possible, and whether it meets what an opening asks for.
 use Rattle.std.specs.Prelude.{ℕ, ◌^◌, Bool, true, false, not, ◌&&◌, ◌==◌, bytes_eq, nat_lt, nat_le, List, [], ◌∷◌, Option, None, Some}
 use Rattle.std.specs.Prelude.{Result, Ok, Err, if◌then◌else◌}
 use Rattle.std.specs.List.{list_any, list_all}
@@ -21,12 +21,12 @@ use Rattle.iox_command.specs.declared.service.NumberOrOff.TheVariants.{Number, O
 use Rattle.iox_command.specs.declared.service.ServiceOptions.{ServiceOptions}
 use Rattle.iox_command.specs.declared.service.ServiceOptions.TheVariants as options
 
--- what the nodes of a service agree on: its settings, with its types, and its attributes
+-- What the nodes of a service agree on: its settings, with its types, and its attributes.
 pub record Agreement : Type 0 where
   pub settings : Settings
   pub attributes : List Attribute
 
--- whether the numbers of settings are within the limits
+-- Whether all numbers of the settings are within their limits.
 abbrev pub are_within_limits : Settings → Bool
 are_within_limits (settings.PublishSubscribe c) =
     nat_lt c.max_nodes (2 ^ 24) && (nat_lt c.max_publishers (2 ^ 24) && (nat_lt c.max_subscribers (2 ^ 24)
@@ -35,8 +35,8 @@ are_within_limits (settings.PublishSubscribe c) =
 are_within_limits (settings.Event c) = nat_lt c.max_nodes (2 ^ 24)
 are_within_limits (settings.RequestResponse c) = nat_lt c.max_nodes (2 ^ 24)
 
--- Why no service of such settings can be created, whatever stands: a number isn't within its limit; or, without safe overflow, the buffer
--- of a subscriber is shorter than the history.
+-- Why no service with these settings can be created, whatever exists already: a number isn't within its limit; or, without safe overflow,
+-- the subscribers' buffer is shorter than the history. None if the settings are possible.
 abbrev pub unfit : Settings → Option CreateFailure
 unfit (settings.PublishSubscribe c) =
     if not (are_within_limits (settings.PublishSubscribe c)) then Some InternalFailure
@@ -44,33 +44,32 @@ unfit (settings.PublishSubscribe c) =
     then Some SubscriberBufferMustBeLargerThanHistorySize else None)
 unfit other = if are_within_limits other then None else Some InternalFailure
 
--- whether a number is at least what is named, if something is
+-- Whether a number is at least the one that was named, or none was named.
 abbrev pub is_enough : Option ℕ → ℕ → Bool
 is_enough None given = true
 is_enough (Some least) given = nat_le least given
 
--- whether a switch is as it is named, if it is
+-- Whether a switch is as it was named, or wasn't named.
 abbrev pub is_switched : Option Bool → Bool → Bool
 is_switched None given = true
 is_switched (Some true) given = given
 is_switched (Some false) given = not given
 
--- whether a setting that may be off is as it is named, if it is
+-- Whether a setting that can be off is as it was named, or wasn't named.
 abbrev pub is_as_named : Option NumberOrOff → Option ℕ → Bool
 is_as_named None given = true
 is_as_named (Some (Number number)) (Some given) = number == given
 is_as_named (Some Off) None = true
 is_as_named named given = false
 
--- whether attributes have all that is required of them: each pair, and each key with some value
+-- Whether the attributes have each required pair, and each required key with some value.
 abbrev pub have_required : Required → List Attribute → Bool
 have_required required attributes =
     list_all (λ pair. list_any (λ one. bytes_eq one.key pair.key && bytes_eq one.value pair.value) attributes)
     required.pairs
     && list_all (λ key. list_any (λ one. bytes_eq one.key key) attributes) required.keys
 
--- Whether types that are asked for are those that are given: all is equal, but for the payload's alignment, of which at most the given one
--- is asked.
+-- Whether the types that are asked for agree with the given ones: all is equal, except that the given payload alignment may be larger.
 abbrev pub types_agree : MessageTypeDetails → MessageTypeDetails → Bool
 types_agree asked given =
     (same_variant asked.header.variant given.header.variant
@@ -84,13 +83,12 @@ types_agree asked given =
     && (asked.payload.size == given.payload.size)
     && nat_le asked.payload.alignment given.payload.alignment
 
--- What clauses come to, each with whether it is met: that all are, or how it is told that the first isn't.
+-- The verdict on clauses, each with whether it is met: success if all are met, or else the error of the first that isn't.
 abbrev pub verdict_on : {E : Type 0} → (E → Refusal) → List (Bool × E) → Result (Unit {0}) Refusal
 verdict_on told [] = Ok tt
 verdict_on told (clause ∷ more) = if clause.0 then verdict_on told more else Err (told clause.1)
 
--- Whether a service meets what is asked of it, or for which clause it isn't opened: the first that it doesn't meet; its pattern comes
--- first.
+-- Whether a service meets what an opening asks for, or the error of the first clause that it doesn't meet; the pattern comes first.
 abbrev pub verdict : MessageTypeDetails → ServiceOptions → Required → Agreement → Result (Unit {0}) Refusal
 verdict types (options.PublishSubscribe named) required agreed =
     elim agreed.settings [

@@ -1,4 +1,4 @@
--- Laws of agreements: what nodes agree on under a pattern and a name, and what a new life of it starts with.
+-- Theorems about agreements: what nodes agree on under a pattern and a name, and how a new lifetime starts.
 use Rattle.std.specs.Prelude.{ℕ, ◌≡◌, ◌⊎◌, ◌<◌, ◌≤◌, ◌&&◌, true, false, List, [], ◌∷◌, length, Option, None, Some, bytes_eq}
 use Rattle.std.specs.List.{AllByRecursion, IsDistinct, list_any}
 use Rattle.iox_machine.specs.Choices.{Choices}
@@ -24,59 +24,59 @@ use Rattle.iox_command.specs.declared.step.ForeignStep.{ForeignStep}
 use Rattle.iox_command.specs.declared.step.ForeignStep.TheVariants as step
 use Rattle.iox_command.specs.declared.step.StepBefore.{StepBefore}
 
--- which life a phase is of, or how many there were where nothing stands
+-- The number of the phase's lifetime; for an absent phase, of the last lifetime, or 0.
 abbrev pub life_of : Phase → ℕ
 life_of (Absent lives) = lives
 life_of (BeingMade life by) = life
 life_of (Published life agreed nodes) = life
 life_of (Emptied life agreed by) = life
 
--- what is agreed on in a phase
+-- The agreement of a phase, if the phase has one.
 abbrev pub agreed_in : Phase → Option Agreement
 agreed_in (Published life agreed nodes) = Some agreed
 agreed_in (Emptied life agreed by) = Some agreed
 agreed_in other = None
 
--- A service is published, with these nodes in it.
+-- The service is published, and `So` holds of its agreement and of the nodes that are in it.
 abbrev pub IsPublished : Phase → (Agreement → List (Node × ℕ) → Type 0) → Type 0
 IsPublished phase So = (life : ℕ) × (agreed : Agreement) × (nodes : List (Node × ℕ)) × (phase ≡ Published life agreed nodes)
     × So agreed nodes
 
 module _ {T : Type 0} where
-  -- No two services have one name.
+  -- No two of these services have the same name.
   abbrev pub AreApart : List (Service T) → Type 0
   AreApart services = IsDistinct (λ (one other : Service T). bytes_eq other.name one.name) services
 
-  -- A service has the settings that are published under its name, and the hub has a factory of it.
+  -- The service has the settings that are published under its name, and the hub has a factory of it.
   abbrev pub IsAgreed : State T → Service T → Type 0
   IsAgreed state service =
       IsPublished (state.phases pattern.PublishSubscribe service.name)
       (λ agreed nodes. agreed.settings ≡ settings.PublishSubscribe service.settings)
       × (list_any (λ entry. is_service_of entry.1 service) state.factories ≡ true)
 
-  -- The service of a factory is published, its node is in it, and its ports stand in the hub if it is of publish-subscribe.
+  -- The service of the factory is published, and the factory's node is in it. If the service is publish-subscribe, it is open in the hub.
   abbrev pub IsIn : State T → Factory → Type 0
   IsIn state factory =
       IsPublished (state.phases factory.pattern factory.name) (λ agreed nodes. is_in (Own factory.node) nodes ≡ true)
       × (factory.pattern ≡ pattern.PublishSubscribe → list_any (is_service_of factory) state.services ≡ true)
 
--- Each of these goes by a number above this one.
+-- Each number of the table is above this one.
 abbrev pub AreAbove : {V : Type 0} → ℕ → List (ℕ × V) → Type 0
 AreAbove number table = AllByRecursion (λ entry. number < entry.0) table
 
--- Each port, loan and sample of a service came after so many were made.
+-- Each port, loan and sample of the service has a number above these counts.
 abbrev pub IsLaterThan : {T : Type 0} → Made → Service T → Type 0
 IsLaterThan made service =
     AreAbove made.publishers service.publishers × AreAbove made.subscribers service.subscribers
     × AreAbove made.loans service.loans × AreAbove made.samples service.samples
 
--- One of these is so.
+-- `Is` holds of at least one element of the list.
 abbrev pub HasOne : {X : Type 0} → (X → Type 0) → List X → Type 0
 HasOne Is [] = ⊥
 HasOne Is (x ∷ more) = Is x ⊎ HasOne Is more
 
 module _ (types : MessageTypeDetails) (pattern : MessagingPattern) (agreed : Agreement) where
-  -- A node outside the hub publishes such a service.
+  -- The action of another node publishes this agreement.
   abbrev pub IsPublishedBy : ForeignStep → Type 0
   IsPublishedBy (step.Publish node options) =
       (pattern_of options ≡ pattern) × (agreed ≡ record { settings = settings_of types options; attributes = [] })
@@ -85,7 +85,7 @@ module _ (types : MessageTypeDetails) (pattern : MessagingPattern) (agreed : Agr
       × (has_numbers agreed.settings ≡ false)
   IsPublishedBy other = ⊥
 
-  -- A command describes this agreement, under a name: it is to create such a service, or has a node outside the hub publish it.
+  -- The command describes this agreement under this name: it is to create such a service, or has another node publish it.
   abbrev pub Describes : {T : Type 0} → List ℕ → Command T → Type 0
   Describes name (command.Create node other options attributes steps) =
       (other ≡ name) × (pattern_of options ≡ pattern)
@@ -101,21 +101,21 @@ module _ (types : MessageTypeDetails) (pattern : MessagingPattern) (agreed : Agr
   Describes name other = ⊥
 
 module _ {T : Type 0} (choices : Choices T) where
-  -- In every run of a new machine: no two services have one name; each has the settings that are published under its name; and each
-  -- factory is of a published service, in which its node is.
+  -- In every run of a new machine, no two services have the same name; each has the settings that are published under its name; and each
+  -- factory is of a published service in which the factory's node is.
   abbrev pub OneAgreement : Type 0
   OneAgreement = (types : MessageTypeDetails) (buffer : ℕ) (asked : List (Command T)) (answers : List (Reply T)) (new : State T)
       → Runs types choices buffer asked new_state answers new
       → AreApart new.services × AllByRecursion (IsAgreed new) new.services × AllByRecursion (λ entry. IsIn new entry.1) new.factories
 
-  -- In every run of a new machine no more nodes are in a service than its settings name, of the hub and outside it together.
+  -- In every run of a new machine, no more nodes are in a service than its settings allow, nodes of the hub and others together.
   abbrev pub NodesAreAgreed : Type 0
   NodesAreAgreed = (types : MessageTypeDetails) (buffer : ℕ) (asked : List (Command T)) (answers : List (Reply T)) (new : State T)
       → Runs types choices buffer asked new_state answers new
       → (pattern : MessagingPattern) (name : List ℕ) (life : ℕ) (agreed : Agreement) (nodes : List (Node × ℕ))
       → new.phases pattern name ≡ Published life agreed nodes → length nodes ≤ max_nodes_of agreed.settings
 
-  -- Through any run lives go on one after the other, and in one life what is agreed on stays as it is.
+  -- In any run, the number of a lifetime never falls, and within one lifetime the agreement stays as it is.
   abbrev pub AgreementStays : Type 0
   AgreementStays = (types : MessageTypeDetails) (buffer : ℕ) (asked : List (Command T)) (old : State T) (answers : List (Reply T))
       (new : State T)
@@ -124,14 +124,14 @@ module _ {T : Type 0} (choices : Choices T) where
       × ((one other : Agreement) → life_of (new.phases pattern name) ≡ life_of (old.phases pattern name)
       → agreed_in (old.phases pattern name) ≡ Some one → agreed_in (new.phases pattern name) ≡ Some other → other ≡ one)
 
-  -- What is agreed on under a pattern and a name after a command was so before, or is described by the command.
+  -- The agreement under a pattern and a name after a command was the agreement before it, or the command describes it.
   abbrev pub AgreementIsDescribed : Type 0
   AgreementIsDescribed = (types : MessageTypeDetails) (buffer : ℕ) (asked : Command T) (old : State T) (answer : Reply T) (new : State T)
       → Step types choices buffer asked old answer new
       → (pattern : MessagingPattern) (name : List ℕ) (agreed : Agreement) → agreed_in (new.phases pattern name) ≡ Some agreed
       → (agreed_in (old.phases pattern name) ≡ Some agreed) ⊎ Describes types pattern agreed name asked
 
-  -- A node that creates a service has just what it described: in a new life, with it alone.
+  -- A service that a node created is published exactly as the command described it, in a new lifetime, with this node alone.
   abbrev pub CreatesAsDescribed : Type 0
   CreatesAsDescribed = (types : MessageTypeDetails) (buffer node : ℕ) (name : List ℕ) (options : ServiceOptions)
       (attributes : List Attribute)
@@ -141,15 +141,15 @@ module _ {T : Type 0} (choices : Choices T) where
       × (new.phases (pattern_of options) name
       ≡ Published life (record { settings = settings_of types options; attributes = attributes }) ((Own node, 1) ∷ []))
 
-  -- A service that stands after a command, and none of its name before, has nothing: no port, no mailbox, no history, no message.
+  -- A service that is open after a command, and wasn't open before it, is empty: no port, no mailbox, no history, no message.
   abbrev pub ServicesStartEmpty : Type 0
   ServicesStartEmpty = (types : MessageTypeDetails) (buffer : ℕ) (asked : Command T) (old : State T) (answer : Reply T) (new : State T)
       → Step types choices buffer asked old answer new
       → AllByRecursion (λ service. (list_any (λ other. bytes_eq other.name service.name) old.services ≡ true)
       ⊎ (service ≡ new_service service.name service.settings)) new.services
 
-  -- Once a new machine has no factory of a service, it has no such service. What is later of that name goes by numbers that were not given
-  -- yet: ports, loans and samples.
+  -- If a new machine, after a run, has no factory of a service, it has no such service. Ports, loans and samples that a later service of
+  -- that name has get numbers that weren't given before.
   abbrev pub LivesStartAnew : Type 0
   LivesStartAnew = (types : MessageTypeDetails) (buffer : ℕ) (before : List (Command T)) (told : List (Reply T)) (old : State T)
       → Runs types choices buffer before new_state told old

@@ -1,4 +1,4 @@
--- How publishers and subscribers come.
+-- How publishers and subscribers are created.
 use Rattle.std.specs.Prelude.{ℕ, ◌+◌, ◌*◌, ◌^◌, ◌≡◌, ◌⊎◌, ◌||◌, true, false, nat_lt, nat_le, min, max, [], ◌∷◌, ◌++◌, replicate, set}
 use Rattle.std.specs.Prelude.{slice_get, None, Some, is_some, unwrap_or, MatchBool, if◌then◌else◌}
 use Rattle.std.specs.List.{list_all}
@@ -18,14 +18,14 @@ use Rattle.iox_command.specs.declared.refusal.Refusal.TheVariants as refusal
 use Rattle.iox_command.specs.declared.reply.Reply.{Reply}
 use Rattle.iox_command.specs.declared.reply.Reply.TheVariants as reply
 
--- how many messages of a publisher may be in use in the worst case: what waits for each subscriber and is borrowed by it, the history, and
--- the loans
+-- How many messages of a publisher may be in use in the worst case: what each subscriber may have waiting and borrowed, the history, and
+-- the loans.
 abbrev pub worst_case : StaticConfig → ℕ → ℕ
 worst_case settings loans =
     settings.max_subscribers * (settings.subscriber_max_buffer_size + settings.subscriber_max_borrowed_samples) +
     (settings.history_size + loans)
 
--- a subscriber that isn't connected yet; as many messages may wait for it as it names, but 1 at least
+-- A subscriber that isn't connected yet; its buffer size is the one that was named, or the service's, but at least 1.
 abbrev pub new_subscriber : ℕ → SubscriberOptions → StaticConfig → Subscriber
 new_subscriber factory options settings = record {
   factory = factory;
@@ -39,7 +39,8 @@ new_subscriber factory options settings = record {
 }
 
 module _ {T : Type 0} where
-  -- a publisher that isn't connected yet; it has as many slots as the worst case needs, or as it names, if that is fewer, but 1 at least
+  -- A publisher that isn't connected yet; its number of slots is what the worst case needs, or what was named if that is fewer, but at
+  -- least 1.
   abbrev pub new_publisher : ℕ → PublisherOptions → StaticConfig → Publisher T
   new_publisher factory options settings =
       let loans = unwrap_or options.max_loaned_samples 2 in
@@ -63,8 +64,8 @@ module _ {T : Type 0} where
         blocked = None;
       }
 
-  -- A publisher comes: it follows the list of subscribers, and registers at any free place. It is refused where it needs too many slots or
-  -- too long ones, then where no place is free, then for want of memory. A connection that fails doesn't keep it from coming.
+  -- A publisher is created: it follows the list of subscribers, and is registered at any free place. It is refused if it needs too many
+  -- slots or too long ones, then if no place is free, then for memory. A connection that fails doesn't prevent its creation.
   abbrev pub PublisherArrives : ℕ → Publisher T → Service T → Reply T → Service T → Type 0
   PublisherArrives number publisher old answer new =
       MatchBool (nat_le (2 ^ 32) (worst_case old.settings publisher.max_loaned_samples) || nat_le (2 ^ 32) publisher.room)
@@ -82,8 +83,8 @@ module _ {T : Type 0} where
         };
       }))))
 
-  -- A subscriber comes: it follows the list of publishers, and registers at any free place. It is refused where more may wait for it than
-  -- the service allows, then where no place is free, then for want of memory. A connection that fails doesn't keep it from coming.
+  -- A subscriber is created: it follows the list of publishers, and is registered at any free place. It is refused if its buffer is larger
+  -- than the service allows, then if no place is free, then for memory. A connection that fails doesn't prevent its creation.
   abbrev pub SubscriberArrives : ℕ → ℕ → Subscriber → Service T → Reply T → Service T → Type 0
   SubscriberArrives buffer number subscriber old answer new =
       MatchBool (nat_lt old.settings.subscriber_max_buffer_size subscriber.buffer_size)

@@ -1,4 +1,4 @@
--- What others choose: what a default value is, and who decides for ports.
+-- What the machine leaves to others: which values are default values, and what handlers choose for ports.
 use Rattle.std.specs.Prelude.{ℕ, ◌-◌, ◌^◌, ◌≡◌, min, Option, MatchOption}
 use Rattle.iox_command.specs.DomainValues.declared.backpressure.BackpressureDecision.{BackpressureDecision}
 use Rattle.iox_command.specs.DomainValues.declared.backpressure.BackpressureInfo.{BackpressureInfo}
@@ -7,16 +7,16 @@ use Rattle.iox_command.specs.DomainValues.declared.degradation.DegradationCause.
 use Rattle.iox_command.specs.DomainValues.declared.degradation.DegradationCause.TheVariants.{FailedToEstablishConnection}
 use Rattle.iox_command.specs.DomainValues.declared.degradation.DegradationInfo.{DegradationInfo}
 
--- What may be chosen: which default value; which decision for the publisher of a number, at a full mailbox that was tried again so often,
--- and so many nanoseconds after it was found full; and which action for a port of a number, where a connection of it failed. What a command
--- named for the port is given, or what that comes to.
+-- What may be chosen: which value is a default value; which decision a publisher with this number gets at a full mailbox, after so many
+-- retries and so many nanoseconds since it was found full; and which action a port with this number takes when a connection of it failed.
+-- The last three may depend on what the command named for the port, or its default.
 pub record Choices (T : Type 0) : Type 1 where
   pub is_default : T → Type 0
   pub publisher_decides : (publisher retries elapsed : ℕ) → (named decision : BackpressureDecision) → Type 0
   pub publisher_acts : (publisher : ℕ) → (named action : DegradationAction) → Type 0
   pub subscriber_acts : (subscriber : ℕ) → (named action : DegradationAction) → Type 0
 
--- For each port it is chosen what was named.
+-- The choices by which each port does what was named for it.
 abbrev pub as_named : {T : Type 0} → (T → Type 0) → Choices T
 as_named is_default = record {
   is_default = is_default;
@@ -25,13 +25,13 @@ as_named is_default = record {
   subscriber_acts = λ subscriber named action. action ≡ named;
 }
 
--- Who was handed in to decide for publishers and subscribers, by their numbers.
+-- The handlers that were handed in for publishers and for subscribers, by port number.
 pub record Handed (B D : Type 0) : Type 0 where
   pub publishers : ℕ → Option B
   pub subscribers : ℕ → Option D
 
--- For a port for which somebody was handed in it is chosen what that one may answer, who is told as many retries, but 2^64 - 1 at most, and
--- the same time; for all others what was named.
+-- The choices by which a port with a handed-in handler does what the handler may answer, and every other port what was named for it. A
+-- handler is told the same elapsed time, and as many retries, but at most 2^64 - 1.
 abbrev pub chosen_by : {T B D : Type 0} → (T → Type 0) → (B → BackpressureInfo → BackpressureDecision → Type 0)
     → (B → DegradationCause → DegradationInfo → DegradationAction → Type 0)
     → (D → DegradationCause → DegradationInfo → DegradationAction → Type 0) → Handed B D → Choices T

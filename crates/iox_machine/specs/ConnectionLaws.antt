@@ -1,4 +1,4 @@
--- Laws of who is listed, and of who is connected to whom.
+-- Theorems about which ports are listed, and which are connected.
 use Rattle.std.specs.Prelude.{ℕ, ◌+◌, ◌≡◌, ◌≤◌, Bool, true, false, not, ◌&&◌, ◌==◌, List, [], ◌∷◌, is_some, if◌then◌else◌}
 use Rattle.std.specs.List.{AllByRecursion, IsDistinct, list_any}
 use Rattle.std.specs.Option.{option_map_or}
@@ -14,7 +14,7 @@ use Rattle.iox_command.specs.declared.command.Command.{Command}
 use Rattle.iox_command.specs.declared.reply.Reply.{Reply}
 
 module _ {T : Type 0} where
-  -- The two lists of a service have just the ports of it that stand, each at one place.
+  -- The two lists of the service have exactly its open ports, each at one place.
   abbrev pub ListsWhoStands : Service T → Type 0
   ListsWhoStands service =
       ((number : ℕ) → contains (those service.publisher_list.places) number ≡ is_some (publisher_in number service))
@@ -22,7 +22,7 @@ module _ {T : Type 0} where
       × IsDistinct (λ one other. one == other) (those service.publisher_list.places)
       × IsDistinct (λ one other. one == other) (those service.subscriber_list.places)
 
-  -- Who is connected is of one service, and the two have a mailbox.
+  -- Two ports of the service of which one is connected to the other are both of this service, and have a mailbox.
   abbrev pub JoinsWhoIsConnected : Service T → Type 0
   JoinsWhoIsConnected service =
       ((publisher subscriber : ℕ)
@@ -32,20 +32,20 @@ module _ {T : Type 0} where
       → option_map_or (λ one. contains (those one.connected) publisher) (at subscriber service.subscribers) false ≡ true
       → (is_some (service.mailboxes publisher subscriber) ≡ true) × (is_some (at publisher service.publishers) ≡ true))
 
-  -- whether a publisher is connected to a subscriber
+  -- Whether this publisher is connected to this subscriber.
   abbrev pub reaches : ℕ → ℕ → State T → Bool
   reaches publisher subscriber state = list_any
       (λ service. option_map_or (λ one. contains (those one.connected) subscriber) (at publisher service.publishers) false)
       state.services
 
-  -- whether a subscriber is connected to a publisher
+  -- Whether this subscriber is connected to this publisher.
   abbrev pub hears : ℕ → ℕ → State T → Bool
   hears publisher subscriber state = list_any
       (λ service. option_map_or (λ one. contains (those one.connected) publisher) (at subscriber service.subscribers) false)
       state.services
 
 module _ {T : Type 0} (types : MessageTypeDetails) (choices : Choices T) (buffer : ℕ) where
-  -- how often something begins to be so in a run: it isn't so before a step, and is so after it
+  -- How often the condition becomes true in the run: at how many commands it doesn't hold before and holds after.
   abbrev pub begins_in : (State T → Bool) → (asked : List (Command T)) (old : State T) (answers : List (Reply T)) (new : State T)
       → Runs types choices buffer asked old answers new → ℕ
   begins_in is_so [] old answers new run = 0
@@ -53,18 +53,18 @@ module _ {T : Type 0} (types : MessageTypeDetails) (choices : Choices T) (buffer
       (if not (is_so old) && is_so run.1 then 1 else 0) + begins_in is_so more run.1 run.2 new run.4
 
 module _ {T : Type 0} (choices : Choices T) where
-  -- In every run of a new machine the lists of each service have just the ports that stand.
+  -- In every run of a new machine, the lists of each service have exactly its open ports.
   abbrev pub StandingAreListed : Type 0
   StandingAreListed = (types : MessageTypeDetails) (buffer : ℕ) (asked : List (Command T)) (answers : List (Reply T)) (new : State T)
       → Runs types choices buffer asked new_state answers new → AllByRecursion ListsWhoStands new.services
 
-  -- In every run of a new machine those that are connected are of one service, and have a mailbox.
+  -- In every run of a new machine, ports that are connected are of one service, and have a mailbox.
   abbrev pub ConnectedAreJoined : Type 0
   ConnectedAreJoined = (types : MessageTypeDetails) (buffer : ℕ) (asked : List (Command T)) (answers : List (Reply T)) (new : State T)
       → Runs types choices buffer asked new_state answers new → AllByRecursion JoinsWhoIsConnected new.services
 
-  -- In every run of a new machine a publisher comes to be connected to a subscriber once at most, and so does a subscriber to a publisher:
-  -- once they aren't connected any longer, they never are again.
+  -- In every run of a new machine, a publisher gets connected to a subscriber at most once, and a subscriber to a publisher: a connection
+  -- that ended is never made again.
   abbrev pub PairsConnectOnce : Type 0
   PairsConnectOnce = (types : MessageTypeDetails) (buffer : ℕ) (asked : List (Command T)) (answers : List (Reply T)) (new : State T)
       (run : Runs types choices buffer asked new_state answers new) (publisher subscriber : ℕ)

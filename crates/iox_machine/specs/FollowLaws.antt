@@ -1,4 +1,4 @@
--- Laws of who is connected to whom, once a port has seen all changes of the list of the other kind, whatever it did last.
+-- Theorems about which ports are connected, whenever a port has seen all changes of the list of the other kind.
 use Rattle.std.specs.Prelude.{ℕ, ◌≡◌, ◌⊎◌, Bool, true, List, [], ◌∷◌, length, zip, find, is_some, Option, None, Some, MatchOption}
 use Rattle.std.specs.List.{AllByRecursion}
 use Rattle.iox_machine.specs.Choices.{Choices}
@@ -10,33 +10,33 @@ use Rattle.iox_command.specs.NegotiateBase.DescribeBase.declared.message_type.Me
 use Rattle.iox_command.specs.declared.command.Command.{Command}
 use Rattle.iox_command.specs.declared.reply.Reply.{Reply}
 
--- At a place where a port is listed it is connected; or none is, since its connection failed.
+-- At a place where a port is listed, this port is connected to it, or to none because the connection failed.
 abbrev pub IsConnectedOrFailed : (ℕ → Type 0) → Option ℕ × Option ℕ → Type 0
 IsConnectedOrFailed Failed place =
     MatchOption place.0 (Unit {0}) (λ listed. (place.1 ≡ Some listed) ⊎ ((place.1 ≡ None) × Failed listed))
 
--- Or another is connected there still, that left; the port is to update again then.
+-- The place is as `IsConnectedOrFailed` says; or the subscriber is still connected to another publisher there, and is to update again.
 abbrev pub IsConnectedOrStays : (ℕ → Type 0) → Bool → Option ℕ × Option ℕ → Type 0
 IsConnectedOrStays Failed again place =
     IsConnectedOrFailed Failed place ⊎ ((again ≡ true) × (other : ℕ) × (place.1 ≡ Some other))
 
 module _ {T : Type 0} where
-  -- Some service of these is so.
+  -- `Is` holds of at least one of these services.
   abbrev pub HasSome : (Service T → Type 0) → List (Service T) → Type 0
   HasSome Is [] = ⊥
   HasSome Is (service ∷ more) = Is service ⊎ HasSome Is more
 
 module _ {T : Type 0} (types : MessageTypeDetails) (choices : Choices T) (buffer : ℕ) where
-  -- At some state of a run some service was so.
+  -- `Is` held of some service at some state of the run.
   abbrev pub WasOnce : (Service T → Type 0) → (asked : List (Command T)) (old : State T) (answers : List (Reply T)) (new : State T)
       → Runs types choices buffer asked old answers new → Type 0
   WasOnce Is [] old answers new run = HasSome Is old.services
   WasOnce Is (one ∷ more) old answers new run = HasSome Is old.services ⊎ WasOnce Is more run.1 run.2 new run.4
 
 module _ {T : Type 0} (choices : Choices T) where
-  -- In every run of a new machine take a publisher that has seen all changes of the list of subscribers. It has as many places. At each
-  -- place where a subscriber is listed it is connected to that, or to none. Where to none the connection failed: when the list was this
-  -- already, at some state of the run, the two had no mailbox.
+  -- In every run of a new machine, a publisher that has seen all changes of the list of subscribers has as many places as the list. At each
+  -- place where a subscriber is listed, the publisher is connected to it, or to none because the connection failed: at some state of the
+  -- run with this same list the two had no mailbox.
   abbrev pub PublisherIsConnected : Type 0
   PublisherIsConnected = (types : MessageTypeDetails) (buffer : ℕ) (asked : List (Command T)) (answers : List (Reply T)) (new : State T)
       (run : Runs types choices buffer asked new_state answers new) (number : ℕ) (service : Service T) (one : Publisher T)
@@ -48,7 +48,8 @@ module _ {T : Type 0} (choices : Choices T) where
       (λ other. (other.subscriber_list ≡ service.subscriber_list) × (other.mailboxes number subscriber ≡ None)) asked new_state answers new
       run)) (zip service.subscriber_list.places one.connected)
 
-  -- So it is of a subscriber, and the list of publishers; unless it is to update again, and is connected to another there still.
+  -- The same holds for a subscriber and the list of publishers, except that a subscriber that is to update again may still be connected to
+  -- another publisher at a place.
   abbrev pub SubscriberIsConnected : Type 0
   SubscriberIsConnected = (types : MessageTypeDetails) (buffer : ℕ) (asked : List (Command T)) (answers : List (Reply T)) (new : State T)
       (run : Runs types choices buffer asked new_state answers new) (number : ℕ) (service : Service T) (one : Subscriber)

@@ -1,4 +1,4 @@
--- That the machine never stands still: each command has an answer.
+-- The machine never gets stuck: each command has an answer.
 use Rattle.std.specs.Prelude.{ℕ, ◌≡◌}
 use Rattle.std.specs.Global.{Vec}
 use Rattle.std.specs.List.{AllByRecursion}
@@ -14,7 +14,7 @@ use Rattle.iox_command.specs.declared.command.Command.{Command}
 use Rattle.iox_command.specs.declared.reply.Reply.{Reply}
 
 module _ {T : Type 0} (choices : Choices T) where
-  -- Who decides for a port may always choose something, whatever was named for it.
+  -- For each port something may always be chosen, whatever was named for it.
   abbrev pub AlwaysChoose : Type 0
   AlwaysChoose =
       ((publisher retries elapsed : ℕ) (named : BackpressureDecision)
@@ -22,8 +22,8 @@ module _ {T : Type 0} (choices : Choices T) where
       × ((publisher : ℕ) (named : DegradationAction) → (action : DegradationAction) × choices.publisher_acts publisher named action)
       × ((subscriber : ℕ) (named : DegradationAction) → (action : DegradationAction) × choices.subscriber_acts subscriber named action)
 
-  -- Whatever stands, each command has an answer, if there is a default value, if who decides for a port may always choose something, and if
-  -- the values of each message that waits, is borrowed, is kept as history or is held fit in a vector, so that they can be told.
+  -- In any state, each command has an answer, if there is a default value, if something may always be chosen for each port, and if the
+  -- values of each message that waits, is borrowed, is kept as history or is held fit in a vector, so that they can be returned.
   abbrev pub EachIsAnswered : Type 0
   EachIsAnswered = (types : MessageTypeDetails) (buffer : ℕ) (default : T) → choices.is_default default → AlwaysChoose → (old : State T)
       → AllByRecursion (AllMessages (λ publisher message. (values : Vec T) × (vec_items values ≡ message.values))) old.services

@@ -1,4 +1,4 @@
--- Laws of services beside one another.
+-- Theorems about services beside one another.
 use Rattle.std.specs.Prelude.{ℕ, ◌≡◌, ⊤, Bool, true, false, ◌&&◌, List, [], ◌∷◌, map, find, filter, MatchBool, if◌then◌else◌, bytes_eq}
 use Rattle.std.specs.Option.{option_map_or}
 use Rattle.iox_machine.specs.Choices.{Choices}
@@ -18,20 +18,20 @@ use Rattle.iox_command.specs.declared.command.Command.{Command}
 use Rattle.iox_command.specs.declared.command.Command.TheVariants as command
 use Rattle.iox_command.specs.declared.reply.Reply.{Reply}
 
--- whether a factory is of the service of a pattern and name
+-- Whether the factory is of the service of this pattern and name.
 abbrev pub is_factory_of : MessagingPattern → List ℕ → Factory → Bool
 is_factory_of pattern name factory = same_pattern factory.pattern pattern && bytes_eq factory.name name
 
 module _ {T : Type 0} where
-  -- whether a service is that of a pattern and name
+  -- Whether the service is that of this pattern and name.
   abbrev pub is_of : MessagingPattern → List ℕ → Service T → Bool
   is_of pattern name service = same_pattern pattern PublishSubscribe && bytes_eq service.name name
 
-  -- whether the first service that passes a test is that of a pattern and name
+  -- Whether the first service that passes the test is that of this pattern and name.
   abbrev pub is_first : MessagingPattern → List ℕ → (Service T → Bool) → State T → Bool
   is_first pattern name has state = option_map_or (is_of pattern name) (find has state.services) false
 
-  -- whether a command asks something of the service of a pattern and name: by these, by a factory, or by a port, a loan or a sample
+  -- Whether the command asks something of the service of this pattern and name: by these, by a factory, or by a port, a loan or a sample.
   abbrev pub asks : MessagingPattern → List ℕ → Command T → State T → Bool
   asks pattern name command.Node state = false
   asks pattern name (command.Create node other options attributes steps) state =
@@ -48,7 +48,7 @@ module _ {T : Type 0} where
       option_map_or (is_factory_of pattern name) (at factory state.factories) false
   asks pattern name other state = is_first pattern name (has_named state.factories other) state
 
-  -- All of a service is as it was: its phase, its factories, and its ports with all that is lent, waits, is kept and is borrowed.
+  -- All of the service is as it was: its phase, its factories, and its ports with all that is loaned, waits, is kept and is borrowed.
   abbrev pub IsLeft : MessagingPattern → List ℕ → State T → State T → Type 0
   IsLeft pattern name old new =
       (new.phases pattern name ≡ old.phases pattern name)
@@ -57,7 +57,8 @@ module _ {T : Type 0} where
       × (filter (is_of pattern name) new.services ≡ filter (is_of pattern name) old.services)
 
 module _ {T : Type 0} where
-  -- A machine has of the service of a pattern and name what another has of it, by other numbers, and no other factory or service.
+  -- The second machine has of the service of this pattern and name what the first has of it, with other numbers, and no other factory or
+  -- service.
   abbrev pub HasAlone : Renaming → MessagingPattern → List ℕ → State T → State T → Type 0
   HasAlone by pattern name state own =
       (own.phases pattern name ≡ state.phases pattern name)
@@ -65,21 +66,21 @@ module _ {T : Type 0} where
       ≡ renumbered_table by.factories (λ factory. factory) (filter (λ entry. is_factory_of pattern name entry.1) state.factories))
       × AreRenumbered by (filter (is_of pattern name) state.services) own.services
 
-  -- whether a command makes a node, or asks something of the service of a pattern and name
+  -- Whether the command makes a node, or asks something of the service of this pattern and name.
   abbrev pub concerns : MessagingPattern → List ℕ → Command T → State T → Bool
   concerns pattern name command.Node state = true
   concerns pattern name asked state = asks pattern name asked state
 
   module _ (types : MessageTypeDetails) (choices : Choices T) (buffer : ℕ) (pattern : MessagingPattern) (name : List ℕ) where
-    -- Nothing is asked of the service in a run.
+    -- No command of the run asks anything of the service.
     abbrev pub AsksNothing : (asked : List (Command T)) (old : State T) (answers : List (Reply T)) (new : State T)
         → Runs types choices buffer asked old answers new → Type 0
     AsksNothing [] old answers new run = ⊤
     AsksNothing (one ∷ more) old answers new run =
         (asks pattern name one old ≡ false) × AsksNothing more run.1 run.2 new run.4
 
-    -- Beside a run a machine that knows of no other service goes on alone: what concerns the service is answered there as in the run. In
-    -- the place of each other command the numbers that were given in the run are passed over, and nothing else happens.
+    -- Beside the run, a machine without other services does the commands that concern the service, with the same replies. For every other
+    -- command, it only skips the numbers that were given in the run.
     abbrev pub IsAlone : (asked : List (Command T)) (old : State T) (answers : List (Reply T)) (new : State T)
         → Runs types choices buffer asked old answers new → State T → Type 0
     IsAlone [] old answers new run own = ⊤
@@ -88,7 +89,7 @@ module _ {T : Type 0} where
         ((mid : State T) × Step types choices buffer one own run.0 mid × IsAlone more run.1 run.2 new run.4 mid)
         (IsAlone more run.1 run.2 new run.4 (record own { made = run.1.made }))
 
-    -- the commands of a run that concern the service
+    -- The commands of the run that concern the service.
     abbrev pub commands_concerning : (asked : List (Command T)) (old : State T) (answers : List (Reply T)) (new : State T)
         → Runs types choices buffer asked old answers new → List (Command T)
     commands_concerning [] old answers new run = []
@@ -96,7 +97,7 @@ module _ {T : Type 0} where
         if concerns pattern name one old then one ∷ commands_concerning more run.1 run.2 new run.4
         else commands_concerning more run.1 run.2 new run.4
 
-    -- what these are answered
+    -- The replies to the commands of the run that concern the service.
     abbrev pub answers_concerning : (asked : List (Command T)) (old : State T) (answers : List (Reply T)) (new : State T)
         → Runs types choices buffer asked old answers new → List (Reply T)
     answers_concerning [] old answers new run = []
@@ -105,7 +106,7 @@ module _ {T : Type 0} where
         else answers_concerning more run.1 run.2 new run.4
 
 module _ {T : Type 0} (choices : Choices T) where
-  -- As long as nothing is asked of a service in a run of a new machine all of it stays as it was, whatever is asked of others.
+  -- In a run of a new machine, all of a service stays as it was while no command asks anything of it, whatever is asked of others.
   abbrev pub OthersAreLeft : Type 0
   OthersAreLeft = (types : MessageTypeDetails) (buffer : ℕ) (before : List (Command T)) (told : List (Reply T)) (old : State T)
       → Runs types choices buffer before new_state told old
@@ -113,18 +114,17 @@ module _ {T : Type 0} (choices : Choices T) where
       → (pattern : MessagingPattern) (name : List ℕ)
       → AsksNothing types choices buffer pattern name asked old answers new run → IsLeft pattern name old new
 
-  -- In every run of a new machine, leave out the commands that ask nothing of a service, but for those that make nodes: the others are
-  -- answered just so by a new machine that was asked nothing else.
+  -- In every run of a new machine, leave out the commands that ask nothing of a service, except those that make nodes. A new machine that
+  -- gets only the others may give the same replies, if it skips the numbers that were given to the rest.
   abbrev pub ServicesAreAsIfAlone : Type 0
   ServicesAreAsIfAlone = (types : MessageTypeDetails) (buffer : ℕ) (asked : List (Command T)) (answers : List (Reply T)) (new : State T)
       (run : Runs types choices buffer asked new_state answers new)
       → (pattern : MessagingPattern) (name : List ℕ)
       → IsAlone types choices buffer pattern name asked new_state answers new run new_state
 
-  -- In every run of a new machine, leave out the commands that ask nothing of a service, but for those that make nodes. The others, with
-  -- what they name under its other number, are a run of a new machine by themselves: each is answered as it was, with the other number
-  -- where one is told. So all numbers are counted anew, and none is passed over. In the end that machine has of the service what the other
-  -- has.
+  -- In every run of a new machine, leave out the commands that ask nothing of a service, except those that make nodes. The others, with
+  -- other numbers for what they name, are a run of a new machine by themselves: each has the same reply, with the other number if it
+  -- reports one. So numbers are counted anew, without gaps. At the end that machine has the same of the service.
   abbrev pub NumbersAreCountedAnew : Type 0
   NumbersAreCountedAnew = (types : MessageTypeDetails) (buffer : ℕ) (asked : List (Command T)) (answers : List (Reply T)) (new : State T)
       (run : Runs types choices buffer asked new_state answers new)

@@ -1,4 +1,4 @@
--- How a publisher lends.
+-- How a publisher loans a message.
 use Rattle.std.specs.Prelude.{ℕ, ◌+◌, ◌^◌, ◌<◌, ◌≡◌, ◌⊎◌, true, false, ◌&&◌, ◌==◌, nat_lt, nat_le, List, [], ◌∷◌, ◌++◌, length, map}
 use Rattle.std.specs.Prelude.{filter, flat_map, Option, None, Some, MatchBool, MatchOption, if◌then◌else◌}
 use Rattle.std.specs.Int.{IsNextPowerOfTwo}
@@ -10,25 +10,25 @@ use Rattle.iox_command.specs.DomainValues.declared.data_segment.AllocationStrate
 use Rattle.iox_command.specs.DomainValues.declared.port_error.LoanError.{LoanError}
 use Rattle.iox_command.specs.DomainValues.declared.port_error.LoanError.TheVariants.{OutOfMemory, ExceedsMaxLoans, ExceedsMaxLoanSize}
 
--- how many different numbers are in a list
+-- How many different numbers the list contains.
 abbrev pub how_many : List ℕ → ℕ
 how_many [] = 0
 how_many (number ∷ more) = if contains more number then how_many more else 1 + how_many more
 
--- For how many values a new segment has room, where a loan is longer than the current one allows: for just as many, or for the least power
--- of two that is at least as many.
+-- How many values a new segment has capacity for, if a loan of so many values doesn't fit the current one: exactly as many, or the least
+-- power of two that is at least as many. A static publisher gets no new segment.
 abbrev pub IsRoomFor : AllocationStrategy → ℕ → ℕ → Type 0
 IsRoomFor BestFit values room = room ≡ values
 IsRoomFor PowerOfTwo values room = IsNextPowerOfTwo values room
 IsRoomFor Static values room = ⊥
 
 module _ {T : Type 0} (number : ℕ) where
-  -- the loans of a publisher that are out
+  -- The loans of this publisher that are out.
   abbrev pub loans_of : Service T → List (Loan T)
   loans_of service = filter (λ loan. loan.publisher == number) (map (λ entry. entry.1) service.loans)
 
-  -- The messages of a publisher that are in use, by their numbers: its loans, its history, and what waits or is borrowed at its
-  -- connections, be they ended or not.
+  -- The numbers of the publisher's messages that are in use: its loans, its history, and what waits or is borrowed in its connections, even
+  -- in ones that ended.
   abbrev pub in_use : Publisher T → Service T → List ℕ
   in_use publisher service =
       map (λ loan. loan.number) (loans_of service)
@@ -36,8 +36,9 @@ module _ {T : Type 0} (number : ℕ) where
       (publisher.history ++ flat_map (λ entry. (mailbox number entry.0 service).waiting ++
       (mailbox number entry.0 service).borrowed) service.subscribers)
 
-  -- Why a loan of so many values is refused, but for want of memory: one that is longer than a static segment allows, then where as many
-  -- loans are out as may be, then exactly where as many messages of the current segment are in use as it has slots.
+  -- Why a loan of so many values is refused, except for memory: it is longer than a static segment allows; or the maximum number of loans
+  -- is out; or it fits the current segment, of which as many messages are in use as it has slots. The first of these that applies is the
+  -- reason.
   abbrev pub loan_refusal : ℕ → Publisher T → Service T → Option LoanError
   loan_refusal values publisher service =
       if nat_lt publisher.room values && elim publisher.allocation [ Static ↦ true | BestFit ↦ false | PowerOfTwo ↦ false ]
@@ -47,8 +48,8 @@ module _ {T : Type 0} (number : ℕ) where
       (how_many (filter (nat_le publisher.first) (in_use publisher service)))
       then Some OutOfMemory else None))
 
-  -- A publisher lends its next message, of so many values, unless that is refused. Where it is longer than the current segment allows a new
-  -- one is opened, if there are fewer than 255 and it has room for fewer than 2^32 values; or no memory is found.
+  -- A publisher loans its next message, of so many values, unless that is refused. If the message doesn't fit the current segment, a new
+  -- one is opened, with capacity for fewer than 2^32 values and if fewer than 255 exist; or the loan is refused for memory.
   abbrev pub Lends : ℕ → Publisher T → Service T → Option LoanError → Publisher T → Type 0
   Lends values publisher service refusal after =
       MatchOption (loan_refusal values publisher service)

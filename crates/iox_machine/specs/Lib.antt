@@ -1,4 +1,4 @@
--- The machine: what a hub does, said with nodes, agreements, and bounded mailboxes over messages that never change.
+-- The machine: what a hub does, specified by nodes, agreements, and bounded mailboxes of messages that never change.
 pub mod Table
 pub mod Message
 pub mod Mailbox

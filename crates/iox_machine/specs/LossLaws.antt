@@ -1,4 +1,4 @@
--- The law of the cause of each message that a gap in sequence numbers tells of: it was dropped, or passed over.
+-- The cause of each loss that a gap in the sequence numbers shows: the message was dropped or skipped.
 use Rattle.std.specs.Prelude.{ℕ, ◌+◌, ◌≡◌, ◌⊎◌, Bool, true, false, List, [], ◌∷◌, ◌++◌, length, filter, find, Some, is_some}
 use Rattle.std.specs.List.{AllByRecursion}
 use Rattle.std.specs.Option.{option_map_or}
@@ -19,9 +19,9 @@ use Rattle.iox_command.specs.declared.reply.Reply.{Reply}
 use Rattle.iox_command.specs.declared.reply.Reply.TheVariants as reply
 
 module _ {T : Type 0} where
-  -- A command drops a message from the mailbox of a publisher and a subscriber: it waited there, isn't received now, and isn't on its way
-  -- any longer. With safe overflow a later message of a send of the publisher is put behind those that waited, and of all these the newest
-  -- wait now, as many as may.
+  -- The command drops a message from the mailbox of a publisher and a subscriber: the message waited there, isn't received now, and isn't
+  -- on its way any longer. The service has safe overflow, a later message that the publisher sent is put behind those that waited, and of
+  -- all these the newest wait now, as many as may.
   abbrev pub IsDropped : ℕ → ℕ → Message T → Command T → State T → Reply T → State T → Type 0
   IsDropped publisher subscriber message asked old answer new =
       (has_message (waiting_for publisher subscriber old) message ≡ true)
@@ -33,12 +33,13 @@ module _ {T : Type 0} where
       × ((mailbox publisher subscriber service).waiting
       ≡ newest (mailbox publisher subscriber service).limit (waiting_for publisher subscriber old ++ later ∷ [])))
 
-  -- whether a mailbox takes a message, and keeps it
+  -- Whether the mailbox takes the message, and keeps it.
   abbrev pub takes_it : Bool → Message T → Mailbox T → Bool
   takes_it overflows message box = option_map_or (λ after. has_message after.waiting message) (put overflows message box) false
 
-  -- A command passes a subscriber over with the message of a send that begins now, or was blocked with the subscriber left: the send is
-  -- given up; or it goes past the subscriber, to which the publisher is connected, and whose mailbox is full: it takes no message.
+  -- The command skips a subscriber with the message of a send that begins now, or that was blocked with the subscriber left. Either the
+  -- send is given up; or it goes past the subscriber's mailbox, which is full and takes no message, and the publisher is connected to the
+  -- subscriber.
   abbrev pub IsPassedOver : ℕ → ℕ → Message T → Command T → State T → Reply T → State T → Type 0
   IsPassedOver publisher subscriber message asked old answer new =
       (has_message (passed_by publisher subscriber asked old answer new) message ≡ true)
@@ -49,7 +50,7 @@ module _ {T : Type 0} where
       × (takes_it service.settings.enable_safe_overflow message (mailbox publisher subscriber service) ≡ false)))
 
 module _ {T : Type 0} (types : MessageTypeDetails) (choices : Choices T) (buffer : ℕ) where
-  -- A message of a publisher isn't on its way to a subscriber, neither where a run begins nor after any command of it.
+  -- The message isn't on its way to the subscriber at the start of the run or after any command of it.
   abbrev pub StaysOff : ℕ → ℕ → Message T → (asked : List (Command T)) (old : State T) (answers : List (Reply T)) (new : State T)
       → Runs types choices buffer asked old answers new → Type 0
   StaysOff publisher subscriber message [] old answers new run = has_message (on_way publisher subscriber old) message ≡ false
@@ -57,7 +58,7 @@ module _ {T : Type 0} (types : MessageTypeDetails) (choices : Choices T) (buffer
       (has_message (on_way publisher subscriber old) message ≡ false)
       × StaysOff publisher subscriber message more run.1 run.2 new run.4
 
-  -- At some command of a run a message is lost in some way, and isn't on its way from then on.
+  -- At some command of the run the message is lost in this way, and it isn't on its way from then on.
   abbrev pub IsLostBy : (ℕ → ℕ → Message T → Command T → State T → Reply T → State T → Type 0) → ℕ → ℕ → Message T
       → (asked : List (Command T)) (old : State T) (answers : List (Reply T)) (new : State T)
       → Runs types choices buffer asked old answers new → Type 0
@@ -67,10 +68,9 @@ module _ {T : Type 0} (types : MessageTypeDetails) (choices : Choices T) (buffer
       ⊎ IsLostBy Loses publisher subscriber message more run.1 run.2 new run.4
 
 module _ {T : Type 0} (choices : Choices T) where
-  -- In every run of a new machine take two messages that a subscriber received of a publisher, one directly after the other, with sequence
-  -- numbers, which samples of them tell as long as they are held. The messages that the publisher sent with numbers between theirs are as
-  -- many as there are such numbers. Each of them was lost for one cause: it was dropped from the mailbox of both, or it was passed over
-  -- there, and not both.
+  -- In every run of a new machine, let a subscriber receive two messages of a publisher, one directly after the other, with sequence
+  -- numbers; samples report these while they are held. The publisher sent as many messages with numbers between theirs as there are such
+  -- numbers. Each of these was lost for exactly one cause: it was dropped from their mailbox, or it was skipped there.
   abbrev pub GapsHaveCauses : Type 0
   GapsHaveCauses = (types : MessageTypeDetails) (buffer : ℕ) (asked : List (Command T)) (answers : List (Reply T)) (new : State T)
       (run : Runs types choices buffer asked new_state answers new) (publisher subscriber : ℕ)

@@ -3,23 +3,23 @@ use Rattle.std.specs.Prelude.{ℕ, ◌-◌, Bool, not, ◌&&◌, ◌==◌, nat_l
 use Rattle.std.specs.Prelude.{None, Some, if◌then◌else◌}
 use Rattle.iox_machine.specs.Message.{Message}
 
--- A mailbox: how many messages may wait in it, those that wait, the oldest first, and those that its subscriber borrowed.
+-- A mailbox: the maximum number of waiting messages, the messages that wait, and those that its subscriber has borrowed, both oldest first.
 pub record Mailbox (T : Type 0) : Type 0 where
   pub limit : ℕ
   pub waiting : List (Message T)
   pub borrowed : List (Message T)
 
--- the last so many of a list
+-- The last `count` elements of the list; the whole list, if it has fewer.
 abbrev pub newest : {X : Type 0} → ℕ → List X → List X
 newest count xs = drop (length xs - count) xs
 
 module _ {T : Type 0} where
-  -- whether no message waits, and none is borrowed
+  -- Whether no message waits in the mailbox and none is borrowed of it.
   abbrev pub is_idle : Mailbox T → Bool
   is_idle box = not (nat_lt 0 (length box.waiting)) && length box.borrowed == 0
 
-  -- A message is put behind those that wait. With safe overflow the oldest leaves if they are too many then; without it a full mailbox
-  -- refuses.
+  -- The mailbox once a message is put behind those that wait. With safe overflow the oldest message is dropped if more would wait than may;
+  -- without safe overflow a full mailbox refuses the message (`None`).
   abbrev pub put : Bool → Message T → Mailbox T → Option (Mailbox T)
   put overflows message box =
       if not overflows && nat_le box.limit (length box.waiting) then None

@@ -1,4 +1,4 @@
--- What a command names.
+-- Which service has what a command names.
 use Rattle.std.specs.Prelude.{ℕ, Bool, true, false, List, is_some}
 use Rattle.std.specs.Option.{option_map_or}
 use Rattle.iox_machine.specs.Ports.{publisher_in, subscriber_in}
@@ -10,7 +10,7 @@ use Rattle.iox_command.specs.declared.command.Command.TheVariants as command
 use Rattle.iox_command.specs.declared.port.PortNumber.TheVariants as port
 
 module _ {T : Type 0} where
-  -- whether a command is one on ports, loans and samples: neither on a node, nor on a factory alone
+  -- Whether a command is one on ports, loans and samples: neither on a node, nor on a factory alone.
   abbrev pub is_on_ports : Command T → Bool
   is_on_ports command.Node = false
   is_on_ports (command.Create node name options attributes steps) = false
@@ -20,7 +20,7 @@ module _ {T : Type 0} where
   is_on_ports (command.Close factory) = false
   is_on_ports other = true
 
-  -- whether a service has what a command on ports, loans and samples names: its factory, a port that stands, a loan or a sample
+  -- Whether a service has what a command on ports, loans and samples names: its factory, an open port, a loan or a sample.
   abbrev pub has_named : List (ℕ × Factory) → Command T → Service T → Bool
   has_named factories (command.Publisher factory options) service =
       option_map_or (λ one. is_service_of one service) (at factory factories) false

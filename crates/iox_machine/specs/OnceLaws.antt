@@ -1,4 +1,4 @@
--- Laws of what happens once: a loan is sent, and a message is sent and received.
+-- Theorems about what happens at most once: a loan is sent or dropped, and a message is sent and received.
 use Rattle.std.specs.Prelude.{ℕ, Bool, true, false, ◌==◌, List, map, filter_map, zip, Option, None, Some, if◌then◌else◌}
 use Rattle.std.specs.List.{IsDistinct}
 use Rattle.iox_machine.specs.Choices.{Choices}
@@ -14,33 +14,34 @@ use Rattle.iox_command.specs.declared.reply.Reply.{Reply}
 use Rattle.iox_command.specs.declared.reply.Reply.TheVariants as reply
 
 module _ {T : Type 0} where
-  -- whether a reply tells that a command was skipped
+  -- Whether the reply says that the command was skipped.
   abbrev pub is_skipped : Reply T → Bool
   is_skipped reply.Skipped = true
   is_skipped other = false
 
-  -- the loan that a command spends: it is to send that loan, or to drop it, and isn't skipped
+  -- The loan that the command spends: it is to send or drop that loan, and isn't skipped.
   abbrev pub spent_by : Command T → Reply T → Option ℕ
   spent_by (command.Send loan) answer = if is_skipped answer then None else Some loan
   spent_by (command.Drop loan) answer = if is_skipped answer then None else Some loan
   spent_by other answer = None
 
-  -- the loans that commands spend which are answered so, in their order
+  -- The loans that these commands spend, in order, if these are the replies.
   abbrev pub spent_in : List (Command T) → List (Reply T) → List ℕ
   spent_in asked answers = filter_map (λ step. spent_by step.0 step.1) (zip asked answers)
 
-  -- No two of these messages, of one publisher, are the same one: they have different numbers.
+  -- No two of these messages of one publisher have the same number.
   abbrev pub AreDifferent : List (Message T) → Type 0
   AreDifferent messages = IsDistinct (λ one other. one == other) (map (λ message. message.number) messages)
 
 module _ {T : Type 0} (choices : Choices T) where
-  -- In every run of a new machine each loan is sent or dropped once at most, and was lent in that run. Commands and replies alone tell it.
+  -- In every run of a new machine, each loan is sent or dropped at most once, and was made in that run. This speaks of commands and replies
+  -- alone.
   abbrev pub LoansAreSpentOnce : Type 0
   LoansAreSpentOnce = (types : MessageTypeDetails) (buffer : ℕ) (asked : List (Command T)) (answers : List (Reply T)) (new : State T)
       → Runs types choices buffer asked new_state answers new → AreToldOnce (filter_map loan_told answers) (spent_in asked answers)
 
-  -- In every run of a new machine a publisher sends each of its messages once at most, from a loan or by a put, and a subscriber receives
-  -- each once at most.
+  -- In every run of a new machine, a publisher sends each of its messages at most once, from a loan or by a put, and a subscriber receives
+  -- each at most once.
   abbrev pub MessagesGoOnce : Type 0
   MessagesGoOnce = (types : MessageTypeDetails) (buffer : ℕ) (asked : List (Command T)) (answers : List (Reply T)) (new : State T)
       (run : Runs types choices buffer asked new_state answers new) (publisher subscriber : ℕ)

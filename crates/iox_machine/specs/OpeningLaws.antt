@@ -1,4 +1,4 @@
--- Laws of what is opened: it is as it was asked for, or the refusal names what isn't.
+-- Theorems about openings: an opened service meets what was asked for, or the refusal names a clause that isn't met.
 use Rattle.std.specs.Prelude.{ℕ, ◌≡◌, ◌<◌, ◌⊎◌, ⊤, Some, Result, Ok, Err, List, [], ◌∷◌}
 use Rattle.iox_machine.specs.Choices.{Choices}
 use Rattle.iox_machine.specs.Agreement.{Agreement, verdict}
@@ -22,43 +22,43 @@ use Rattle.iox_command.specs.declared.reply.Reply.TheVariants as reply
 use Rattle.iox_command.specs.declared.service.ServiceOptions.{ServiceOptions}
 use Rattle.iox_command.specs.declared.step.StepBefore.{StepBefore}
 
--- What is agreed on in a phase is so.
+-- The phase has an agreement, and `So` holds of it.
 abbrev pub IsAgreedOn : (Agreement → Type 0) → Phase → Type 0
 IsAgreedOn So phase = (agreed : Agreement) × (agreed_in phase ≡ Some agreed) × So agreed
 
--- A service is new, in a later life than this one: just as it was asked for, and with this node alone.
+-- The service is new, in a later lifetime than this one, exactly as it was asked for, and with this node alone.
 abbrev pub IsNewWith : Node → Agreement → ℕ → Phase → Type 0
 IsNewWith node asked before phase = (life : ℕ) × (before < life) × (phase ≡ Published life asked ((node, 1) ∷ []))
 
--- A failure to open that names a clause names the first one that what is agreed on doesn't meet.
+-- If the failure of an opening names a clause, it is the first one that the agreement doesn't meet.
 abbrev pub NamesUnmet : {V : Type 0} → (Agreement → Result (Unit {0}) V) → OpenFailure V → Phase → Type 0
 NamesUnmet verdict (Clause unmet) phase = IsAgreedOn (λ agreed. verdict agreed ≡ Err unmet) phase
 NamesUnmet verdict other phase = ⊤
 
--- So it is where a failure to open or to create is one to open.
+-- If a failure of `open_or_create` is one of its opening and names a clause, it is the first one that the agreement doesn't meet.
 abbrev pub EitherNamesUnmet : {V : Type 0} → (Agreement → Result (Unit {0}) V) → OpenOrCreateFailure V → Phase → Type 0
 EitherNamesUnmet verdict (neither.Open failure) phase = NamesUnmet verdict failure phase
 EitherNamesUnmet verdict other phase = ⊤
 
 module _ (types : MessageTypeDetails) (options : ServiceOptions) (required : Required) where
-  -- An agreement meets each clause that is asked, and has what is required of attributes.
+  -- The agreement meets each clause that is asked for, and has the required attributes.
   abbrev pub MeetsAsked : Agreement → Type 0
   MeetsAsked agreed = verdict types options required agreed ≡ Ok tt
 
-  -- A refusal tells why a service isn't opened: a clause is the first that isn't met.
+  -- The refusal reports a failure of the opening; if it names a clause, it is the first one that isn't met.
   abbrev pub TellsUnmet : Refusal → Phase → Type 0
   TellsUnmet why phase =
       (failure : OpenFailure Refusal) × (why ≡ open_refusal options failure) × NamesUnmet (verdict types options required) failure phase
 
-  -- So a refusal tells why a service is neither opened nor created.
+  -- The refusal reports a failure of `open_or_create`; if it names a clause of the opening, it is the first one that isn't met.
   abbrev pub EitherTellsUnmet : Refusal → Phase → Type 0
   EitherTellsUnmet why phase =
       (failure : OpenOrCreateFailure Refusal) × (why ≡ either_refusal options failure)
       × EitherNamesUnmet (verdict types options required) failure phase
 
 module _ {T : Type 0} (choices : Choices T) where
-  -- A service that is opened meets all that is asked. One that is refused for a clause is there, and that is the first clause that it
-  -- doesn't meet.
+  -- A service that is opened meets all that is asked for. If an opening is refused for a clause, the service exists, and the clause is the
+  -- first one that it doesn't meet.
   abbrev pub OpenedMeetsAsked : Type 0
   OpenedMeetsAsked = (types : MessageTypeDetails) (buffer node : ℕ) (name : List ℕ) (options : ServiceOptions) (required : Required)
       (steps : List StepBefore) (old : State T) (answer : Reply T) (new : State T)
@@ -67,7 +67,8 @@ module _ {T : Type 0} (choices : Choices T) where
       → IsAgreedOn (MeetsAsked types options required) (new.phases (pattern_of options) name))
       × ((why : Refusal) → answer ≡ reply.Refused why → TellsUnmet types options required why (new.phases (pattern_of options) name))
 
-  -- So it is of one that is opened or created: what is agreed on meets all that is asked, or the service is new and just that.
+  -- A service of `open_or_create` meets all that is asked for, or is new and exactly as it was asked for. If a clause is refused, it is the
+  -- first one that isn't met.
   abbrev pub EitherMeetsAsked : Type 0
   EitherMeetsAsked = (types : MessageTypeDetails) (buffer node : ℕ) (name : List ℕ) (options : ServiceOptions) (required : Required)
       (steps : List StepBefore) (old : State T) (answer : Reply T) (new : State T)

@@ -1,4 +1,4 @@
--- How a publisher brings its connections up to date.
+-- How a publisher updates its connections.
 use Rattle.std.specs.Prelude.{ℕ, ◌≡◌, ◌⊎◌, true, not, ◌&&◌, ◌==◌, List, [], ◌∷◌, map, filter, fold, zip, Option, None, Some, is_some}
 use Rattle.std.specs.Prelude.{option_map, Result, Ok, Err, MatchBool, MatchOption, MatchResult, if◌then◌else◌}
 use Rattle.std.specs.List.{list_all}
@@ -21,14 +21,15 @@ use Rattle.iox_command.specs.declared.refusal.Refusal.{Refusal}
 use Rattle.iox_command.specs.declared.reply.Reply.{Reply}
 use Rattle.iox_command.specs.declared.reply.Reply.TheVariants as reply
 
--- How the connection to the port that is listed at a place failed, if the port is connected to none there, or to another still.
+-- Why the connection to the port that is listed at a place failed: the port is connected to none there, or still to another one. None if it
+-- didn't fail.
 abbrev pub failure_at : Option ℕ → Option ℕ → Option ZeroCopyCreationError
 failure_at None connected = None
 failure_at (Some listed) None = Some OutOfMemory
 failure_at (Some listed) (Some other) = if other == listed then None else Some ExpiredConnectionBufferFull
 
--- What an update may answer, where this may be done at a connection that failed: the first failure, in place order, at which the port is
--- to fail.
+-- What an update may answer, if `May` says which actions the port may take at a failed connection: the first failure, in place order, at
+-- which the port is to fail; or success.
 abbrev pub UpdateAnswers : (DegradationAction → Type 0) → List (Option ℕ × Option ℕ) → Result (Unit {0}) ConnectionFailure → Type 0
 UpdateAnswers May [] answer = answer ≡ Ok tt
 UpdateAnswers May (place ∷ more) answer =
@@ -37,7 +38,8 @@ UpdateAnswers May (place ∷ more) answer =
     ⊎ ((May Warn ⊎ May Ignore) × UpdateAnswers May more answer))
 
 module _ {T : Type 0} (number : ℕ) where
-  -- of the connections to subscribers that left all that waits is lost; what is borrowed stays in use until it is released
+  -- The service once the publisher's connections to closed subscribers have ended: what waits there is lost; what is borrowed stays in use
+  -- until it is released.
   abbrev pub ended : Service T → Service T
   ended service = record service {
     mailboxes = λ publisher subscriber. if (publisher == number) && not (contains (those service.subscriber_list.places) subscriber)
@@ -45,14 +47,16 @@ module _ {T : Type 0} (number : ℕ) where
         else service.mailboxes publisher subscriber;
   }
 
-  -- a new subscriber is connected, and gets as much of the history as may wait for it, the oldest first
+  -- The service once the publisher is connected to a new subscriber, whose mailbox gets as much of the history as may wait there, oldest
+  -- first.
   abbrev pub welcome : List (Message T) → Service T → ℕ → Service T
   welcome history service subscriber =
       let met = connect (option_map_or (λ one. one.buffer_size) (at subscriber service.subscribers) 0) number subscriber service in
       let box = mailbox number subscriber met in
       with_mailbox number subscriber (record box { waiting = newest box.limit history }) met
 
-  -- A publisher follows the list of subscribers. To some that are new no connection may be made, for want of memory.
+  -- A publisher follows the list of subscribers: its connections to closed subscribers end, and it connects to each listed one. A
+  -- connection without a mailbox may be refused for memory.
   abbrev pub Follows : Publisher T → Service T → Publisher T → Service T → Type 0
   Follows publisher old after new =
       (refused : List ℕ)
@@ -63,8 +67,8 @@ module _ {T : Type 0} (number : ℕ) where
       (filter (λ subscriber. not (contains (those publisher.connected) subscriber)) (those after.connected)))
 
 module _ {T : Type 0} (choices : Choices T) (number : ℕ) where
-  -- A publisher that does something first brings its connections up to date, if the list of subscribers changed; where that fails it
-  -- doesn't.
+  -- The publisher updates its connections if the list of subscribers changed, and then `Does` what it was asked. If the update fails, that
+  -- failure is the reply.
   abbrev pub UpdatesFirst : (ConnectionFailure → Refusal) → (Publisher T → Service T → Reply T → Service T → Type 0)
       → Publisher T → Service T → Reply T → Service T → Type 0
   UpdatesFirst told Does publisher old answer new =

@@ -15,31 +15,32 @@ use Rattle.iox_command.specs.declared.reply.Reply.{Reply}
 use Rattle.iox_command.specs.declared.reply.Reply.TheVariants as reply
 
 module _ {T : Type 0} (number : ℕ) where
-  -- whether some connection of a subscriber has data, an expired one too
+  -- Whether any connection of the subscriber, expired ones too, has a waiting message.
   abbrev pub has_samples : Subscriber → Service T → Bool
   has_samples subscriber service = list_any (λ publisher. nat_lt 0 (length (mailbox publisher number service).waiting))
       (those subscriber.connected ++ subscriber.expired)
 
-  -- whether the connection of a publisher has data, and fewer messages are borrowed of it than may be
+  -- Whether the connection to this publisher gives: a message waits, and fewer messages are borrowed of it than the service allows.
   abbrev pub gives : Service T → ℕ → Bool
   gives service publisher =
       nat_lt 0 (length (mailbox publisher number service).waiting)
       && nat_lt (length (mailbox publisher number service).borrowed) service.settings.subscriber_max_borrowed_samples
 
-  -- the expired connections, without the idle ones that are met before the first that gives
+  -- The expired connections without the idle ones that come before the first that gives.
   abbrev pub lasting : Service T → List ℕ → List ℕ
   lasting service [] = []
   lasting service (publisher ∷ more) =
       if gives service publisher then publisher ∷ more
       else (if is_idle (mailbox publisher number service) then lasting service more else publisher ∷ lasting service more)
 
-  -- Which connection gives, where this is the first expired one that does: just that, else any other one, if there is one that gives.
+  -- Which connection gives: the first expired one that does, if there is one; otherwise any other connection that gives, or none if none
+  -- does.
   abbrev pub IsGiver : Option ℕ → Subscriber → Service T → Option ℕ → Type 0
   IsGiver (Some expired) subscriber service giver = giver ≡ Some expired
   IsGiver None subscriber service None = list_any (gives service) (those subscriber.connected) ≡ false
   IsGiver None subscriber service (Some publisher) = (contains (those subscriber.connected) publisher && gives service publisher) ≡ true
 
-  -- The oldest message of a connection is borrowed, and held under this number.
+  -- The subscriber borrows the oldest message that waits in the connection, and holds it as a sample with this number.
   abbrev pub Takes : ℕ → ℕ → Service T → Reply T → Service T → Type 0
   Takes sample publisher old answer new =
       let box = mailbox publisher number old in
@@ -49,7 +50,8 @@ module _ {T : Type 0} (number : ℕ) where
       (record box { waiting = drop 1 box.waiting; borrowed = box.borrowed ++ take 1 box.waiting })
       (record old { samples = old.samples ++ (sample, record { publisher = publisher; subscriber = number; message = message }) ∷ [] }))
 
-  -- A subscriber receives. Where no connection gives it is told whether some has data, of which as much is borrowed as may be.
+  -- A subscriber receives. Idle expired connections that come before the first that gives end. If no connection gives, the receive is
+  -- refused if some connection has data, since the maximum is borrowed there; otherwise the reply is that nothing waits.
   abbrev pub Receives : ℕ → Subscriber → Service T → Reply T → Service T → Type 0
   Receives sample subscriber old answer new =
       let swept = record old {

@@ -1,4 +1,4 @@
--- Laws of what a call leaves that is refused.
+-- Theorems about what a refused call leaves.
 use Rattle.std.specs.Prelude.{ℕ, zero, suc, ◌≡◌, ◌⊎◌, Bool, true, false, ◌&&◌, ◌==◌, nat_le, List, [], ◌∷◌, ◌++◌, length, take, map}
 use Rattle.std.specs.Prelude.{filter, fold, None, Some, find, option_map, unwrap_or, if◌then◌else◌}
 use Rattle.std.specs.Option.{option_map_or}
@@ -29,11 +29,11 @@ use Rattle.iox_command.specs.declared.reply.Reply.TheVariants as reply
 use Rattle.iox_command.specs.declared.step.ForeignStep.{ForeignStep}
 use Rattle.iox_command.specs.declared.step.StepBefore.{StepBefore}
 
--- A phase is as it was; or nothing stood there, and nothing stands.
+-- The phase is as it was, or it was absent and is absent, perhaps with a later lifetime.
 abbrev pub IsAsBefore : Phase → Phase → Type 0
 IsAsBefore old new = (new ≡ old) ⊎ ((lives : ℕ) × (later : ℕ) × (old ≡ Absent lives) × (new ≡ Absent later))
 
--- A command creates or opens the service of a pattern and name, and no node outside the hub does anything meanwhile.
+-- The command creates or opens the service of this pattern and name, and no other node acts meanwhile.
 abbrev pub IsQuietCallFor : {T : Type 0} → MessagingPattern → List ℕ → Command T → Type 0
 IsQuietCallFor pattern name (command.Create node other options attributes steps) =
     (pattern_of options ≡ pattern) × (other ≡ name) × (steps ≡ [])
@@ -43,24 +43,24 @@ IsQuietCallFor pattern name (command.OpenOrCreate node other options required st
     (pattern_of options ≡ pattern) × (other ≡ name) × (steps ≡ [])
 IsQuietCallFor pattern name other = ⊥
 
--- what nodes outside the hub are to do before an access, which goes by its number from 1 on
+-- The actions that other nodes are to do before an access; accesses are numbered from 1.
 abbrev pub steps_at : List StepBefore → ℕ → List ForeignStep
 steps_at steps access = map (λ before. before.step) (filter (λ before. before.access == access) steps)
 
--- what they are to do before the first so many accesses, one after the other
+-- The actions that other nodes are to do before the first so many accesses, in order.
 abbrev pub steps_through : List StepBefore → ℕ → List ForeignStep
 steps_through steps zero = []
 steps_through steps (suc accesses) = steps_through steps accesses ++ steps_at steps (suc accesses)
 
--- A phase is what the steps of nodes outside the hub alone made of another: those before so many accesses, and of those before the next one
--- so many as were done. Where nothing stood then, a life may have begun and ended.
+-- The phase is what the actions of other nodes alone made of the old one: all those before so many accesses, and some of those before the
+-- next one. If the phase was absent then, a lifetime may have begun and ended.
 abbrev pub IsLeftBySteps : MessageTypeDetails → MessagingPattern → List StepBefore → Phase → Phase → Type 0
 IsLeftBySteps types pattern steps old new =
     (accesses : ℕ) × (done : ℕ)
     × IsAsBefore
     (fold (acted types pattern) old (steps_through steps accesses ++ take done (steps_at steps (suc accesses)))) new
 
--- A command creates or opens the service of a pattern and name, and these are the steps of nodes outside the hub meanwhile.
+-- The command creates or opens the service of this pattern and name, and these are the actions of other nodes meanwhile.
 abbrev pub IsCallWith : {T : Type 0} → MessagingPattern → List ℕ → List StepBefore → Command T → Type 0
 IsCallWith pattern name steps (command.Create node other options attributes meanwhile) =
     (pattern_of options ≡ pattern) × (other ≡ name) × (meanwhile ≡ steps)
@@ -70,12 +70,12 @@ IsCallWith pattern name steps (command.OpenOrCreate node other options required 
     (pattern_of options ≡ pattern) × (other ≡ name) × (meanwhile ≡ steps)
 IsCallWith pattern name steps other = ⊥
 
--- what stays of a subscriber: all but how far it follows the list of publishers, and its connections
+-- What a refused call leaves of a subscriber: all except how far it follows the list of publishers, and its connections.
 abbrev pub subscriber_staying : Subscriber → Subscriber
 subscriber_staying one = record one { seen = 0; again = false; connected = []; expired = [] }
 
 module _ {T : Type 0} where
-  -- whether a command is a call of a port that brings its connections up to date first
+  -- Whether the command is a call of a port that updates its connections first.
   abbrev pub is_updating : Command T → Bool
   is_updating (command.Send loan) = true
   is_updating (command.Put publisher values) = true
@@ -84,22 +84,24 @@ module _ {T : Type 0} where
   is_updating (command.Has subscriber) = true
   is_updating other = false
 
-  -- whether a command begins to send
+  -- Whether the command is to send.
   abbrev pub is_sending : Command T → Bool
   is_sending (command.Send loan) = true
   is_sending (command.Put publisher values) = true
   is_sending other = false
 
-  -- the loans that are out after a refused call: a send has spent its own
+  -- The loans that are out after a refused call: a send has spent its own.
   abbrev pub loans_left : Command T → List (ℕ × Loan T) → List (ℕ × Loan T)
   loans_left (command.Send loan) loans = removed loan loans
   loans_left other loans = loans
 
-  -- what stays of a publisher: all but how far it follows the list of subscribers, its connections, and what a loan takes
+  -- What a refused call leaves of a publisher: all except how far it follows the list of subscribers, its connections, and what a loan
+  -- changes.
   abbrev pub publisher_staying : Publisher T → Publisher T
   publisher_staying one = record one { seen = 0; connected = []; room = 0; segments = 0; first = 0; next = 0 }
 
-  -- Name, settings, lists and samples of a service stay, and each port but for how far it follows the others and what a loan takes of it.
+  -- Name, settings, lists and samples of the service stay, and so does each port, except how far it follows the other list and what a loan
+  -- changes.
   abbrev pub KeepsPorts : Service T → Service T → Type 0
   KeepsPorts old new =
       (new.name ≡ old.name) × (new.settings ≡ old.settings)
@@ -108,8 +110,8 @@ module _ {T : Type 0} where
       × ((number : ℕ)
       → option_map subscriber_staying (at number new.subscribers) ≡ option_map subscriber_staying (at number old.subscribers))
 
-  -- All that is borrowed stays so. Where the publisher is connected to a subscriber that is listed, what waits stays, and a mailbox that
-  -- was there is as it was.
+  -- What is borrowed stays. If the publisher was connected to a subscriber that is listed, what waits stays, and a mailbox that existed is
+  -- as it was.
   abbrev pub KeepsMessages : Service T → Service T → Type 0
   KeepsMessages old new = (publisher subscriber : ℕ)
       → ((mailbox publisher subscriber new).borrowed ≡ (mailbox publisher subscriber old).borrowed)
@@ -121,7 +123,8 @@ module _ {T : Type 0} where
       && option_map_or (λ one. contains (those one.connected) subscriber) (at publisher old.publishers) false) ≡ true
       → new.mailboxes publisher subscriber ≡ Some box)
 
-  -- A message is sent by a publisher, which numbers it then: that of a loan, or the next one, with the values of a put.
+  -- The command sends this message by this publisher, before the send numbers it: that of a loan, or the publisher's next one with the
+  -- values of a put.
   abbrev pub IsSentBy : Command T → Service T → ℕ → Message T → Type 0
   IsSentBy (command.Send loan) service number message =
       (lent : Loan T) × (at loan service.loans ≡ Some lent) × (number ≡ lent.publisher) × (message ≡ sent_as lent)
@@ -130,12 +133,12 @@ module _ {T : Type 0} where
       × (message ≡ record { number = one.next; sequence = None; values = values })
   IsSentBy other service number message = ⊥
 
-  -- a mailbox once a message was put there: behind those that wait, unless as many wait as may
+  -- The mailbox once a message was put behind those that wait; a full mailbox stays as it is.
   abbrev pub offered_to : Message T → Mailbox T → Mailbox T
   offered_to message box = if nat_le box.limit (length box.waiting) then box else record box { waiting = box.waiting ++ message ∷ [] }
 
-  -- Of some subscribers one lacks a message: without safe overflow its mailbox is full, it stands and is connected, and it may be decided
-  -- for the publisher to discard and fail then.
+  -- At least one of these subscribers didn't get the message: its mailbox is full without safe overflow, it is open and connected, and
+  -- `DiscardDataAndFail` may be decided for the publisher.
   abbrev pub LacksOne : Choices T → ℕ → Publisher T → List ℕ → Service T → Type 0
   LacksOne choices number one left service =
       (service.settings.enable_safe_overflow ≡ false)
@@ -145,9 +148,9 @@ module _ {T : Type 0} where
       × (nat_le (mailbox number lacking service).limit (length (mailbox number lacking service).waiting) ≡ true)
       × (option_map_or (λ it. it.stands && contains (those it.connected) number) (at lacking service.subscribers) false ≡ true))
 
-  -- A publisher sent a message to all that it is connected to, and couldn't deliver: without safe overflow it waits now where fewer waited
-  -- than may, and nowhere else, and some subscriber lacks it. The message has the publisher's next sequence number, if messages have any.
-  -- It is the newest of its history, no send is blocked, and all else is as before.
+  -- A publisher sent a message to all that it is connected to, and couldn't deliver. Without safe overflow the message waits in each
+  -- mailbox that had capacity, and in no other, and at least one subscriber didn't get it. The message has the publisher's next sequence
+  -- number, if the service numbers messages, and is the newest of the history. No send is blocked, and all else is as before.
   abbrev pub IsUndelivered : Choices T → ℕ → Publisher T → Message T → Service T → Service T → Type 0
   IsUndelivered choices number one message old new =
       LacksOne choices number one (those one.connected) old
@@ -164,8 +167,8 @@ module _ {T : Type 0} where
         mailboxes = new.mailboxes;
       })
 
-  -- A send that was blocked went to those that were left, and couldn't deliver: each mailbox took its message that had room, one subscriber
-  -- lacks it, now or from before, and no send is blocked.
+  -- A blocked send went to the subscribers that were left, and couldn't deliver. Each mailbox with capacity took its message, at least one
+  -- subscriber didn't get it, now or before the send was blocked, and no send is blocked.
   abbrev pub IsRetried : Choices T → ℕ → Publisher T → Send T → Service T → Service T → Type 0
   IsRetried choices number one send old new =
       ((send.fails ≡ true) ⊎ LacksOne choices number one send.left old)
@@ -177,9 +180,9 @@ module _ {T : Type 0} where
       × (new ≡ record old { publishers = changed number (record one { blocked = None }) old.publishers; mailboxes = new.mailboxes })
 
 module _ {T : Type 0} (choices : Choices T) where
-  -- A send, a put, a receive, an update or a look for data that is refused leaves all but the service that has what it names: all others,
-  -- agreements, nodes, factories and numbers. A send has spent its loan; other loans stay, and so do what `KeepsPorts` and `KeepsMessages`
-  -- name. A send that couldn't deliver isn't meant: it did all else that a send does.
+  -- A send, put, receive, update or look for data that is refused changes only the service that has what it names. A send has spent its
+  -- loan; the other loans stay, and so does what `KeepsPorts` and `KeepsMessages` say. This doesn't apply to a send that couldn't deliver,
+  -- which did all else that a send does.
   abbrev pub RefusedPortsLeave : Type 0
   RefusedPortsLeave = (types : MessageTypeDetails) (buffer : ℕ) (asked : Command T) (old new : State T) (why : Refusal)
       → is_updating asked ≡ true → (why ≡ refusal.Send error.UnableToDeliver → ⊥)
@@ -188,8 +191,8 @@ module _ {T : Type 0} (choices : Choices T) where
       × (new ≡ record old { services = replaced (has_named old.factories asked) after old.services })
       × (after.loans ≡ loans_left asked service.loans) × KeepsPorts service after × KeepsMessages service after
 
-  -- In every run of a new machine: a send or a put that couldn't deliver brought the publisher's connections up to date, as a refused
-  -- update leaves them, and then sent its message to all who had room for it. The loan is spent, and all other services stay.
+  -- In every run of a new machine, a send or put that couldn't deliver updated the publisher's connections, with what a refused update
+  -- leaves, and then sent its message to all connected subscribers with capacity. The loan is spent, and all other services stay.
   abbrev pub UndeliveredLeaves : Type 0
   UndeliveredLeaves = (types : MessageTypeDetails) (buffer : ℕ) (before : List (Command T)) (told : List (Reply T)) (old : State T)
       → Runs types choices buffer before new_state told old
@@ -203,8 +206,8 @@ module _ {T : Type 0} (choices : Choices T) where
       × (at number mid.publishers ≡ Some one) × (one.seen ≡ mid.subscriber_list.changes)
       × IsUndelivered choices number one message mid after
 
-  -- In every run of a new machine: a retry that couldn't deliver sent the message of the blocked send to all that were left, and changed
-  -- nothing else.
+  -- In every run of a new machine, a retry that couldn't deliver sent the message of the blocked send to all subscribers that were left,
+  -- and changed nothing else.
   abbrev pub RetriesLeave : Type 0
   RetriesLeave = (types : MessageTypeDetails) (buffer : ℕ) (before : List (Command T)) (told : List (Reply T)) (old : State T)
       → Runs types choices buffer before new_state told old
@@ -214,8 +217,8 @@ module _ {T : Type 0} (choices : Choices T) where
       × (find has old.services ≡ Some service) × (new ≡ record old { services = replaced has after old.services })
       × (at number service.publishers ≡ Some one) × (one.blocked ≡ Some send) × IsRetried choices number one send service after
 
-  -- In every run of a new machine: a creation or an opening that is refused, while no node outside the hub does anything, leaves what is
-  -- agreed on and the nodes that are in. Where nothing stood a life may have begun and ended.
+  -- In every run of a new machine, a refused creation or opening, while no other node acts, leaves the agreement and the nodes that are in.
+  -- If the phase was absent, a lifetime may have begun and ended.
   abbrev pub RefusedCallsLeaveNodes : Type 0
   RefusedCallsLeaveNodes = (types : MessageTypeDetails) (buffer : ℕ) (before : List (Command T)) (told : List (Reply T)) (old : State T)
       → Runs types choices buffer before new_state told old
@@ -223,8 +226,8 @@ module _ {T : Type 0} (choices : Choices T) where
       → Step types choices buffer asked old (reply.Refused why) new
       → IsAsBefore (old.phases pattern name) (new.phases pattern name)
 
-  -- In every run of a new machine: a creation or an opening that is refused leaves what nodes outside the hub made of its phase meanwhile,
-  -- and does nothing to it itself. Where nothing stood a life may have begun and ended.
+  -- In every run of a new machine, a refused creation or opening leaves the phase that the actions of other nodes alone made of it. If the
+  -- phase was absent then, a lifetime may have begun and ended.
   abbrev pub RefusedCallsLeaveSteps : Type 0
   RefusedCallsLeaveSteps = (types : MessageTypeDetails) (buffer : ℕ) (before : List (Command T)) (told : List (Reply T)) (old : State T)
       → Runs types choices buffer before new_state told old

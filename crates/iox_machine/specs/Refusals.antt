@@ -1,4 +1,4 @@
--- How failures to create and to open a service are told.
+-- How failures to create and to open a service are reported.
 use Rattle.iox_command.specs.NegotiateBase.declared.errors.publish_subscribe.PublishSubscribeCreateError.TheVariants as
     publish_subscribe_create
 use Rattle.iox_command.specs.NegotiateBase.declared.errors.publish_subscribe.PublishSubscribeOpenError.TheVariants as publish_subscribe_open
@@ -23,8 +23,8 @@ use Rattle.iox_command.specs.declared.refusal.Refusal.TheVariants as refusal
 use Rattle.iox_command.specs.declared.service.ServiceOptions.{ServiceOptions}
 use Rattle.iox_command.specs.declared.service.ServiceOptions.TheVariants as options
 
--- How it is told that a service isn't created, by its pattern. Only with a history can the buffer be shorter: that failure is met nowhere
--- else.
+-- The refusal that reports a failed creation, by the service's pattern. Only publish-subscribe has a history, so only there can the buffer
+-- be shorter.
 abbrev pub create_refusal : ServiceOptions → CreateFailure → Refusal
 create_refusal (options.PublishSubscribe named) uncreated.AlreadyExists
     = refusal.PublishSubscribeCreate publish_subscribe_create.AlreadyExists
@@ -66,7 +66,7 @@ create_refusal (options.RequestResponse named) uncreated.SubscriberBufferMustBeL
     = refusal.RequestResponseCreate request_response_create.InternalFailure
 create_refusal (options.RequestResponse named) uncreated.OutOfMemory = refusal.RequestResponseCreate request_response_create.OutOfMemory
 
--- How it is told that a service isn't opened, by its pattern; of a clause that isn't met, as the verdict tells it.
+-- The refusal that reports a failed opening, by the service's pattern; a clause that isn't met is reported as the verdict says.
 abbrev pub open_refusal : ServiceOptions → OpenFailure Refusal → Refusal
 open_refusal named (unopened.Clause unmet) = unmet
 open_refusal (options.PublishSubscribe named) unopened.DoesNotExist = refusal.PublishSubscribeOpen publish_subscribe_open.DoesNotExist
@@ -102,7 +102,7 @@ open_refusal (options.RequestResponse named) unopened.IsMarkedForDestruction
     = refusal.RequestResponseOpen request_response_open.IsMarkedForDestruction
 open_refusal (options.RequestResponse named) unopened.OutOfMemory = refusal.RequestResponseOpen request_response_open.OutOfMemory
 
--- who opens or creates is told what `open` or `create` would be, within an error of its own
+-- The refusal of `open_or_create`, which contains that of `open` or of `create`.
 abbrev pub within_either : Refusal → Refusal
 within_either (refusal.PublishSubscribeOpen error)
     = refusal.PublishSubscribeOpenOrCreate (publish_subscribe_either.PublishSubscribeOpenError error)
@@ -116,7 +116,7 @@ within_either (refusal.RequestResponseCreate error)
     = refusal.RequestResponseOpenOrCreate (request_response_either.RequestResponseCreateError error)
 within_either other = other
 
--- how it is told that a service is neither opened nor created, by its pattern
+-- The refusal that reports a failed `open_or_create`, by the service's pattern.
 abbrev pub either_refusal : ServiceOptions → OpenOrCreateFailure Refusal → Refusal
 either_refusal named (neither.Open failure) = within_either (open_refusal named failure)
 either_refusal named (neither.Create failure) = within_either (create_refusal named failure)

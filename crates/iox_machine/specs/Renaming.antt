@@ -1,4 +1,4 @@
--- Factories, ports, loans and samples go by other numbers.
+-- Other numbers for factories, ports, loans and samples.
 use Rattle.std.specs.Prelude.{ℕ, ◌≡◌}
 use Rattle.iox_command.specs.declared.command.Command.{Command}
 use Rattle.iox_command.specs.declared.command.Command.TheVariants as command
@@ -7,7 +7,7 @@ use Rattle.iox_command.specs.declared.port.PortNumber.TheVariants as port
 use Rattle.iox_command.specs.declared.reply.Reply.{Reply}
 use Rattle.iox_command.specs.declared.reply.Reply.TheVariants as reply
 
--- By which number each goes: of factories, publishers, subscribers, loans and samples.
+-- The other number of each factory, publisher, subscriber, loan and sample.
 pub record Renaming : Type 0 where
   pub factories : ℕ → ℕ
   pub publishers : ℕ → ℕ
@@ -15,22 +15,22 @@ pub record Renaming : Type 0 where
   pub loans : ℕ → ℕ
   pub samples : ℕ → ℕ
 
--- No two numbers become one.
+-- No two numbers have the same other number.
 abbrev pub IsOneToOne : (ℕ → ℕ) → Type 0
 IsOneToOne by = (one other : ℕ) → by one ≡ by other → one ≡ other
 
--- No two of a kind go by one number.
+-- No two of a kind have the same other number.
 abbrev pub KeepsApart : Renaming → Type 0
 KeepsApart by =
     IsOneToOne by.factories × IsOneToOne by.publishers × IsOneToOne by.subscribers × IsOneToOne by.loans × IsOneToOne by.samples
 
--- the number of a port is another one
+-- The port with its other number.
 abbrev pub renamed_port : Renaming → PortNumber → PortNumber
 renamed_port by (port.Publisher publisher) = port.Publisher (by.publishers publisher)
 renamed_port by (port.Subscriber subscriber) = port.Subscriber (by.subscribers subscriber)
 
 module _ {T : Type 0} where
-  -- the command that names the same by its other number
+  -- The command with the other numbers of what it names.
   abbrev pub renamed : Renaming → Command T → Command T
   renamed by (command.Close factory) = command.Close (by.factories factory)
   renamed by (command.Publisher factory options) = command.Publisher (by.factories factory) options
@@ -53,7 +53,7 @@ module _ {T : Type 0} where
   renamed by (command.Leave number) = command.Leave (renamed_port by number)
   renamed by asked = asked
 
-  -- the reply that tells the other number
+  -- The reply with the other number of what it reports.
   abbrev pub renamed_reply : Renaming → Reply T → Reply T
   renamed_reply by (reply.FactoryMade number) = reply.FactoryMade (by.factories number)
   renamed_reply by (reply.PublisherMade number) = reply.PublisherMade (by.publishers number)

@@ -1,4 +1,4 @@
--- A service in which publishers, subscribers, loans and samples go by other numbers, and its factories too.
+-- A service with other numbers for its factories, publishers, subscribers, loans and samples.
 use Rattle.std.specs.Prelude.{ℕ, ◌≡◌, ⊤, List, [], ◌∷◌, map, option_map}
 use Rattle.iox_machine.specs.Choices.{Choices}
 use Rattle.iox_machine.specs.Message.{Loan, Sample}
@@ -6,15 +6,15 @@ use Rattle.iox_machine.specs.PortList.{PortList}
 use Rattle.iox_machine.specs.Renaming.{Renaming}
 use Rattle.iox_machine.specs.Service.{Service, Publisher, Send, Subscriber}
 
--- the list of ports that go by other numbers, at the same places
+-- The port list with the other numbers of its ports, at the same places.
 abbrev pub renumbered_list : (ℕ → ℕ) → PortList → PortList
 renumbered_list by list = record { places = map (option_map by) list.places; changes = list.changes }
 
--- what goes by a number, changed so, by its other number
+-- The table with other numbers, and with each value changed.
 abbrev pub renumbered_table : {V W : Type 0} → (ℕ → ℕ) → (V → W) → List (ℕ × V) → List (ℕ × W)
 renumbered_table by change table = map (λ entry. (by entry.0, change entry.1)) table
 
--- a subscriber that names its factory and the publishers by their other numbers
+-- The subscriber with the other numbers of its factory and of publishers.
 abbrev pub renumbered_subscriber : Renaming → Subscriber → Subscriber
 renumbered_subscriber by one = record one {
   factory = by.factories one.factory;
@@ -23,7 +23,7 @@ renumbered_subscriber by one = record one {
 }
 
 module _ {T : Type 0} where
-  -- what may be chosen for ports that go by their other numbers
+  -- The choices for ports by their other numbers.
   abbrev pub renumbered_choices : Renaming → Choices T → Choices T
   renumbered_choices by choices = record {
     is_default = choices.is_default;
@@ -35,11 +35,11 @@ module _ {T : Type 0} where
         × choices.subscriber_acts subscriber named action;
   }
 
-  -- a send under way that names the subscribers that are left by their other numbers
+  -- The send with the other numbers of the subscribers that are left.
   abbrev pub renumbered_send : Renaming → Send T → Send T
   renumbered_send by send = record send { left = map by.subscribers send.left }
 
-  -- a publisher that names its factory and the subscribers by their other numbers
+  -- The publisher with the other numbers of its factory and of subscribers.
   abbrev pub renumbered_publisher : Renaming → Publisher T → Publisher T
   renumbered_publisher by one = record one {
     factory = by.factories one.factory;
@@ -47,18 +47,18 @@ module _ {T : Type 0} where
     blocked = option_map (renumbered_send by) one.blocked;
   }
 
-  -- a loan that names its publisher by its other number
+  -- The loan with the other number of its publisher.
   abbrev pub renumbered_loan : Renaming → Loan T → Loan T
   renumbered_loan by loan = record loan { publisher = by.publishers loan.publisher }
 
-  -- a sample that names its publisher and its subscriber by their other numbers
+  -- The sample with the other numbers of its publisher and its subscriber.
   abbrev pub renumbered_sample : Renaming → Sample T → Sample T
   renumbered_sample by sample = record sample {
     publisher = by.publishers sample.publisher;
     subscriber = by.subscribers sample.subscriber;
   }
 
-  -- A service is the other one but for these numbers.
+  -- The second service is the first with these other numbers.
   abbrev pub IsRenumbered : Renaming → Service T → Service T → Type 0
   IsRenumbered by one other =
       (other.name ≡ one.name) × (other.settings ≡ one.settings)
@@ -71,7 +71,7 @@ module _ {T : Type 0} where
       × ((publisher subscriber : ℕ)
       → other.mailboxes (by.publishers publisher) (by.subscribers subscriber) ≡ one.mailboxes publisher subscriber)
 
-  -- Services are the others but for these numbers, one by one.
+  -- The second services are the first with these other numbers, one by one.
   abbrev pub AreRenumbered : Renaming → List (Service T) → List (Service T) → Type 0
   AreRenumbered by [] [] = ⊤
   AreRenumbered by (one ∷ more) (other ∷ others) = IsRenumbered by one other × AreRenumbered by more others

@@ -1,4 +1,4 @@
--- The machine: what each command does, what it is answered, and a run of commands.
+-- The machine: what each command does, what its reply is, and runs of commands.
 use Rattle.std.specs.Prelude.{ℕ, ◌+◌, ◌≡◌, ◌⊎◌, ◌&&◌, ◌==◌, nat_lt, Bool, false, List, [], ◌∷◌, ◌++◌, length, map, set, Some, None, is_some}
 use Rattle.std.specs.Prelude.{MatchBool, MatchOption, if◌then◌else◌}
 use Rattle.std.specs.Global.{Vec}
@@ -30,25 +30,25 @@ use Rattle.iox_command.specs.declared.reply.Reply.{Reply}
 use Rattle.iox_command.specs.declared.reply.Reply.TheVariants as reply
 
 module _ {T : Type 0} where
-  -- A run may stop where these commands are left and these answers were given: some command is left; and nothing was answered, or the next
-  -- command is one that is answered with the values of a message, if it finds one: it receives, or reads.
+  -- A run may stop with these commands left and these answers given: before a command that receives or reads, or, if nothing was answered
+  -- yet, before any command.
   abbrev pub MayStop : List (Command T) → List (Reply T) → Type 0
   MayStop [] answers = ⊥
   MayStop (command.Receive subscriber ∷ rest) answers = Unit {0}
   MayStop (command.Read sample ∷ rest) answers = Unit {0}
   MayStop (other ∷ rest) answers = answers ≡ []
 
--- A machine is made for messages of certain types, with what others may choose, and with how many connections of a subscriber may be
--- expired at least.
+-- The parameters of a machine: the types of its messages, the choices of others, and how many connections of a subscriber may be expired at
+-- once (or as many as samples may be borrowed of one connection, if that is more).
 module _ {T : Type 0} (types : MessageTypeDetails) (choices : Choices T) (buffer : ℕ) where
-  -- What a command does at the publish-subscribe service of a factory; it is skipped where there is no such factory, or it is of another
-  -- pattern.
+  -- A command that names a factory: `Does` is done at the factory's publish-subscribe service. It is skipped if there is no such factory,
+  -- or it has another pattern.
   abbrev pub AtFactory : ℕ → (Service T → Reply T → Service T → Type 0) → State T → Reply T → State T → Type 0
   AtFactory number Does old answer new =
       MatchOption (at number old.factories) (OnlyAnswers reply.Skipped old answer new)
       (λ factory. AtOne (λ service. if is_service_of factory service then Some service else None) (λ service. Does) old answer new)
 
-  -- What each command does to the machine, and what it is answered.
+  -- What each command may do to the state, with this reply.
   abbrev pub Step : Command T → State T → Reply T → State T → Type 0
   Step command.Node old answer new =
       ((answer ≡ reply.NodeMade (old.made.nodes + 1)) × (new ≡ record old { made = counted answer old.made }))
@@ -143,14 +143,14 @@ module _ {T : Type 0} (types : MessageTypeDetails) (choices : Choices T) (buffer
       (subscribing.UpdatesFirst choices buffer subscriber refusal.Connection
       (λ one service. OnlyAnswers (reply.Has (has_samples subscriber one service)) service)) old answer new
 
-  -- Commands one after the other, each with its answer.
+  -- Commands that are done one after the other, each with its reply.
   abbrev pub Runs : List (Command T) → State T → List (Reply T) → State T → Type 0
   Runs [] old answers new = (answers ≡ []) × (new ≡ old)
   Runs (command ∷ more) old answers new =
       (answer : Reply T) × (mid : State T) × (rest : List (Reply T)) × Step command old answer mid × Runs more mid rest new ×
       (answers ≡ answer ∷ rest)
 
-  -- What a new machine may answer to commands: to all of them, or, if it stopped, to the first of them, where it may stop.
+  -- What a new machine may answer to commands: all of them are answered, or, if it stopped, those before a command at which it may stop.
   abbrev pub Answers : List (Command T) → Bool → List (Reply T) → Type 0
   Answers commands stopped answers =
       (first : List (Command T)) × (rest : List (Command T)) × (after : State T)

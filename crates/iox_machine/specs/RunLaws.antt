@@ -1,4 +1,4 @@
--- Laws of every run of the machine.
+-- Theorems about every run of the machine: sizes, messages, samples, and commands that change nothing.
 use Rattle.std.specs.Prelude.{ℕ, ◌≡◌, ◌≤◌, ◌⊎◌, Bool, true, false, List, [], ◌∷◌, length, filter_map, find, is_some, None, Some}
 use Rattle.std.specs.Global.{Vec}
 use Rattle.std.specs.List.{AllByRecursion, list_all}
@@ -27,26 +27,26 @@ use Rattle.iox_command.specs.declared.refusal.Refusal.TheVariants as refusal
 use Rattle.iox_command.specs.declared.reply.Reply.{Reply}
 use Rattle.iox_command.specs.declared.reply.Reply.TheVariants as reply
 
--- whether a reply tells that a send began: it waits at a full mailbox, or it went to all others
+-- Whether a reply says that a send began: it is blocked, or delivered, or couldn't deliver at a full mailbox.
 abbrev pub has_begun : {T : Type 0} → Reply T → Bool
 has_begun reply.Blocked = true
 has_begun (reply.Delivered count) = true
 has_begun (reply.Refused (refusal.Send error.UnableToDeliver)) = true
 has_begun other = false
 
--- whether each value of a loan is written
+-- Whether each value of a loan is written.
 abbrev pub is_written : {T : Type 0} → Loan T → Bool
 is_written loan = list_all is_some loan.values
 
--- the message that a written loan becomes when it is sent, before the send numbers it
+-- The message that a written loan becomes when it is sent, before the send gives it a sequence number.
 abbrev pub sent_as : {T : Type 0} → Loan T → Message T
 sent_as loan = record { number = loan.number; sequence = None; values = filter_map (λ value. value) loan.values }
 
--- a message as its send numbers it: with the sequence number behind that of its publisher's last one, if messages have any
+-- The message with the publisher's next sequence number, if its service numbers messages.
 abbrev pub numbered : {T : Type 0} → Publisher T → Message T → Message T
 numbered publisher message = record message { sequence = next_sequence publisher.last_sequence }
 
--- A command began the send of a message of these values, by a publisher.
+-- The command began the send of a message with these values by this publisher.
 abbrev pub BeginsToSend : {T : Type 0} → ℕ → List T → Command T → State T → Reply T → Type 0
 BeginsToSend publisher values (command.Put number given) old answer = (number ≡ publisher) × (given ≡ values) × (has_begun answer ≡ true)
 BeginsToSend {T} publisher values (command.Send loan) old answer =
@@ -55,8 +55,8 @@ BeginsToSend {T} publisher values (command.Send loan) old answer =
     × (has_begun answer ≡ true)
 BeginsToSend publisher values other old answer = ⊥
 
--- whether a command that is refused is refused as a whole: it neither negotiates, nor does steps of other nodes, nor brings
--- connections up to date first
+-- Whether the command is one that changes nothing if it is refused: it neither negotiates, nor does actions of other nodes, nor updates
+-- connections first.
 abbrev pub is_refused_whole : {T : Type 0} → Command T → Bool
 is_refused_whole command.Node = true
 is_refused_whole (command.Close factory) = true
@@ -66,7 +66,7 @@ is_refused_whole (command.Loan publisher count) = true
 is_refused_whole (command.LoanUninit publisher count) = true
 is_refused_whole other = false
 
--- What is said of each message that waits, is borrowed, is kept as history, or is held as a sample, with its publisher.
+-- `Is` holds of each message that waits, is borrowed, is kept as history, or is held as a sample, with its publisher.
 abbrev pub AllMessages : {T : Type 0} → (ℕ → Message T → Type 0) → Service T → Type 0
 AllMessages {T} Is service =
     ((publisher subscriber : ℕ) (box : Mailbox T) → service.mailboxes publisher subscriber ≡ Some box
@@ -74,19 +74,19 @@ AllMessages {T} Is service =
     × AllByRecursion (λ entry. AllByRecursion (Is entry.0) entry.1.history) service.publishers
     × AllByRecursion (λ entry. Is entry.1.publisher entry.1.message) service.samples
 
--- A publisher of this number came, and this was named for it.
+-- The command created the publisher with this number, and named these options for it.
 abbrev pub ComesAs : {T : Type 0} → ℕ → PublisherOptions → Command T → Reply T → Type 0
 ComesAs number options (command.Publisher factory named) answer = (named ≡ options) × (answer ≡ reply.PublisherMade number)
 ComesAs number options other answer = ⊥
 
--- A publisher has as many slots, and as many of its loans may be out, as settings and what was named for it come to.
+-- The publisher has the number of slots and the limit of loans that follow from the settings and from the options named for it.
 abbrev pub IsSizedAs : {T : Type 0} → PublisherOptions → StaticConfig → Publisher T → Type 0
 IsSizedAs {T} options settings publisher =
     let made : Publisher T = new_publisher publisher.factory options settings in
     (publisher.max_loaned_samples ≡ made.max_loaned_samples) × (publisher.slots ≡ made.slots)
 
--- No more messages wait, are borrowed or are kept as history than the settings of the service allow, and no more publishers and
--- subscribers are listed. The lists have just as many places, and each publisher is sized by these settings and by what was named for it.
+-- No more messages wait, are borrowed or are kept as history than the settings of the service allow, and no more publishers and subscribers
+-- are listed. The lists have exactly as many places, and each publisher is sized by these settings and by the options named for it.
 abbrev pub IsWithinSizes : {T : Type 0} → (ℕ → PublisherOptions → Type 0) → Service T → Type 0
 IsWithinSizes {T} Named service =
     ((publisher subscriber : ℕ) (box : Mailbox T) → service.mailboxes publisher subscriber ≡ Some box
@@ -101,7 +101,7 @@ IsWithinSizes {T} Named service =
     × AllByRecursion (λ entry. (options : PublisherOptions) × Named entry.0 options × IsSizedAs options service.settings entry.1)
     service.publishers
 
--- A command is a call for the service of a pattern and name: it creates or opens it, or has nodes outside the hub do steps there.
+-- The command is one for the service of this pattern and name: it creates or opens the service, or has other nodes do actions there.
 abbrev pub IsCallFor : {T : Type 0} → MessagingPattern → List ℕ → Command T → Type 0
 IsCallFor pattern name (command.Create node other options attributes steps) = (pattern_of options ≡ pattern) × (other ≡ name)
 IsCallFor pattern name (command.Open node other options required steps) = (pattern_of options ≡ pattern) × (other ≡ name)
@@ -110,14 +110,14 @@ IsCallFor pattern name (command.Foreign one other steps) = (one ≡ pattern) × 
 IsCallFor pattern name other = ⊥
 
 module _ {T : Type 0} (types : MessageTypeDetails) (choices : Choices T) (buffer : ℕ) where
-  -- In a run the send of a message of these values began, by a publisher.
+  -- In the run, the send of a message with these values by this publisher began.
   abbrev pub Began : ℕ → List T → (asked : List (Command T)) (old : State T) (answers : List (Reply T)) (new : State T)
       → Runs types choices buffer asked old answers new → Type 0
   Began publisher values [] old answers new run = ⊥
   Began publisher values (one ∷ more) old answers new run =
       BeginsToSend publisher values one old run.0 ⊎ Began publisher values more run.1 run.2 new run.4
 
-  -- In a run a publisher of this number came, and this was named for it.
+  -- In the run, the publisher with this number was created, and these options were named for it.
   abbrev pub CameAs : ℕ → PublisherOptions → (asked : List (Command T)) (old : State T) (answers : List (Reply T)) (new : State T)
       → Runs types choices buffer asked old answers new → Type 0
   CameAs number options [] old answers new run = ⊥
@@ -130,27 +130,29 @@ module _ {T : Type 0} (choices : Choices T) where
   SkippedChangesNothing = (types : MessageTypeDetails) (buffer : ℕ) (asked : Command T) (old new : State T)
       → Step types choices buffer asked old reply.Skipped new → new ≡ old
 
-  -- A command that is refused as a whole changes nothing.
+  -- A command that is refused, and is one of those that change nothing then, changes nothing.
   abbrev pub RefusedChangesNothing : Type 0
   RefusedChangesNothing = (types : MessageTypeDetails) (buffer : ℕ) (asked : Command T) (old new : State T) (why : Refusal)
       → is_refused_whole asked ≡ true → Step types choices buffer asked old (reply.Refused why) new → new ≡ old
 
-  -- A call that is refused changes nothing but the phase of its pattern and name: all factories, services and numbers stay.
+  -- A refused creation, opening or action of other nodes changes at most the phase of its pattern and name: all factories, services and
+  -- counts stay.
   abbrev pub RefusedCallsLeaveServices : Type 0
   RefusedCallsLeaveServices = (types : MessageTypeDetails) (buffer : ℕ) (pattern : MessagingPattern) (name : List ℕ) (asked : Command T)
       (old new : State T) (why : Refusal)
       → IsCallFor pattern name asked → Step types choices buffer asked old (reply.Refused why) new
       → (new ≡ old) ⊎ ((phase : Phase) × (new ≡ with_phase pattern name phase old))
 
-  -- In every run of a new machine, what is in use of each service is within the sizes that its settings name. It has as many places for
-  -- ports, and its publishers as many slots and loans as they and the commands name by which these came.
+  -- In every run of a new machine, what each service uses is within the sizes of its settings. Its lists have as many places as these say,
+  -- and its publishers as many slots and loans as these and their commands say.
   abbrev pub SizesAreAgreed : Type 0
   SizesAreAgreed = (types : MessageTypeDetails) (buffer : ℕ) (asked : List (Command T)) (answers : List (Reply T)) (new : State T)
       (run : Runs types choices buffer asked new_state answers new)
       → AllByRecursion (IsWithinSizes (λ number options. CameAs types choices buffer number options asked new_state answers new run))
       new.services
 
-  -- In every run of a new machine, each message that is anywhere has the values with which its publisher began to send it.
+  -- In every run of a new machine, each message that waits, is borrowed, is kept or is held has the values with which its publisher began
+  -- to send it.
   abbrev pub MessagesWereSent : Type 0
   MessagesWereSent = (types : MessageTypeDetails) (buffer : ℕ) (asked : List (Command T)) (answers : List (Reply T)) (new : State T)
       (run : Runs types choices buffer asked new_state answers new)
@@ -158,7 +160,7 @@ module _ {T : Type 0} (choices : Choices T) where
       (AllMessages (λ publisher message. Began types choices buffer publisher message.values asked new_state answers new run))
       new.services
 
-  -- A sample reads as it was received, whatever was asked meanwhile.
+  -- A sample reads the values with which it was received, whatever commands come between.
   abbrev pub SamplesReadTheSame : Type 0
   SamplesReadTheSame = (types : MessageTypeDetails) (buffer : ℕ) (asked : List (Command T)) (answers : List (Reply T)) (old : State T)
       → Runs types choices buffer asked new_state answers old

@@ -19,16 +19,16 @@ use Rattle.iox_command.specs.declared.reply.Reply.{Reply}
 use Rattle.iox_command.specs.declared.reply.Reply.TheVariants as reply
 
 module _ {T : Type 0} (choices : Choices T) (number : ℕ) where
-  -- What may be decided at the full mailbox of a subscriber: one that left, or that isn't connected to the publisher yet, is passed over;
-  -- else it is chosen by who decides for the publisher.
+  -- What may be decided at the full mailbox of a subscriber: a subscriber that is closed, or isn't connected to the publisher, is skipped;
+  -- otherwise the publisher's choice applies.
   abbrev pub MayDecide : Publisher T → ℕ → Send T → Service T → BackpressureDecision → Type 0
   MayDecide publisher subscriber send service decision =
       MatchBool (option_map_or (λ one. one.stands && contains (those one.connected) number) (at subscriber service.subscribers) false)
       (choices.publisher_decides number send.retries send.elapsed (decision_of publisher.strategy publisher.handler) decision)
       (decision ≡ DiscardData)
 
-  -- A message goes to some subscribers, one after the other: a mailbox takes it; or that is full, and what is decided there comes about.
-  -- The send goes on to the others, or it waits there.
+  -- A message goes to these subscribers, one after the other. A mailbox takes it, or is full, and then what is decided is done: the send is
+  -- blocked there, or skips the mailbox and goes on.
   abbrev pub Delivers : Publisher T → List ℕ → Send T → Service T → Send T → Service T → Type 0
   Delivers publisher [] send old after new = (after ≡ record send { left = [] }) × (new ≡ old)
   Delivers publisher (subscriber ∷ more) send old after new =
@@ -41,8 +41,8 @@ module _ {T : Type 0} (choices : Choices T) (number : ℕ) where
       (λ box. Delivers publisher more (record send { retries = 0; elapsed = 0; delivered = send.delivered + 1 })
       (with_mailbox number subscriber box old) after new)
 
-  -- A send goes on to the subscribers that are left. It waits where one is left then; else it is over, and answers how many mailboxes took
-  -- its message.
+  -- A send goes on to the subscribers that are left. If some are left after that, it is blocked; otherwise it is over, and the reply says
+  -- how many mailboxes took its message, or that it couldn't be delivered.
   abbrev pub GoesOn : Publisher T → Send T → Service T → Reply T → Service T → Type 0
   GoesOn publisher send old answer new =
       (after : Send T) × (mid : Service T) × Delivers publisher send.left send old after mid
@@ -53,8 +53,8 @@ module _ {T : Type 0} (choices : Choices T) (number : ℕ) where
             mid.publishers;
       })
 
-  -- A send begins: its message gets the publisher's next sequence number, if messages have any. The publisher keeps it in its history, and
-  -- it goes to who is connected.
+  -- A send begins: its message gets the publisher's next sequence number, if the service numbers messages. The message becomes the newest
+  -- of the publisher's history, and goes to the connected subscribers.
   abbrev pub Begins : Message T → Publisher T → Service T → Reply T → Service T → Type 0
   Begins message publisher old answer new =
       let sequence = option_map (λ last. last + 1) publisher.last_sequence in
@@ -74,7 +74,8 @@ module _ {T : Type 0} (choices : Choices T) (number : ℕ) where
       })
       old answer new
 
-  -- A publisher sends a message, unless it left, or has no sequence number left: it brings its connections up to date first.
+  -- A publisher sends a message, after an update of its connections. The send is refused if the publisher is closed or has no sequence
+  -- number left.
   abbrev pub Sends : Message T → Publisher T → Service T → Reply T → Service T → Type 0
   Sends message publisher old answer new =
       MatchBool publisher.stands

@@ -1,4 +1,4 @@
--- Laws of the sequence numbers of messages in every run of the machine: how they go on, that none changes, and what a gap among them tells.
+-- Theorems about sequence numbers in every run of the machine: they rise by one, none changes, and a gap between them shows what was lost.
 use Rattle.std.specs.Prelude.{ℕ, ◌+◌, ◌≡◌, ⊤, Bool, true, false, not, ◌&&◌, nat_lt, List, [], ◌∷◌, ◌++◌, length, map, filter, find, Option}
 use Rattle.std.specs.Prelude.{None, Some, is_some, if◌then◌else◌}
 use Rattle.std.specs.Global.{Vec}
@@ -19,60 +19,62 @@ use Rattle.iox_command.specs.declared.reply.Reply.{Reply}
 use Rattle.iox_command.specs.declared.reply.Reply.TheVariants as reply
 
 module _ {T : Type 0} where
-  -- The sequence numbers of messages go on behind one, each by one; or no message has one, where there is none.
+  -- The sequence number of each message is one more than that of the message before it, and the first follows `last`; if `last` is none, no
+  -- message has one.
   abbrev pub GoOnBehind : Option ℕ → List (Message T) → Type 0
   GoOnBehind last [] = ⊤
   GoOnBehind last (message ∷ more) = (message.sequence ≡ next_sequence last) × GoOnBehind message.sequence more
 
-  -- the sequence number of the last of some messages; where there are none, the one before them
+  -- The sequence number of the last of these messages; without messages, the one before them.
   abbrev pub last_behind : Option ℕ → List (Message T) → Option ℕ
   last_behind last [] = last
   last_behind last (message ∷ more) = last_behind message.sequence more
 
-  -- whether a message is one of these, all of one publisher
+  -- Whether the message is one of these, which are all of its publisher.
   abbrev pub has_message : List (Message T) → Message T → Bool
   has_message messages message = contains (map (λ one. one.number) messages) message.number
 
-  -- whether a message has a sequence number between two others
+  -- Whether the message has a sequence number between these two.
   abbrev pub is_between : ℕ → ℕ → Message T → Bool
   is_between low high message = option_map_or (λ number. nat_lt low number && nat_lt number high) message.sequence false
 
-  -- the messages of a publisher that wait for a subscriber
+  -- The messages of this publisher that wait for this subscriber.
   abbrev pub waiting_for : ℕ → ℕ → State T → List (Message T)
   waiting_for publisher subscriber state = option_map_or (λ service. (mailbox publisher subscriber service).waiting)
       (find (λ service. is_some (at publisher service.publishers)) state.services) []
 
-  -- what a send that may be blocked is still to bring to a subscriber
+  -- The message that a blocked send still has to bring to this subscriber, if a send is blocked and has.
   abbrev pub still_brought : ℕ → Option (Send T) → List (Message T)
   still_brought subscriber None = []
   still_brought subscriber (Some send) = if contains send.left subscriber then send.message ∷ [] else []
 
-  -- the message that a blocked send of a publisher is still to bring to a subscriber
+  -- The message that a blocked send of this publisher still has to bring to this subscriber, if there is one.
   abbrev pub to_come : ℕ → ℕ → State T → List (Message T)
   to_come publisher subscriber state = option_map_or (λ one. still_brought subscriber one.blocked)
       (first_in (λ service. at publisher service.publishers) state) []
 
-  -- the messages of a publisher that are on their way to a subscriber: they wait, or are still to come
+  -- The messages of this publisher that are on their way to this subscriber: they wait, or a blocked send still has to bring them.
   abbrev pub on_way : ℕ → ℕ → State T → List (Message T)
   on_way publisher subscriber state = waiting_for publisher subscriber state ++ to_come publisher subscriber state
 
-  -- The messages of a publisher that a command drops from those that wait for a subscriber: they wait no longer, and weren't received.
+  -- The messages that a command drops from those of this publisher that wait for this subscriber: they wait no longer, and weren't
+  -- received.
   abbrev pub dropped_by : ℕ → ℕ → Command T → State T → Reply T → State T → List (Message T)
   dropped_by publisher subscriber asked old answer new =
       filter
       (λ message. not (has_message (with_one (received_by publisher subscriber asked answer new) (waiting_for publisher subscriber new))
       message)) (waiting_for publisher subscriber old)
 
-  -- The messages with which a command passes a subscriber over: the send began now, or was blocked and still to bring its message; and the
-  -- message neither waits now, nor is still to come. So it is at a full mailbox at which it is decided so, where a send is given up, and
-  -- where the publisher isn't connected to the subscriber.
+  -- The messages with which a command skips a subscriber: the send of the message begins now, or was blocked and still had to bring it; and
+  -- now the message neither waits nor is still to come. This happens at a full mailbox, if that is decided there; when a send is given up;
+  -- and if the publisher isn't connected to the subscriber.
   abbrev pub passed_by : ℕ → ℕ → Command T → State T → Reply T → State T → List (Message T)
   passed_by publisher subscriber asked old answer new =
       filter (λ message. not (has_message (on_way publisher subscriber new) message))
       (to_come publisher subscriber old ++ with_one (begun_by publisher asked old answer) [])
 
 module _ {T : Type 0} (types : MessageTypeDetails) (choices : Choices T) (buffer : ℕ) where
-  -- the messages of a publisher that were lost to a subscriber in a run, command by command: dropped, or passed over
+  -- The messages of this publisher that were lost to this subscriber in the run, command by command: dropped or skipped.
   abbrev pub lost_to : ℕ → ℕ → (asked : List (Command T)) (old : State T) (answers : List (Reply T)) (new : State T)
       → Runs types choices buffer asked old answers new → List (Message T)
   lost_to publisher subscriber [] old answers new run = []
@@ -81,8 +83,8 @@ module _ {T : Type 0} (types : MessageTypeDetails) (choices : Choices T) (buffer
       ++ lost_to publisher subscriber more run.1 run.2 new run.4
 
 module _ {T : Type 0} (choices : Choices T) where
-  -- In every run of a new machine the sequence numbers of a publisher's messages are 1, 2, 3 and so on, in the order of sending; or none
-  -- has one. As long as the publisher is of a service, they are there exactly if the service numbers messages; and the publisher's last
+  -- In every run of a new machine, the sequence numbers of a publisher's messages are 1, 2, 3 and so on, in the order of sending; or none
+  -- of them has one. While the publisher is of a service, they have one exactly if the service numbers messages, and the publisher's last
   -- sequence number is that of its last message.
   abbrev pub SequencesGoUp : Type 0
   SequencesGoUp = (types : MessageTypeDetails) (buffer : ℕ) (asked : List (Command T)) (answers : List (Reply T)) (new : State T)
@@ -95,7 +97,7 @@ module _ {T : Type 0} (choices : Choices T) where
       × (one.last_sequence ≡ last_behind (before_first service.settings.sequence_numbers 1)
       (sent_by types choices buffer publisher asked new_state answers new run)))
 
-  -- A sample tells the sequence number of the message that was received until its own release, whatever else was asked meanwhile.
+  -- A sample reports the sequence number of the received message until its own release, whatever other commands come between.
   abbrev pub SequenceStays : Type 0
   SequenceStays = (types : MessageTypeDetails) (buffer : ℕ) (asked : List (Command T)) (answers : List (Reply T)) (old : State T)
       → Runs types choices buffer asked new_state answers old
@@ -108,9 +110,9 @@ module _ {T : Type 0} (choices : Choices T) where
       → (answer : Reply T) (new : State T) → Step types choices buffer (command.Sequence sample) later answer new
       → answer ≡ reply.Sequence message.sequence)
 
-  -- In every run of a new machine take two messages that a subscriber received of a publisher, one directly after the other. The messages
-  -- that the publisher sent with sequence numbers between theirs are as many as there are such numbers. Each of them was lost to the
-  -- subscriber, never received, and isn't on its way; and no other message with such a number was lost.
+  -- In every run of a new machine, let a subscriber receive two messages of a publisher, one directly after the other. The publisher sent
+  -- as many messages with sequence numbers between theirs as there are such numbers. Each of these was lost to the subscriber, was never
+  -- received, and isn't on its way; no other message with such a number was lost.
   abbrev pub GapsAreLosses : Type 0
   GapsAreLosses = (types : MessageTypeDetails) (buffer : ℕ) (asked : List (Command T)) (answers : List (Reply T)) (new : State T)
       (run : Runs types choices buffer asked new_state answers new) (publisher subscriber : ℕ)

@@ -1,4 +1,4 @@
--- A publish-subscribe service that is open in the hub: its ports, their mailboxes, and what is lent and borrowed.
+-- A publish-subscribe service that is open in the hub: its ports, their mailboxes, its loans and its samples.
 use Rattle.std.specs.Prelude.{ℕ, Bool, ◌&&◌, ◌==◌, List, [], replicate, Option, None, Some, is_some, unwrap_or, if◌then◌else◌}
 use Rattle.iox_machine.specs.Message.{Message, Loan, Sample}
 use Rattle.iox_machine.specs.Mailbox.{Mailbox}
@@ -9,8 +9,8 @@ use Rattle.iox_command.specs.DomainValues.declared.data_segment.AllocationStrate
 use Rattle.iox_command.specs.DomainValues.declared.degradation.DegradationAction.{DegradationAction}
 use Rattle.iox_command.specs.NegotiateBase.DescribeSettings.declared.static_config.publish_subscribe.StaticConfig.{StaticConfig}
 
--- A send under way: its message; the subscribers that are left, in place order; how often the first of them was tried again, and for how
--- long; how many mailboxes took the message; and whether the send is to fail at its end.
+-- A send under way: its message; the subscribers that are `left` to try, in place order; how often the first of these was tried again, and
+-- for how many nanoseconds; how many mailboxes took the message; and whether the send is to fail at its end.
 pub record Send (T : Type 0) : Type 0 where
   pub message : Message T
   pub left : List ℕ
@@ -19,9 +19,9 @@ pub record Send (T : Type 0) : Type 0 where
   pub delivered : ℕ
   pub fails : Bool
 
--- A publisher. A loan of more values than there is `room` for needs a new segment. Of the current segment are its messages from number
--- `first` on, and at most `slots` of these may be in use at once. Its next message has the number `next`. The last message that it sent has
--- the sequence number `last_sequence`, or its first one has the next; there is none where messages have none.
+-- A publisher; it `stands` while it is open. A loan of more than `room` values needs a new segment. The messages from number `first` on are
+-- in the current segment, and at most `slots` of them may be in use at once. The publisher's next message has the number `next`. Its next
+-- send gives the sequence number after `last_sequence`, which is none if the service doesn't number messages.
 pub record Publisher (T : Type 0) : Type 0 where
   pub factory : ℕ
   pub stands : Bool
@@ -41,8 +41,9 @@ pub record Publisher (T : Type 0) : Type 0 where
   pub connected : List (Option ℕ)
   pub blocked : Option (Send T)
 
--- A subscriber. From publishers that left it still gets what waits: these connections expired, the first one first. It is to update
--- `again` where a publisher was refused since no more may be expired.
+-- A subscriber; it `stands` while it is open. A connection to a closed publisher expires if it isn't idle, and its messages can still be
+-- received; `expired` lists these publishers, oldest first. The subscriber is to update `again` if it couldn't connect to a publisher
+-- because no more connections may be expired.
 pub record Subscriber : Type 0 where
   pub factory : ℕ
   pub stands : Bool
@@ -67,7 +68,7 @@ pub record Service (T : Type 0) : Type 0 where
   pub samples : List (ℕ × Sample T)
 
 module _ {T : Type 0} where
-  -- a service that nobody uses yet
+  -- A service without ports, mailboxes, loans and samples.
   abbrev pub new_service : List ℕ → StaticConfig → Service T
   new_service name settings = record {
     name = name;
@@ -81,18 +82,19 @@ module _ {T : Type 0} where
     samples = [];
   }
 
-  -- the mailbox of a publisher and a subscriber; one for no messages where they have none
+  -- The mailbox of a publisher and a subscriber; if they have none, an empty one in which no message may wait.
   abbrev pub mailbox : ℕ → ℕ → Service T → Mailbox T
   mailbox publisher subscriber service = unwrap_or (service.mailboxes publisher subscriber)
       (record { limit = 0; waiting = []; borrowed = [] })
 
-  -- the mailbox of a publisher and a subscriber is another
+  -- The service with this mailbox for a publisher and a subscriber.
   abbrev pub with_mailbox : ℕ → ℕ → Mailbox T → Service T → Service T
   with_mailbox publisher subscriber box service = record service {
     mailboxes = λ one other. if (one == publisher) && (other == subscriber) then Some box else service.mailboxes one other;
   }
 
-  -- A publisher and a subscriber, for whom so many messages may wait, have a connection: the one that they had, or else a new one.
+  -- The service once a publisher and a subscriber have a connection: the one that they had, or else a new one in which at most `limit`
+  -- messages may wait.
   abbrev pub connect : ℕ → ℕ → ℕ → Service T → Service T
   connect limit publisher subscriber service =
       if is_some (service.mailboxes publisher subscriber) then service

@@ -1,4 +1,4 @@
--- How a subscriber brings its connections up to date.
+-- How a subscriber updates its connections.
 use Rattle.std.specs.Prelude.{ℕ, ◌≡◌, true, false, not, ◌&&◌, ◌==◌, nat_lt, max, List, [], ◌∷◌, ◌++◌, length, map, filter}
 use Rattle.std.specs.Prelude.{filter_map, fold, zip, slice_get, Option, None, Some, is_some, Result, MatchBool, MatchResult, if◌then◌else◌}
 use Rattle.std.specs.List.{list_all, list_any}
@@ -15,22 +15,22 @@ use Rattle.iox_command.specs.declared.refusal.Refusal.{Refusal}
 use Rattle.iox_command.specs.declared.reply.Reply.{Reply}
 use Rattle.iox_command.specs.declared.reply.Reply.TheVariants as reply
 
--- The expired connections, the first one first, and those that stay at their places since no more may be expired.
+-- The expired connections, oldest first, and the connections that stay at their places because no more may be expired.
 pub record Parted : Type 0 where
   pub expired : List ℕ
   pub staying : List ℕ
 
 module _ {T : Type 0} (buffer number : ℕ) where
-  -- which expired connection makes room for another: the first idle one, else, for one of which something is borrowed, the first
-  -- unborrowed one
+  -- Which expired connection ends, so that another can expire: the first idle one; if there is none, and something is borrowed of the other
+  -- one, the first of which nothing is borrowed.
   abbrev pub room_for : ℕ → List ℕ → Service T → Option ℕ
   room_for publisher expired service = slice_get
       (filter (λ other. is_idle (mailbox other number service)) expired
       ++ (if length (mailbox publisher number service).borrowed == 0 then []
       else filter (λ other. length (mailbox other number service).borrowed == 0) expired)) 0
 
-  -- The connection of a publisher that left: an idle one ends, another expires. Where no more may be expired one of those makes room;
-  -- where none does, it ends if nothing is borrowed of it, and else stays.
+  -- What becomes of the connection to a closed publisher: it ends if it is idle, and expires otherwise. If no more connections may be
+  -- expired, one of these ends and makes room; if none can, the connection ends if nothing is borrowed of it, and stays otherwise.
   abbrev pub part : Service T → Parted → ℕ → Parted
   part service parted publisher =
       if is_idle (mailbox publisher number service) then parted
@@ -42,9 +42,9 @@ module _ {T : Type 0} (buffer number : ℕ) where
             else record parted { staying = parted.staying ++ publisher ∷ [] }
       ])
 
-  -- A subscriber follows the list of publishers. Connections of publishers that left part: of who is connected at a place and isn't listed
-  -- there any longer, first where another is listed now, then where none is. Connected at a place is then who stays there, else who is
-  -- listed there, unless it was refused. To some that are new no connection may be made, for want of memory.
+  -- A subscriber follows the list of publishers. Its connections to publishers that aren't listed at their place any longer are parted:
+  -- first at places where another publisher is listed now, then at the others. At each place it is then connected to a publisher that stays
+  -- there, or else to the listed one. A connection without a mailbox may be refused for memory.
   abbrev pub Follows : Subscriber → Service T → Subscriber → Service T → Type 0
   Follows subscriber old after new =
       let places = zip subscriber.connected old.publisher_list.places in
@@ -67,8 +67,8 @@ module _ {T : Type 0} (buffer number : ℕ) where
       (record old { subscribers = changed number after old.subscribers }) (those connected))
 
 module _ {T : Type 0} (choices : Choices T) (buffer number : ℕ) where
-  -- A subscriber that does something first brings its connections up to date, if the list of publishers changed or it is to update again;
-  -- where that fails it doesn't.
+  -- The subscriber updates its connections if the list of publishers changed or it is to update again, and then `Does` what it was asked.
+  -- If the update fails, that failure is the reply.
   abbrev pub UpdatesFirst : (ConnectionFailure → Refusal) → (Subscriber → Service T → Reply T → Service T → Type 0)
       → Subscriber → Service T → Reply T → Service T → Type 0
   UpdatesFirst told Does subscriber old answer new =

@@ -1,4 +1,4 @@
--- Laws of updates: who is connected once a port followed the list of the other kind, and what waits then.
+-- Theorems about updates: which ports are connected once a port has followed the list of the other kind, and what waits then.
 use Rattle.std.specs.Prelude.{ℕ, ◌≡◌, ◌⊎◌, ◌==◌, Bool, true, false, not, List, [], Option, None, Some, find, zip, is_some, MatchOption}
 use Rattle.std.specs.Prelude.{Ok, length, if◌then◌else◌}
 use Rattle.std.specs.List.{AllByRecursion}
@@ -19,48 +19,48 @@ use Rattle.iox_command.specs.declared.command.Command.TheVariants as command
 use Rattle.iox_command.specs.declared.port.PortNumber.TheVariants as port
 use Rattle.iox_command.specs.declared.reply.Reply.TheVariants as reply
 
--- At a place where a port is listed it is connected, or none is, and no connection was made: for want of memory they have no mailbox.
--- Where none is listed none is connected.
+-- At a place where a port is listed, this port is connected to it, or to none because memory ran out for their mailbox. At a place where
+-- none is listed, it is connected to none.
 abbrev pub IsFollowed : (ℕ → Bool) → Option ℕ × Option ℕ → Type 0
 IsFollowed has_box place =
     MatchOption place.0 (place.1 ≡ None)
     (λ listed. (place.1 ≡ Some listed) ⊎ ((place.1 ≡ None) × (has_box listed ≡ false)))
 
--- Or another is connected there still, that left, since something is borrowed of its connection.
+-- The place is as `IsFollowed` says; or the subscriber is still connected to a closed publisher there, since something is borrowed of that
+-- connection.
 abbrev pub IsFollowedOrStays : (ℕ → Bool) → (ℕ → Bool) → Option ℕ × Option ℕ → Type 0
 IsFollowedOrStays has_box is_free place =
     IsFollowed has_box place ⊎ ((other : ℕ) × (place.1 ≡ Some other) × (is_free other ≡ false))
 
 module _ {T : Type 0} where
-  -- What waits in a mailbox that was there, once its publisher followed the list of subscribers: nothing, where the subscriber left; what
-  -- waited before, where the two were connected; else as much of the history as may wait.
+  -- What waits in a mailbox that existed, once its publisher has followed the list of subscribers: nothing, if the subscriber was closed;
+  -- what waited before, if the two were connected; otherwise as much of the history as may wait.
   abbrev pub waits_then : Publisher T → Service T → ℕ → Mailbox T → List (Message T)
   waits_then was service subscriber box =
       if not (contains (those service.subscriber_list.places) subscriber) then []
       else (if contains (those was.connected) subscriber then box.waiting else newest box.limit was.history)
 
-  -- the same mailbox, if it is one of this publisher, and as it was else
+  -- The mailbox after the update, if it is one of this publisher; any other one stays as it was.
   abbrev pub box_then : ℕ → Publisher T → Service T → ℕ → ℕ → Mailbox T → Mailbox T
   box_then number was service publisher subscriber box =
       if publisher == number then record box { waiting = waits_then was service subscriber box } else box
 
-  -- the mailbox of a publisher and a subscriber that had none: for as many messages as the subscriber allows, with as much of the history
-  -- as may wait, and with nothing borrowed
+  -- The mailbox of a publisher and a subscriber that had none: for as many messages as the subscriber allows, with as much of the history
+  -- as may wait, and with nothing borrowed.
   abbrev pub first_box : Publisher T → Service T → ℕ → Mailbox T
   first_box was service subscriber =
       let limit = option_map_or (λ one. one.buffer_size) (at subscriber service.subscribers) 0 in
       record { limit = limit; waiting = newest limit was.history; borrowed = [] }
 
-  -- An update leaves all but one service: all others, agreements, nodes, factories and numbers. Of that it leaves the loans, and what
-  -- `KeepsPorts` names: samples and histories among it.
+  -- An update changes only one service. Of this service it leaves the loans, and what `KeepsPorts` says, samples and histories included.
   abbrev pub UpdateLeaves : (Service T → Bool) → State T → State T → Service T → Service T → Type 0
   UpdateLeaves has old new service after =
       (find has old.services ≡ Some service) × (new ≡ record old { services = replaced has after old.services })
       × (after.loans ≡ service.loans) × KeepsPorts service after
 
 module _ {T : Type 0} (choices : Choices T) where
-  -- After an update of a publisher that went well: it has seen all changes of the list of subscribers, and if there were new ones each
-  -- that is listed is connected, or its connection failed; none did where the publisher is to fail then. If there were none nothing
+  -- After a successful update of a publisher, it has seen all changes of the list of subscribers. If there were changes, it is connected to
+  -- each listed subscriber, or the connection failed; none failed if the publisher is to fail then. If there were no changes, nothing
   -- changes.
   abbrev pub PublisherIsUpdated : Type 0
   PublisherIsUpdated = (types : MessageTypeDetails) (buffer number : ℕ) (old new : State T)
@@ -74,7 +74,8 @@ module _ {T : Type 0} (choices : Choices T) where
       (zip service.subscriber_list.places one.connected)
       × UpdateAnswers (choices.publisher_acts number one.degradation) (zip service.subscriber_list.places one.connected) (Ok tt)))
 
-  -- So it is of a subscriber, and the list of publishers.
+  -- After a successful update of a subscriber, the same holds for the list of publishers; a closed publisher may stay at its place, if
+  -- something is borrowed of it.
   abbrev pub SubscriberIsUpdated : Type 0
   SubscriberIsUpdated = (types : MessageTypeDetails) (buffer number : ℕ) (old new : State T)
       → Step types choices buffer (command.Update (port.Subscriber number)) old reply.Done new
@@ -87,9 +88,9 @@ module _ {T : Type 0} (choices : Choices T) where
       (zip service.publisher_list.places one.connected)
       × UpdateAnswers (choices.subscriber_acts number one.degradation) (zip service.publisher_list.places one.connected) (Ok tt)))
 
-  -- After an update of a publisher that went well each mailbox that was there is there still, with all that is borrowed. What waits in one
-  -- of the publisher itself is what waited, if it was connected to the subscriber and that is listed still. A mailbox that wasn't there is
-  -- one of the publisher and a subscriber that is listed, and begins with the history. All else stays.
+  -- After a successful update of a publisher, each mailbox that existed still exists, with all that is borrowed. In one of the publisher
+  -- itself, what waited still waits if the publisher was connected to the subscriber and the subscriber is still listed. A new mailbox is
+  -- one of the publisher and a listed subscriber, and begins with the history. All else stays.
   abbrev pub PublisherKeepsMailboxes : Type 0
   PublisherKeepsMailboxes = (types : MessageTypeDetails) (buffer number : ℕ) (old new : State T)
       → Step types choices buffer (command.Update (port.Publisher number)) old reply.Done new
@@ -105,8 +106,8 @@ module _ {T : Type 0} (choices : Choices T) where
       → (publisher ≡ number) × (contains (those service.subscriber_list.places) subscriber ≡ true)
       × (box ≡ first_box was service subscriber)))
 
-  -- After an update of a subscriber that went well each mailbox that was there is as it was. One that wasn't there is one of the
-  -- subscriber, for as many messages as it allows, and nothing waits there. All else stays.
+  -- After a successful update of a subscriber, each mailbox that existed is as it was. A new one is the subscriber's own, for as many
+  -- messages as it allows, and nothing waits there. All else stays.
   abbrev pub SubscriberKeepsMailboxes : Type 0
   SubscriberKeepsMailboxes = (types : MessageTypeDetails) (buffer number : ℕ) (old new : State T)
       → Step types choices buffer (command.Update (port.Subscriber number)) old reply.Done new

@@ -1,4 +1,4 @@
--- Laws of what keeps a factory from being closed.
+-- Theorems about what keeps a factory from being closed.
 use Rattle.std.specs.Prelude.{ℕ, ◌≡◌, true, ◌&&◌, List, Some, bytes_eq}
 use Rattle.std.specs.List.{AllByRecursion}
 use Rattle.iox_machine.specs.Choices.{Choices}
@@ -13,15 +13,15 @@ use Rattle.iox_command.specs.NegotiateBase.DescribeBase.declared.pattern.Messagi
 use Rattle.iox_command.specs.declared.command.Command.{Command}
 use Rattle.iox_command.specs.declared.reply.Reply.{Reply}
 
--- A factory of the publish-subscribe service of this name goes by a number.
+-- The factory with this number is open, and is of the publish-subscribe service of this name.
 abbrev pub IsOpen : List (ℕ × Factory) → List ℕ → ℕ → Type 0
 IsOpen factories name number =
     (factory : Factory) × (at number factories ≡ Some factory)
     × ((same_pattern factory.pattern pattern.PublishSubscribe && bytes_eq name factory.name) ≡ true)
 
 module _ {T : Type 0} (factories : List (ℕ × Factory)) where
-  -- Each port of a service that stands is of an open factory of the service, and so are the publisher of each loan and the subscriber of
-  -- each sample.
+  -- Each open port of the service is of an open factory of the service, and so are the publisher of each loan and the subscriber of each
+  -- sample.
   pub record IsOfOpenFactories (service : Service T) : Type 0 where
     pub publishers : (number : ℕ) (one : Publisher T) → at number service.publishers ≡ Some one → one.stands ≡ true
         → IsOpen factories service.name one.factory
@@ -33,7 +33,7 @@ module _ {T : Type 0} (factories : List (ℕ × Factory)) where
         → (one : Subscriber) × (at held.subscriber service.subscribers ≡ Some one) × IsOpen factories service.name one.factory
 
 module _ {T : Type 0} (choices : Choices T) where
-  -- In every run of a new machine all that keeps a factory from being closed is of an open one: ports that stand, loans and samples.
+  -- In every run of a new machine, the factory of each open port, of each loan's publisher and of each sample's subscriber is open.
   abbrev pub UseIsOwned : Type 0
   UseIsOwned = (types : MessageTypeDetails) (buffer : ℕ) (asked : List (Command T)) (answers : List (Reply T)) (new : State T)
       → Runs types choices buffer asked new_state answers new → AllByRecursion (IsOfOpenFactories new.factories) new.services

@@ -1,8 +1,8 @@
-//! The machine that a hub is: what each command does, and what it is answered, said with nodes, agreements, and bounded mailboxes over
-//! messages that never change. `docs/MACHINE.md` says how to read its definitions, which are in `specs/`.
+//! The machine that specifies a hub: what each command does and replies, in terms of nodes, agreements, and bounded mailboxes of messages
+//! that never change. `docs/MACHINE.md` says how to read its definitions, which are in `specs/`.
 //!
-//! The functions here do nothing: the contract of each is a law of the definitions. A proof cites a law by a call of its function;
-//! what it states is then among the facts of the caller:
+//! The functions here do nothing: the contract of each is a theorem about the definitions. A proof cites a theorem by a call of its
+//! function; the statement is then among the facts of the caller:
 //!
 //! ```
 //! received_was_sent::<u64, Handlers, DegradationHandler>();
@@ -33,33 +33,33 @@ ghost use Rattle.iox_machine.specs.UpdateLaws.{PublisherIsUpdated, PublisherKeep
 
 use iox_domain_values::{Decides, Degrades};
 
-/// A new machine answers a put at any publisher by skipping it, and in no other way.
+/// A new machine skips a put at any publisher; it has no other reply to it, and nothing changes.
 pub fn put_at_unknown_is_skipped()
     ensures { PutAtUnknownIsSkipped }
 {}
 
-/// A worked script: a new machine may answer it so that the first of three messages is dropped where two may wait, the other two are
+/// A worked script: a new machine may answer it so that the first of three messages is dropped, since two may wait; the other two are
 /// received, and then nothing waits.
 pub fn overflow_drops_the_oldest()
     ensures { OverflowDropsTheOldest }
 {}
 
-/// In every run of a new machine no more messages wait in a mailbox, are borrowed from it, or are kept as history, than the settings of
-/// the service name, and no subscriber has a longer buffer. The lists of ports have just as many places as these name. Each publisher has
-/// as many slots, and as many loans of it may be out, as they and the command by which it came name.
+/// In every run of a new machine, no more messages wait in a mailbox, are borrowed from it, or are kept as history than the settings of the
+/// service allow, and no subscriber has a longer buffer. The lists of ports have exactly as many places as the settings say. Each publisher
+/// has the slots and the limit of loans that follow from the settings and from the command that created it.
 pub fn sizes_are_agreed<T: Default, B: Decides + Degrades, D: Degrades>()
     ensures { (handed : Handed B D) → SizesAreAgreed (chosen_by T.is_default (λ who. B.decides who) (λ who. B.degrades who)
         (λ who. D.degrades who) handed) }
 {}
 
-/// In every run of a new machine each message that waits, is borrowed, is kept as history or is held as a sample has the values with
-/// which its publisher began to send it, earlier in the run.
+/// In every run of a new machine, each message that waits, is borrowed, is kept as history or is held as a sample has the values with which
+/// its publisher began to send it, earlier in the run.
 pub fn messages_were_sent<T: Default, B: Decides + Degrades, D: Degrades>()
     ensures { (handed : Handed B D) → MessagesWereSent (chosen_by T.is_default (λ who. B.decides who) (λ who. B.degrades who)
         (λ who. D.degrades who) handed) }
 {}
 
-/// A sample reads as it was received, whatever ports and factories go meanwhile.
+/// A sample reads the values with which it was received, whichever ports and factories are closed meanwhile.
 pub fn samples_read_the_same<T: Default, B: Decides + Degrades, D: Degrades>()
     ensures { (handed : Handed B D) → SamplesReadTheSame (chosen_by T.is_default (λ who. B.decides who) (λ who. B.degrades who)
         (λ who. D.degrades who) handed) }
@@ -71,63 +71,62 @@ pub fn skipped_changes_nothing<T: Default, B: Decides + Degrades, D: Degrades>()
         (λ who. D.degrades who) handed) }
 {}
 
-/// A command that is refused as a whole changes nothing: one that makes a node or a port, lends, or closes a factory.
+/// A command that makes a node or a port, loans, or closes a factory changes nothing if it is refused.
 pub fn refused_changes_nothing<T: Default, B: Decides + Degrades, D: Degrades>()
     ensures { (handed : Handed B D) → RefusedChangesNothing (chosen_by T.is_default (λ who. B.decides who) (λ who. B.degrades who)
         (λ who. D.degrades who) handed) }
 {}
 
-/// A creation, an opening or steps of nodes outside the hub that are refused change nothing but the phase of their pattern and name: all
-/// factories, services and numbers stay.
+/// A creation, an opening or actions of other nodes that are refused change nothing but the phase of their pattern and name: all factories,
+/// services and counts stay.
 pub fn refused_calls_leave_services<T: Default, B: Decides + Degrades, D: Degrades>()
     ensures { (handed : Handed B D) → RefusedCallsLeaveServices (chosen_by T.is_default (λ who. B.decides who) (λ who. B.degrades who)
         (λ who. D.degrades who) handed) }
 {}
 
-/// In every run of a new machine: a creation or an opening that is refused, while no node outside the hub does anything, leaves what is
-/// agreed on and the nodes that are in, each with its factories. Where nothing stood nothing stands, though a life may have begun and
-/// ended.
+/// In every run of a new machine: a refused creation or opening, while no other node acts, leaves the agreement and the nodes that are in,
+/// each with its factories. If the phase was absent it is absent, though a lifetime may have begun and ended.
 pub fn refused_calls_leave_nodes<T: Default, B: Decides + Degrades, D: Degrades>()
     ensures { (handed : Handed B D) → RefusedCallsLeaveNodes (chosen_by T.is_default (λ who. B.decides who) (λ who. B.degrades who)
         (λ who. D.degrades who) handed) }
 {}
 
-/// In every run of a new machine: a creation or an opening that is refused leaves its phase as the steps of nodes outside the hub alone
-/// make it, which were done meanwhile: all before so many accesses, in this order, and so many of those before the next one. Where nothing
-/// stood then, a life may have begun and ended.
+/// In every run of a new machine: a refused creation or opening leaves the phase that the actions of other nodes alone make of it, as they
+/// were done meanwhile: all before so many accesses, in order, and some of those before the next one. If the phase was absent then, a
+/// lifetime may have begun and ended.
 pub fn refused_calls_leave_foreign_steps<T: Default, B: Decides + Degrades, D: Degrades>()
     ensures { (handed : Handed B D) → RefusedCallsLeaveSteps (chosen_by T.is_default (λ who. B.decides who) (λ who. B.degrades who)
         (λ who. D.degrades who) handed) }
 {}
 
-/// A send, a put, a receive, an update or a look for data that is refused leaves all but the service that has what it names. Of that it
-/// leaves name, settings, lists, samples and all that is borrowed, and each port but for how far it follows the others and what a loan
-/// takes of it. Loans stay, but that a send has spent its own. Where the publisher is connected to a subscriber that is listed, what waits
-/// stays, and a mailbox that was there is as it was. A send that couldn't deliver isn't meant: it did all else that a send does.
+/// A send, put, receive, update or look for data that is refused changes only the service that has what it names. Of that service it leaves
+/// name, settings, lists, samples and all that is borrowed, and each port, except how far the port follows the other list and what a loan
+/// changes. Loans stay, except that a send has spent its own. If the publisher was connected to a subscriber that is listed, what waits
+/// stays, and a mailbox that existed is as it was. This doesn't apply to a send that couldn't deliver, which did all else that a send does.
 pub fn a_refused_port_leaves_the_rest<T: Default, B: Decides + Degrades, D: Degrades>()
     ensures { (handed : Handed B D) → RefusedPortsLeave (chosen_by T.is_default (λ who. B.decides who) (λ who. B.degrades who)
         (λ who. D.degrades who) handed) }
 {}
 
-/// In every run of a new machine: a send or a put that couldn't deliver has brought its publisher's connections up to date, and has sent
-/// its message to all that it is connected to. There is no safe overflow then. The message waits where fewer messages waited than may,
-/// behind them; where a mailbox was full it isn't, and what waited there stays. At least one such subscriber stands, and is connected
-/// itself. The message is the newest of the history, a loan is spent, and all else stays.
+/// In every run of a new machine: a send or a put that couldn't deliver has updated its publisher's connections, and has sent its message
+/// to all connected subscribers, without safe overflow. The message waits in each mailbox that had capacity, behind the others; a full
+/// mailbox hasn't got it, and what waited there stays. At least one such subscriber is open, and is connected itself. The message is the
+/// newest of the history, a loan is spent, and all else stays.
 pub fn an_undelivered_send_went_to_all_others<T: Default, B: Decides + Degrades, D: Degrades>()
     ensures { (handed : Handed B D) → UndeliveredLeaves (chosen_by T.is_default (λ who. B.decides who) (λ who. B.degrades who)
         (λ who. D.degrades who) handed) }
 {}
 
-/// In every run of a new machine: a retry that couldn't deliver has sent its message to all that were left. A mailbox has it where it took
-/// it; where that was full it stays as it was. At least one subscriber lacks it now or did so before the send was blocked, the send is
-/// over, and all else stays.
+/// In every run of a new machine: a retry that couldn't deliver has sent its message to all subscribers that were left. Each mailbox with
+/// capacity took it, and each full one stays as it was. At least one subscriber didn't get it, now or before the send was blocked; the send
+/// is over, and all else stays.
 pub fn an_undelivered_retry_went_to_all_left<T: Default, B: Decides + Degrades, D: Degrades>()
     ensures { (handed : Handed B D) → RetriesLeave (chosen_by T.is_default (λ who. B.decides who) (λ who. B.degrades who)
         (λ who. D.degrades who) handed) }
 {}
 
-/// Whatever stands, each command has an answer: the machine never stands still. Of a loan that is written there must be a default value,
-/// what a receive or a read tells must fit in a vector, and who decides for a port must always choose something.
+/// In any state, each command has an answer: the machine never gets stuck. For this there must be a default value for loans, the values of
+/// each message must fit in a vector, and handlers must always choose something.
 pub fn each_command_is_answered<T: Default, B: Decides + Degrades, D: Degrades>()
     ensures { (handed : Handed B D) → EachIsAnswered (chosen_by T.is_default (λ who. B.decides who) (λ who. B.degrades who)
         (λ who. D.degrades who) handed) }
@@ -135,15 +134,15 @@ pub fn each_command_is_answered<T: Default, B: Decides + Degrades, D: Degrades>(
 
 // ---- numbers
 
-/// In every run of a new machine the numbers that replies tell are 1, 2, 3 and so on, in this order: those of nodes by themselves, and so
-/// those of factories, publishers, subscribers, loans and samples. So no number of a kind is told twice.
+/// In every run of a new machine, the numbers that replies report are 1, 2, 3 and so on, in this order: those of nodes, of factories, of
+/// publishers, of subscribers, of loans and of samples, each kind by itself. So no number of a kind is given twice.
 pub fn numbers_go_up<T: Default, B: Decides + Degrades, D: Degrades>()
     ensures { (handed : Handed B D) → NumbersGoUp (chosen_by T.is_default (λ who. B.decides who) (λ who. B.degrades who)
         (λ who. D.degrades who) handed) }
 {}
 
-/// In every run of a new machine no two factories go by one number, nor do two publishers, two subscribers, two loans that are out, or two
-/// samples that are held, be they of one service or of two. Each goes by a number that a reply told.
+/// In every run of a new machine, no two factories have the same number, nor two publishers, two subscribers, two loans that are out, or
+/// two samples that are held, in whichever services. A reply reported each of these numbers.
 pub fn numbers_name_one<T: Default, B: Decides + Degrades, D: Degrades>()
     ensures { (handed : Handed B D) → NumbersNameOne (chosen_by T.is_default (λ who. B.decides who) (λ who. B.degrades who)
         (λ who. D.degrades who) handed) }
@@ -151,249 +150,249 @@ pub fn numbers_name_one<T: Default, B: Decides + Degrades, D: Degrades>()
 
 // ---- from whom a subscriber has its messages, in which order, and for how long
 
-/// What a subscriber receives are the values of a message of which the send began earlier in the run, by a publisher of the subscriber's
-/// own service, that has been of it ever since: of that name and those settings, and never gone between.
+/// What a subscriber receives are the values of a message whose send began earlier in the run, by a publisher of the subscriber's own
+/// service. The publisher has been of that service ever since, with its name and settings, and no lifetime ended between.
 pub fn received_was_sent<T: Default, B: Decides + Degrades, D: Degrades>()
     ensures { (handed : Handed B D) → ReceivedWasSent (chosen_by T.is_default (λ who. B.decides who) (λ who. B.degrades who)
         (λ who. D.degrades who) handed) }
 {}
 
-/// What a subscriber received of a publisher, in a whole run, is part of what that sent, in the order of sending, each message once at
-/// most.
+/// What a subscriber received of a publisher, in a whole run, is a subsequence of what the publisher sent, in the order of sending, each
+/// message at most once.
 pub fn received_in_order<T: Default, B: Decides + Degrades, D: Degrades>()
     ensures { (handed : Handed B D) → ReceivedInOrder (chosen_by T.is_default (λ who. B.decides who) (λ who. B.degrades who)
         (λ who. D.degrades who) handed) }
 {}
 
-/// In every run of a new machine each loan is sent or dropped once at most, and was lent in that run. A send or drop that is skipped
+/// In every run of a new machine, each loan is sent or dropped at most once, and was made in that run. A send or drop that is skipped
 /// doesn't count; one that is refused does.
 pub fn loans_are_spent_once<T: Default, B: Decides + Degrades, D: Degrades>()
     ensures { (handed : Handed B D) → LoansAreSpentOnce (chosen_by T.is_default (λ who. B.decides who) (λ who. B.degrades who)
         (λ who. D.degrades who) handed) }
 {}
 
-/// In every run of a new machine a publisher sends each of its messages once at most, from a loan or by a put, and a subscriber receives
-/// each once at most.
+/// In every run of a new machine, a publisher sends each of its messages at most once, from a loan or by a put, and a subscriber receives
+/// each at most once.
 pub fn messages_go_once<T: Default, B: Decides + Degrades, D: Degrades>()
     ensures { (handed : Handed B D) → MessagesGoOnce (chosen_by T.is_default (λ who. B.decides who) (λ who. B.degrades who)
         (λ who. D.degrades who) handed) }
 {}
 
-/// In every run of a new machine the sequence numbers of a publisher's messages are 1, 2, 3 and so on, in the order of sending; or none of
-/// them has one. As long as the publisher is of a service, that depends on whether the service numbers messages, and the publisher's last
-/// number is that of its last message.
+/// In every run of a new machine, the sequence numbers of a publisher's messages are 1, 2, 3 and so on, in the order of sending; or none of
+/// them has one. While the publisher is of a service, they have one exactly if the service numbers messages, and the publisher's last
+/// sequence number is that of its last message.
 pub fn sequence_numbers_go_up<T: Default, B: Decides + Degrades, D: Degrades>()
     ensures { (handed : Handed B D) → SequencesGoUp (chosen_by T.is_default (λ who. B.decides who) (λ who. B.degrades who)
         (λ who. D.degrades who) handed) }
 {}
 
-/// A sample that was received tells the sequence number of the message that it is, until its own release, whatever is asked meanwhile.
+/// A sample reports the sequence number of the received message until its own release, whatever other commands come between.
 pub fn a_sequence_number_stays<T: Default, B: Decides + Degrades, D: Degrades>()
     ensures { (handed : Handed B D) → SequenceStays (chosen_by T.is_default (λ who. B.decides who) (λ who. B.degrades who)
         (λ who. D.degrades who) handed) }
 {}
 
-/// In every run of a new machine take two messages that a subscriber received of a publisher, one directly after the other, with sequence
-/// numbers. The publisher sent a message with each number between, and each of these was lost to the subscriber: it was dropped from their
-/// mailbox or passed over there. None of them was received or is on its way, and no other message with such a number was lost.
+/// In every run of a new machine, let a subscriber receive two messages of a publisher, one directly after the other, with sequence
+/// numbers. The publisher sent a message with each number between theirs, and each of these was lost to the subscriber: it was dropped from
+/// their mailbox or skipped there. None of them was received or is on its way, and no other message with such a number was lost.
 pub fn gaps_are_losses<T: Default, B: Decides + Degrades, D: Degrades>()
     ensures { (handed : Handed B D) → GapsAreLosses (chosen_by T.is_default (λ who. B.decides who) (λ who. B.degrades who)
         (λ who. D.degrades who) handed) }
 {}
 
-/// In every run of a new machine take two messages that a subscriber received of a publisher, one directly after the other, with sequence
-/// numbers, which samples of them tell as long as they are held. The publisher sent one message with each number between, and each of
-/// these was lost for one cause. It was dropped: with safe overflow a later message was put into their mailbox, and made this one leave
-/// that waited there. Or it was passed over: its send went past the mailbox, which was full, or was given up while it was blocked there or
-/// before it came there.
+/// In every run of a new machine, let a subscriber receive two messages of a publisher, one directly after the other, with sequence
+/// numbers, which samples of them report while they are held. The publisher sent one message with each number between theirs, and each of
+/// these was lost for exactly one cause. It was dropped: with safe overflow a later message was put into their mailbox, and this one had to
+/// make way. Or it was skipped: its send went past the mailbox, which was full, or was given up while it was blocked there or earlier.
 pub fn gaps_have_causes<T: Default, B: Decides + Degrades, D: Degrades>()
     ensures { (handed : Handed B D) → GapsHaveCauses (chosen_by T.is_default (λ who. B.decides who) (λ who. B.degrades who)
         (λ who. D.degrades who) handed) }
 {}
 
-/// A sample that was received is read, and gives what was received, until its own release, whatever ports and factories go meanwhile.
+/// A sample that was received can be read, with the values that were received, until its own release, whichever ports and factories are
+/// closed meanwhile.
 pub fn held_is_read<T: Default, B: Decides + Degrades, D: Degrades>()
     ensures { (handed : Handed B D) → HeldIsRead (chosen_by T.is_default (λ who. B.decides who) (λ who. B.degrades who)
         (λ who. D.degrades who) handed) }
 {}
 
-/// A worked script: a new machine may answer it so that of two messages that one is received first which was sent first, though it was
-/// lent last.
+/// A worked script: a new machine may answer it so that the message that was sent first is received first, though it was loaned last.
 pub fn order_is_of_sends()
     ensures { OrderIsOfSends }
 {}
 
-/// In every run of a new machine there is at most one service of a pattern and name. It has the settings that are published there, and a
-/// factory of it is in the hub. Each factory is of a published service in which its node is, and so all factories of a name have one
-/// agreement; the ports of one of publish-subscribe stand in the hub.
+/// In every run of a new machine, there is at most one service of a pattern and name. It has the settings that are published there, and the
+/// hub has a factory of it. Each factory is of a published service in which the factory's node is, and so all factories of a name have one
+/// agreement; a service that is publish-subscribe is open in the hub.
 pub fn services_agree<T: Default, B: Decides + Degrades, D: Degrades>()
     ensures { (handed : Handed B D) → OneAgreement (chosen_by T.is_default (λ who. B.decides who) (λ who. B.degrades who)
         (λ who. D.degrades who) handed) }
 {}
 
-/// In every run of a new machine all that keeps a factory from being closed is of an open factory of its service: each port that stands,
-/// the publisher of each loan, and the subscriber of each sample.
+/// In every run of a new machine, each open port, the publisher of each loan, and the subscriber of each sample is of an open factory of
+/// its service.
 pub fn what_is_used_is_of_a_factory<T: Default, B: Decides + Degrades, D: Degrades>()
     ensures { (handed : Handed B D) → UseIsOwned (chosen_by T.is_default (λ who. B.decides who) (λ who. B.degrades who)
         (λ who. D.degrades who) handed) }
 {}
 
-/// In every run of a new machine no more nodes are in a service than its settings name, of the hub and outside it together.
+/// In every run of a new machine, no more nodes are in a service than its settings allow, nodes of the hub and others together.
 pub fn nodes_are_agreed<T: Default, B: Decides + Degrades, D: Degrades>()
     ensures { (handed : Handed B D) → NodesAreAgreed (chosen_by T.is_default (λ who. B.decides who) (λ who. B.degrades who)
         (λ who. D.degrades who) handed) }
 {}
 
-/// Through any run what is agreed on in a life of a pattern and name stays as it is, and lives go on one after the other.
+/// In any run, the agreement of a lifetime of a pattern and name stays as it is, and the number of the lifetime never falls.
 pub fn an_agreement_stays<T: Default, B: Decides + Degrades, D: Degrades>()
     ensures { (handed : Handed B D) → AgreementStays (chosen_by T.is_default (λ who. B.decides who) (λ who. B.degrades who)
         (λ who. D.degrades who) handed) }
 {}
 
-/// What is agreed on under a pattern and name after a command was so before, or is described by the command: it is to create such a
-/// service, or has a node outside the hub publish it.
+/// The agreement under a pattern and name after a command was the agreement before it, or the command describes it: the command is to
+/// create such a service, or has another node publish it.
 pub fn an_agreement_is_described<T: Default, B: Decides + Degrades, D: Degrades>()
     ensures { (handed : Handed B D) → AgreementIsDescribed (chosen_by T.is_default (λ who. B.decides who) (λ who. B.degrades who)
         (λ who. D.degrades who) handed) }
 {}
 
-/// A node that creates a service has just what it described, in a new life, with it alone.
+/// A service that a node created is published exactly as the command described it, in a new lifetime, with this node alone.
 pub fn a_service_is_created_as_described<T: Default, B: Decides + Degrades, D: Degrades>()
     ensures { (handed : Handed B D) → CreatesAsDescribed (chosen_by T.is_default (λ who. B.decides who) (λ who. B.degrades who)
         (λ who. D.degrades who) handed) }
 {}
 
-/// A service that is opened meets each clause that is asked. One that isn't opened for a clause is agreed on, and that clause is the first
-/// that it doesn't meet.
+/// A service that is opened meets each clause that is asked. If an opening is refused for a clause, the service exists, and the clause is
+/// the first that it doesn't meet.
 pub fn what_is_opened_is_as_asked<T: Default, B: Decides + Degrades, D: Degrades>()
     ensures { (handed : Handed B D) → OpenedMeetsAsked (chosen_by T.is_default (λ who. B.decides who) (λ who. B.degrades who)
         (λ who. D.degrades who) handed) }
 {}
 
-/// So it is of a service that is opened or created: what is agreed on then meets each clause that is asked; or the service is new, in a
-/// later life, with just what was asked for and the node alone.
+/// A service that is opened or created either meets each clause that is asked; or it is new, in a later lifetime, exactly as it was asked
+/// for and with the node alone.
 pub fn what_is_opened_or_created_is_as_asked<T: Default, B: Decides + Degrades, D: Degrades>()
     ensures { (handed : Handed B D) → EitherMeetsAsked (chosen_by T.is_default (λ who. B.decides who) (λ who. B.degrades who)
         (λ who. D.degrades who) handed) }
 {}
 
-/// A service that stands after a command, and none of its name before, has no port, no mailbox, no history and no message.
+/// A service that is open after a command, and wasn't open before it, has no port, no mailbox, no history and no message.
 pub fn a_service_starts_empty<T: Default, B: Decides + Degrades, D: Degrades>()
     ensures { (handed : Handed B D) → ServicesStartEmpty (chosen_by T.is_default (λ who. B.decides who) (λ who. B.degrades who)
         (λ who. D.degrades who) handed) }
 {}
 
-/// Once a new machine has no factory of a service it has no such service, and what is later of that name goes by numbers that weren't given
-/// yet: its ports, loans and samples.
+/// If a new machine, after a run, has no factory of a service, it has no such service. Ports, loans and samples that a later service of
+/// that name has get numbers that weren't given before.
 pub fn a_life_starts_anew<T: Default, B: Decides + Degrades, D: Degrades>()
     ensures { (handed : Handed B D) → LivesStartAnew (chosen_by T.is_default (λ who. B.decides who) (λ who. B.degrades who)
         (λ who. D.degrades who) handed) }
 {}
 
-/// After an update of a publisher that went well it has seen all changes of the list of subscribers. If there were new ones, each
-/// subscriber that is listed is connected at its place, or no connection was made, for want of memory; none failed so where the
-/// publisher is to fail then. If there were none, nothing changes.
+/// After a successful update of a publisher, it has seen all changes of the list of subscribers. If there were changes, each listed
+/// subscriber is connected at its place, or no connection was made because memory ran out; none failed so if the publisher is to fail then.
+/// If there were no changes, nothing changes.
 pub fn an_update_connects_a_publisher<T: Default, B: Decides + Degrades, D: Degrades>()
     ensures { (handed : Handed B D) → PublisherIsUpdated (chosen_by T.is_default (λ who. B.decides who) (λ who. B.degrades who)
         (λ who. D.degrades who) handed) }
 {}
 
-/// After an update of a subscriber that went well it has seen all changes of the list of publishers. If there were new ones, or it was to
-/// update again, each publisher that is listed is connected at its place; or no connection was made, for want of memory; or one that left
-/// is connected there still, of which something is borrowed. Nothing failed so where the subscriber is to fail then. Else nothing changes.
+/// After a successful update of a subscriber, it has seen all changes of the list of publishers. If there were changes, or it was to update
+/// again, each listed publisher is connected at its place; or no connection was made because memory ran out; or a closed publisher is still
+/// connected there, of which something is borrowed. None failed so if the subscriber is to fail then. Otherwise nothing changes.
 pub fn an_update_connects_a_subscriber<T: Default, B: Decides + Degrades, D: Degrades>()
     ensures { (handed : Handed B D) → SubscriberIsUpdated (chosen_by T.is_default (λ who. B.decides who) (λ who. B.degrades who)
         (λ who. D.degrades who) handed) }
 {}
 
-/// After an update of a publisher that went well each mailbox that was there is there still, with all that is borrowed. What waited in one
-/// of its own waits still, if it was connected to the subscriber and that is listed. Nothing does, if the subscriber left. Else as much of
-/// the history waits as may. So it does in a mailbox that wasn't there, which is one with a subscriber that is listed, for as many messages
-/// as that allows. All other services stay, and so do loans, samples, lists, histories, and ports but for their connections.
+/// After a successful update of a publisher, each mailbox that existed still exists, with all that is borrowed. In one of the publisher's
+/// own, what waited still waits if the publisher was connected to the subscriber and the subscriber is listed; nothing waits if the
+/// subscriber was closed; otherwise as much of the history waits as may. The same amount waits in a new mailbox, which is one with a listed
+/// subscriber, for as many messages as the subscriber allows. All other services stay, and so do loans, samples, lists, histories, and
+/// ports except for their connections.
 pub fn an_update_of_a_publisher_keeps_mailboxes<T: Default, B: Decides + Degrades, D: Degrades>()
     ensures { (handed : Handed B D) → PublisherKeepsMailboxes (chosen_by T.is_default (λ who. B.decides who) (λ who. B.degrades who)
         (λ who. D.degrades who) handed) }
 {}
 
-/// After an update of a subscriber that went well each mailbox that was there is as it was. One that wasn't there is the subscriber's own,
-/// for as many messages as it allows, and empty. All other services stay, and so do loans, samples, lists, histories, and ports but for
-/// their connections.
+/// After a successful update of a subscriber, each mailbox that existed is as it was. A new one is the subscriber's own, for as many
+/// messages as it allows, and empty. All other services stay, and so do loans, samples, lists, histories, and ports except for their
+/// connections.
 pub fn an_update_of_a_subscriber_keeps_mailboxes<T: Default, B: Decides + Degrades, D: Degrades>()
     ensures { (handed : Handed B D) → SubscriberKeepsMailboxes (chosen_by T.is_default (λ who. B.decides who) (λ who. B.degrades who)
         (λ who. D.degrades who) handed) }
 {}
 
-/// In every run of a new machine take a publisher that has seen all changes of the list of subscribers, as each has after an update that
-/// went well, whatever was there before it. It has as many places as that list. At each place where a subscriber is listed it is connected
-/// to that, or to none since that connection failed: when the list was this already, at some state of the run, the two had no mailbox.
+/// In every run of a new machine, a publisher that has seen all changes of the list of subscribers, as each has after a successful update,
+/// has as many places as the list. At each place where a subscriber is listed, the publisher is connected to it, or to none because the
+/// connection failed: at some state of the run with this same list the two had no mailbox.
 pub fn a_publisher_is_connected_as_listed<T: Default, B: Decides + Degrades, D: Degrades>()
     ensures { (handed : Handed B D) → PublisherIsConnected (chosen_by T.is_default (λ who. B.decides who) (λ who. B.degrades who)
         (λ who. D.degrades who) handed) }
 {}
 
-/// In every run of a new machine take a subscriber that has seen all changes of the list of publishers, as each has after an update that
-/// went well, whatever was there before it. It has as many places as that list. At each place where a publisher is listed it is connected
-/// to that, or to none since that connection failed: when the list was this already, at some state of the run, the two had no mailbox. Or
-/// it is to update again, and is connected there to another, that left.
+/// In every run of a new machine, a subscriber that has seen all changes of the list of publishers, as each has after a successful update,
+/// has as many places as the list. At each place where a publisher is listed, the subscriber is connected to it, or to none because the
+/// connection failed: at some state of the run with this same list the two had no mailbox. Or it is to update again, and is still connected
+/// to another publisher there, which was closed.
 pub fn a_subscriber_is_connected_as_listed<T: Default, B: Decides + Degrades, D: Degrades>()
     ensures { (handed : Handed B D) → SubscriberIsConnected (chosen_by T.is_default (λ who. B.decides who) (λ who. B.degrades who)
         (λ who. D.degrades who) handed) }
 {}
 
-/// In every run of a new machine the list of publishers of a service has just those that stand, and so has the list of subscribers. Each
-/// stands at one place of it.
+/// In every run of a new machine, the list of publishers of a service has exactly its open publishers, and the list of subscribers its open
+/// subscribers, each at one place.
 pub fn who_stands_is_listed<T: Default, B: Decides + Degrades, D: Degrades>()
     ensures { (handed : Handed B D) → StandingAreListed (chosen_by T.is_default (λ who. B.decides who) (λ who. B.degrades who)
         (λ who. D.degrades who) handed) }
 {}
 
-/// In every run of a new machine a publisher that is connected to a subscriber has a mailbox with it, and both are of one service. So it is
-/// of a subscriber that is connected to a publisher, whether that left or not.
+/// In every run of a new machine, a publisher that is connected to a subscriber has a mailbox with it, and both are of one service. The
+/// same holds for a subscriber that is connected to a publisher, even a closed one.
 pub fn who_is_connected_has_a_mailbox<T: Default, B: Decides + Degrades, D: Degrades>()
     ensures { (handed : Handed B D) → ConnectedAreJoined (chosen_by T.is_default (λ who. B.decides who) (λ who. B.degrades who)
         (λ who. D.degrades who) handed) }
 {}
 
-/// In every run of a new machine a publisher comes to be connected to a subscriber once at most, and so does a subscriber to a publisher:
-/// a connection that ended is never made again.
+/// In every run of a new machine, a publisher gets connected to a subscriber at most once, and a subscriber to a publisher: a connection
+/// that ended is never made again.
 pub fn a_pair_connects_once<T: Default, B: Decides + Degrades, D: Degrades>()
     ensures { (handed : Handed B D) → PairsConnectOnce (chosen_by T.is_default (λ who. B.decides who) (λ who. B.degrades who)
         (λ who. D.degrades who) handed) }
 {}
 
-/// As long as nothing is asked of a service in a run of a new machine all of it stays as it was, whatever is asked of others and answered:
-/// its phase, its factories, its ports, and all that is lent, waits, is kept or is borrowed there.
+/// In a run of a new machine, all of a service stays as it was while no command asks anything of it, whatever is asked of others and
+/// answered: its phase, its factories, its ports, and all that is loaned, waits, is kept or is borrowed there.
 pub fn services_are_beside_one_another<T: Default, B: Decides + Degrades, D: Degrades>()
     ensures { (handed : Handed B D) → OthersAreLeft (chosen_by T.is_default (λ who. B.decides who) (λ who. B.degrades who)
         (λ who. D.degrades who) handed) }
 {}
 
-/// A command on ports, loans and samples does to a service among others what it does to the service alone, and is answered so, where none
-/// of the others has what the command names: a port that stands, a loan, a sample, or the factory. The others stay as they were.
+/// A command on ports, loans and samples may do to a service among others what it may do to the service alone, with the same reply, if none
+/// of the others has what the command names: an open port, a loan, a sample, or the factory. The others stay as they were.
 pub fn a_service_among_others_does_as_alone<T: Default, B: Decides + Degrades, D: Degrades>()
     ensures { (handed : Handed B D) → StepsAmong (chosen_by T.is_default (λ who. B.decides who) (λ who. B.degrades who)
         (λ who. D.degrades who) handed) }
 {}
 
-/// A command on ports, loans and samples may be skipped, and changes nothing then, where no service has what it names, if there is a
-/// default value.
+/// A command on ports, loans and samples may be skipped, and changes nothing then, if no service has what it names and there is a default
+/// value.
 pub fn what_nobody_has_is_skipped<T: Default, B: Decides + Degrades, D: Degrades>()
     ensures { (handed : Handed B D) → UnknownIsSkipped (chosen_by T.is_default (λ who. B.decides who) (λ who. B.degrades who)
         (λ who. D.degrades who) handed) }
 {}
 
-/// In every run of a new machine, leave out the commands that ask nothing of a service, but for those that make nodes: the others are
-/// answered just so by a new machine that was asked nothing else, if only the numbers that were given in the run are passed over. So
-/// what is answered about a service depends on other services by nothing but the numbers that they take.
+/// In every run of a new machine, leave out the commands that ask nothing of a service, except those that make nodes. A new machine that
+/// gets only the others may give the same replies, if it skips the numbers that were given to the rest. So replies about a service depend
+/// on other services only by the numbers that these take.
 pub fn a_service_is_as_if_alone<T: Default, B: Decides + Degrades, D: Degrades>()
     ensures { (handed : Handed B D) → ServicesAreAsIfAlone (chosen_by T.is_default (λ who. B.decides who) (λ who. B.degrades who)
         (λ who. D.degrades who) handed) }
 {}
 
-/// In every run of a new machine, leave out the commands that ask nothing of a service, but for those that make nodes: the others are a run
+/// In every run of a new machine, leave out the commands that ask nothing of a service, except those that make nodes. The others are a run
 /// of a new machine by themselves, with factories, publishers, subscribers, loans and samples numbered anew. Each command names the same by
-/// its other number, and is answered as it was, with the other number where one is told; no two go by one number. In the end both machines
-/// have the same of the service, but for these numbers.
+/// its other number, and has the same reply, with the other number if it reports one; no two of a kind have the same number. At the end
+/// both machines have the same of the service, except for these numbers.
 pub fn numbers_are_counted_anew<T: Default, B: Decides + Degrades, D: Degrades>()
     ensures { (handed : Handed B D) → NumbersAreCountedAnew (chosen_by T.is_default (λ who. B.decides who) (λ who. B.degrades who)
         (λ who. D.degrades who) handed) }

@@ -1,4 +1,4 @@
--- What builders do in a table on which foreign nodes act, as calls that laws on whole calls speak of.
+-- The calls of builders in a table on which foreign nodes act, as calls to which the theorems about whole calls apply.
 use Rattle.std.specs.Prelude.{◌≡◌, ℕ, List, Option, Result}
 use Rattle.std.specs.Result.{result_map_both}
 use Rattle.iox_negotiate_table.specs.DescribeBase.declared.hash.ServiceHash.{ServiceHash}
@@ -17,15 +17,15 @@ use Rattle.iox_negotiate.specs.Factory.{membership}
 use Rattle.iox_negotiate.specs.Negotiation as built
 use Rattle.iox_negotiate.specs.Rooms.{IsWithin}
 
--- The call leads from the table to the other, what it agrees on is within the limits, and the builder answers as the call does.
+-- The call leads from the table `old` to `new`, what it agrees on is within the limits, and the builder returns what the call does.
 pub record IsBuilt {V : ℕ → Type 0} {E F : Type 0} (call : Call V) (storage node : ℕ) (error : F → E) (answer : Result Opened F)
     (old new : Contents) (result : Result Membership E) : Type 0 where
   pub within : IsWithin call
   pub goes : Goes call old new
   pub told : result ≡ result_map_both (membership storage node) error answer
 
--- Whatever a builder creates, opens or does either of is such a call, with the verdict, the agreement and the node of the builder. Its
--- settings are of any type, with limits of their own.
+-- Whatever a builder does (create, open, or either) is such a call, with the verdict, the agreement and the node of the builder. Its
+-- settings are of any type, with their own limits.
 pub record BuildersMakeCalls {C : Type 0} (IsWithinLimits IsTooLong : C → Type 0) (V : ℕ → Type 0) (E : Type 0) : Type 0 where
   pub creates : (storage node : ℕ) (agreed : Agreement) (config : C) (error : CreateFailure → E)
       (lists : List (List ForeignStep)) (old : Contents) (new : Steps) (result : Result Membership E)

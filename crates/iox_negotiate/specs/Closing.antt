@@ -1,4 +1,4 @@
--- What a whole closing of a factory leaves.
+-- What the closing of a factory leaves.
 use Rattle.std.specs.Prelude.{◌≡◌, ◌≢◌, ◌-◌, ℕ, Bool, true, false, List, Option, None, Some, Result, Ok, nat_eq, nat_lt, if◌then◌else◌}
 use Rattle.iox_negotiate_table.specs.DescribeBase.declared.hash.ServiceHash.{ServiceHash}
 use Rattle.iox_negotiate_table.specs.NegotiateBase.Access.{Access}
@@ -13,30 +13,30 @@ use Rattle.iox_negotiate_table.specs.Laws.{IsOpenIn}
 use Rattle.iox_negotiate_table.specs.Stepped.{Steps, SteppedSight}
 use Rattle.iox_negotiate.specs.Histories.{IsReached}
 
--- one less of so many factories; after the last one there are none
+-- One factory fewer than `count`; none after the last one.
 abbrev pub one_less : ℕ → Option ℕ
 one_less count = if nat_lt 1 count then Some (count - 1) else None
 
--- One factory of the node is off, and its last one takes the node out; each other node is as it was.
+-- One factory of the node is taken off, with the last of which the node is removed; all other nodes are unchanged.
 pub record TakesOneOff (node : ℕ) (before after : Nodes) : Type 0 where
   pub off : (count : ℕ) → factories_of before node ≡ Some count → factories_of after node ≡ one_less count
   pub others : (other : ℕ) → other ≢ node → factories_of after other ≡ factories_of before other
   pub foreign : after.foreign ≡ before.foreign
   pub room : after.max_nodes ≡ before.max_nodes
 
--- where no node is left, description and segment are gone; else both stand
+-- If no node is left, the description and the segment are removed; else both exist.
 abbrev pub StandsOrGone : Bool → ServiceHash → ℕ → List ℕ → Nodes → Contents → Type 0
 StandsOrGone true hash number bytes after new = (entry_at hash new ≡ None) × (segment_at hash number new ≡ None)
 StandsOrGone false hash number bytes after new = (entry_at hash new ≡ Some (Described number bytes))
     × (segment_at hash number new ≡ Some (Open after))
 
--- what lies under another hash is as it was
+-- What is under this hash is unchanged.
 pub record IsUntouched (other : ServiceHash) (old new : Contents) : Type 0 where
   pub entry : entry_at other new ≡ entry_at other old
   pub segments : (number : ℕ) → segment_at other number new ≡ segment_at other number old
 
--- A closing in the storage of the factory goes well; it takes one factory of its node off, and the last of the last node takes
--- description and segment away; nothing else changes.
+-- Closing a factory in its storage succeeds: it takes one factory off its node, the last factory of the last node removes the description
+-- and the segment, and nothing else changes.
 abbrev pub ClosesOne : Type 0
 ClosesOne = (hash : ServiceHash) (number node : ℕ) (bytes : List ℕ) (old new : Steps) (made : List Access)
     (result : Result (Unit {0}) CloseError)

@@ -1,4 +1,4 @@
--- Registered are just the factories that are open.
+-- Exactly the open factories are registered.
 use Rattle.std.specs.Prelude.{◌≡◌, ℕ, List, [], ◌++◌, ◌⊎◌, Option, None, Some, nat_lt, if◌then◌else◌}
 use Rattle.iox_negotiate_table.specs.DescribeBase.declared.hash.ServiceHash.{ServiceHash}
 use Rattle.iox_negotiate_table.specs.NegotiateBase.Access.{Access}
@@ -12,23 +12,24 @@ use Rattle.iox_negotiate_table.specs.Contents.{Contents, empty_table, entry_at, 
 use Rattle.iox_negotiate.specs.Factories.{Factory, times}
 use Rattle.iox_negotiate.specs.Calls.{Call, Tells, MayBegin, open_after, Called}
 
--- so many, where there are any
+-- The count, if it is above 0.
 abbrev pub any_of : ℕ → Option ℕ
 any_of count = if nat_lt 0 count then Some count else None
 
--- the segment of each published service has just the own nodes that have factories of it among these, and counts as many of each
+-- The segment of each published service has exactly the own nodes that have factories of it among these, and counts as many factories of
+-- each node.
 abbrev pub AreCounted : List Factory → Contents → Type 0
 AreCounted all table = (hash : ServiceHash) (number node : ℕ) (bytes : List ℕ) (nodes : Nodes)
     → entry_at hash table ≡ Some (Described number bytes) → segment_at hash number table ≡ Some (Open nodes)
     → factories_of nodes node ≡ any_of (times number node all)
 
--- After any calls in a new table registered are just the factories that are open, whatever foreign steps fall before each access
--- and between the calls.
+-- After any calls in a new table, with any foreign steps before each access and between the calls, exactly the open factories are
+-- registered.
 abbrev pub FactoriesAreCounted : (ℕ → Type 0) → Type 0
 FactoriesAreCounted V = (id : ℕ) (calls : List (Call V)) (table : Contents) (held : List Factory)
     → Called (empty_table id) [] calls table held → AreCounted held table
 
--- After each access inside a call registered are just the factories that were open before it, or just those that are open after it.
+-- After each access within a call, exactly the factories that were open before it are registered, or exactly those that are open after it.
 abbrev pub CountedInsideCalls : (ℕ → Type 0) → Type 0
 CountedInsideCalls V = (id : ℕ) (calls : List (Call V)) (table : Contents) (held : List Factory) (call : Call V)
     (lists : List (List ForeignStep)) (mid : Steps) (done rest : List Access)

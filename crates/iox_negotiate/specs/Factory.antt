@@ -1,4 +1,4 @@
--- What a factory stands for, and how it is closed.
+-- What a factory represents, and how it is closed.
 use Rattle.std.specs.Prelude.{◌≡◌, ℕ, List, [], ◌∷◌, Result, Ok, Err}
 use Rattle.iox_negotiate_base.specs.DescribeBase.declared.hash.ServiceHash.{ServiceHash}
 use Rattle.iox_negotiate_base.specs.Access.{Access, Leave, RemoveDescription, RemoveSegment}
@@ -11,38 +11,38 @@ use Rattle.iox_negotiate_base.specs.declared.errors.close.CloseError.{CloseError
 use Rattle.iox_negotiate_base.specs.declared.errors.close.CloseError.TheVariants.{UnableToRemoveDescription, UnableToRemoveSegment}
 use Rattle.iox_negotiate.specs.declared.factory.Membership.{Membership}
 
--- the membership of a node in a service of a storage
+-- The membership of a node in a service of a storage.
 abbrev pub membership : ℕ → ℕ → Opened → Membership
 membership storage node service = record { storage = storage; node = node; service = service }
 
--- what removing the segment comes to
+-- The result of closing after the segment is removed, or can't be.
 abbrev pub segment_removed : RemoveAnswer → Result (Unit {0}) CloseError
 segment_removed removing.Removed = Ok tt
 segment_removed removing.Fault = Err UnableToRemoveSegment
 
--- the segment is removed
+-- The accesses remove the segment.
 abbrev pub RemovesSegment : ServiceHash → ℕ → List Access → Result (Unit {0}) CloseError → Type 0
 RemovesSegment hash number (RemoveSegment under of answer ∷ rest) result = (under ≡ hash) × (of ≡ number) × (rest ≡ [])
     × (result ≡ segment_removed answer)
 RemovesSegment hash number made result = ⊥
 
--- the segment goes after the description, and stays where the description can't be removed
+-- After the removal of the description: if it succeeded, the accesses remove the segment; else the segment stays.
 abbrev pub RemovalGoes : ServiceHash → ℕ → RemoveAnswer → List Access → Result (Unit {0}) CloseError → Type 0
 RemovalGoes hash number removing.Removed made result = RemovesSegment hash number made result
 RemovalGoes hash number removing.Fault made result = (made ≡ []) × (result ≡ Err UnableToRemoveDescription)
 
--- the description is removed, and then the segment
+-- The accesses remove the description, and then the segment.
 abbrev pub Removes : ServiceHash → ℕ → List Access → Result (Unit {0}) CloseError → Type 0
 Removes hash number (RemoveDescription under of answer ∷ rest) result = (under ≡ hash) × (of ≡ number)
     × RemovalGoes hash number answer rest result
 Removes hash number made result = ⊥
 
--- the last node that leaves removes the service
+-- After the leave: the last node that leaves removes the service.
 abbrev pub LeaveGoes : ServiceHash → ℕ → LeaveAnswer → List Access → Result (Unit {0}) CloseError → Type 0
 LeaveGoes hash number leaving.Stays made result = (made ≡ []) × (result ≡ Ok tt)
 LeaveGoes hash number leaving.Emptied made result = Removes hash number made result
 
--- one factory of the node is taken off the segment, and the service removed if it was the last
+-- The accesses take one factory of the node off the segment, and remove the service if it was the last factory of the last node.
 abbrev pub Closes : ServiceHash → ℕ → ℕ → List Access → Result (Unit {0}) CloseError → Type 0
 Closes hash number node (Leave under of by answer ∷ rest) result = (under ≡ hash) × (of ≡ number) × (by ≡ node)
     × LeaveGoes hash number answer rest result

@@ -1,4 +1,4 @@
--- What happens to a table, one event after the other.
+-- What happens to a table, one event after another.
 use Rattle.std.specs.Prelude.{◌≡◌, ℕ, List, [], ◌∷◌, Result}
 use Rattle.std.specs.declared.alloc.AllocError.{AllocError}
 use Rattle.iox_negotiate_table.specs.DescribeBase.declared.hash.ServiceHash.{ServiceHash}
@@ -8,22 +8,22 @@ use Rattle.iox_negotiate_table.specs.Contents.{Contents, empty_table}
 use Rattle.iox_negotiate_table.specs.Foreign.{Acts}
 use Rattle.iox_negotiate_table.specs.Sights.{Sight}
 
--- an access of one of the table's own nodes, or a step of a foreign node under a hash
+-- An event: an access of one of the table's own nodes, or a step of a foreign node under a hash.
 pub data Event : Type 0 where
   Accesses : (access : Access) → Event
   Steps : (hash : ServiceHash) (step : ForeignStep) → Event
 
--- an event leads from one table to the next
+-- The event leads from one table to the other.
 abbrev pub Happens : Contents → Event → Contents → Type 0
 Happens old (Accesses access) new = Sight old access new
 Happens old (Steps hash step) new = (result : Result (Unit {0}) AllocError) × Acts hash step old result new
 
--- these events lead, one after the other, from one table to another
+-- These events, one after another, lead from one table to the other.
 abbrev pub Ran : Contents → List Event → Contents → Type 0
 Ran old [] new = new ≡ old
 Ran old (event ∷ events) new = (mid : Contents) × Happens old event mid × Ran mid events new
 
--- a new table became this one, by whatever happened to it
+-- The table can be reached: some events lead to it from a new table.
 pub record IsReached (table : Contents) : Type 0 where
   pub id : ℕ
   pub events : List Event

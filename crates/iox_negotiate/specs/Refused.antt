@@ -7,21 +7,21 @@ use Rattle.iox_negotiate_table.specs.Sights.{Sight}
 use Rattle.iox_negotiate.specs.Calls.{Call, Creates, Opening, Either, Tells}
 use Rattle.iox_negotiate.specs.Histories.{IsReached}
 
--- what lies in the table is as it was; the next number may have risen
+-- The contents of the table are unchanged; only the next number may have risen.
 pub record IsAsBefore (old new : Contents) : Type 0 where
   pub id : new.id ≡ old.id
   pub entries : new.entries ≡ old.entries
   pub segments : new.segments ≡ old.segments
   pub next : old.next ≤ new.next
 
--- the call that creates, opens or does either is refused
+-- The call that creates, opens or does either is refused.
 abbrev pub IsRefused : {V : ℕ → Type 0} → Call V → Type 0
 IsRefused (Creates node agreed refusal (Err failure)) = Unit {0}
 IsRefused (Opening kind hash node verdict (Err failure)) = Unit {0}
 IsRefused (Either kind node verdict agreed refusal (Err failure)) = Unit {0}
 IsRefused call = ⊥
 
--- a refused call leaves every table that can be reached as it was, where no foreign steps come between its accesses
+-- A refused call leaves every table that can be reached unchanged, provided that no foreign steps are made between its accesses.
 abbrev pub RefusedLeavesAll : (ℕ → Type 0) → Type 0
 RefusedLeavesAll V = (call : Call V) (made : List Access) (old new : Contents) → IsReached old → IsRefused call → Tells call made
     → Went Sight old made new → IsAsBefore old new

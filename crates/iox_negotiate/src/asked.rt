@@ -11,9 +11,9 @@ use iox_describe::{AttributeSpecifier, Description, ServiceHash, ServiceName, se
 use iox_negotiate_base::{CreateFailure, Request};
 use std::alloc::{AllocError, Global};
 
-/// What a node asks of a service: what it must be to be opened, and the settings and attributes that it is created with.
+/// What a node asks of a service: what an existing service must meet, and the settings and attributes with which a service is created.
 ///
-/// It borrows the requirement and the attributes, so that asking takes no memory.
+/// It borrows the requirement and the attributes, so it doesn't allocate.
 #[derive(Drop)]
 pub struct Asked<'a, P: Pattern> {
     name: ServiceName,
@@ -26,8 +26,8 @@ pub struct Asked<'a, P: Pattern> {
 }
 
 impl<'a, P: Pattern> Asked<'a, P> {
-    /// What this node asks of the service of this name. It is created with the settings of the requirement, adjusted, and
-    /// with these attributes.
+    /// What this node asks of the service with this name. If the service is created, it gets the adjusted settings of the requirement, and
+    /// these attributes.
     /// Example: `Asked::<PublishSubscribe>::new(name, 1, &requirement, &attributes)`
     pub fn new(
         name: ServiceName,
@@ -61,9 +61,10 @@ impl<'a, P: Pattern> Asked<'a, P> {
     }
 }
 
-/// Why no service is created with the settings of a requirement, if that is so. It is told of the requirement alone, and takes no memory.
+/// Why no service can be created with the settings of a requirement, if that is so. The requirement alone shows it, and the call doesn't
+/// allocate.
 ///
-/// This port's own.
+/// Not in `iceoryx2`.
 /// Example: `let failure = settings_refusal::<PublishSubscribe>(&requirement);`
 pub fn settings_refusal<P: Pattern>(requirement: &P::Requirement) -> Option<CreateFailure>
     ensures { let config = P.adjusted (P.asked requirement.now) in IsRefusal (AreWithinLimits (P.settings config))
@@ -72,7 +73,7 @@ pub fn settings_refusal<P: Pattern>(requirement: &P::Requirement) -> Option<Crea
     refusal_of::<P>(&P::adjusted(P::asked(requirement)))
 }
 
-/// Why no service is created with these settings.
+/// Why no service can be created with these settings, if that is so.
 fn refusal_of<P: Pattern>(config: &P::StaticConfig) -> Option<CreateFailure>
     ensures { IsRefusal (AreWithinLimits (P.settings config.now)) (HasNoRoomForHistory (P.settings config.now)) result }
 {

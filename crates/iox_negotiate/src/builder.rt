@@ -1,4 +1,4 @@
-//! Builders: what is asked of a service is said setting by setting, and the service then created or opened.
+//! Builders: the caller names what is asked of a service, setting by setting, and then creates or opens the service.
 ghost use Rattle.std.specs.Prelude.{◌≡◌, [], IsOk, IfOk};
 ghost use Rattle.std.specs.Result.{result_map_both};
 ghost use Rattle.iox_negotiate_base.specs.DescribeBase.Attributes.{required};
@@ -25,7 +25,7 @@ pub mod event;
 pub mod publish_subscribe;
 pub mod request_response;
 
-/// A node and the name of a service, of which the pattern isn't said yet.
+/// A builder of a service with this name for a node, before the messaging pattern is chosen.
 ///
 /// Ported from `iceoryx2::service::builder::Builder`.
 #[derive(Clone, Copy, Debug)]
@@ -36,7 +36,7 @@ pub struct Builder {
 }
 
 impl Builder {
-    /// A builder of the service of this name, for this node, which is of no hub.
+    /// A builder of the service with this name, for this node, which belongs to no hub.
     /// Example: `Builder::new(1, name)`
     pub fn new(node: u64, name: ServiceName) -> Self
         ensures { result ≡ record { hub = 0; node = node; name = name } }
@@ -44,9 +44,9 @@ impl Builder {
         Self::of_hub(0, node, name)
     }
 
-    /// A builder of the service of this name, for this node of the hub of this id.
+    /// A builder of the service with this name, for this node of the hub with this id.
     ///
-    /// This port's own.
+    /// Not in `iceoryx2`.
     /// Example: `Builder::of_hub(hub.id(), node.number(), name)`
     pub fn of_hub(hub: u64, node: u64, name: ServiceName) -> Self
         ensures { result ≡ record { hub = hub; node = node; name = name } }
@@ -54,7 +54,7 @@ impl Builder {
         Builder { hub, node, name }
     }
 
-    /// A builder of an event service, of which no setting is named. It takes no memory.
+    /// A builder of an event service that names no setting. It doesn't allocate.
     /// Example: `Builder::new(1, name).event()`
     pub fn event(self) -> ServiceBuilder<Event>
         ensures { result ≡ record { hub = self.hub; node = self.node; name = self.name; requirement = event_of.unnamed (required [] []) } }
@@ -67,8 +67,7 @@ impl Builder {
         }
     }
 
-    /// A builder of a publish-subscribe service with this payload and no user header, of which no setting is named. It
-    /// takes no memory.
+    /// A builder of a publish-subscribe service with this payload and no user header, which names no other setting. It doesn't allocate.
     /// Example: `Builder::new(1, name).publish_subscribe::<u64>()`
     pub fn publish_subscribe<M: Payload>(self) -> ServiceBuilder<PublishSubscribe>
         ensures { result ≡ record {
@@ -90,8 +89,7 @@ impl Builder {
         }
     }
 
-    /// A builder of a request-response service with these payloads and no user headers, of which no setting is named. It
-    /// takes no memory.
+    /// A builder of a request-response service with these payloads and no user headers, which names no other setting. It doesn't allocate.
     /// Example: `Builder::new(1, name).request_response::<u64, Slice<u8>>()`
     pub fn request_response<M: Payload, N: Payload>(self) -> ServiceBuilder<RequestResponse>
         ensures { result ≡ record {
@@ -116,9 +114,9 @@ impl Builder {
         }
     }
 
-    /// A builder of a service of this pattern, of which all this is asked. It takes no memory.
+    /// A builder of a service of this pattern with this requirement. It doesn't allocate.
     ///
-    /// This port's own.
+    /// Not in `iceoryx2`.
     /// Example: `Builder::new(1, name).with_requirement::<Event>(requirement)`
     pub fn with_requirement<P: Negotiated>(self, requirement: P::Requirement) -> ServiceBuilder<P>
         ensures { result ≡ record { hub = self.hub; node = self.node; name = self.name; requirement = requirement } }
@@ -132,8 +130,8 @@ impl Builder {
     }
 }
 
-/// A builder of a service of a pattern. A setting that is named is required of a service that is opened, and becomes the
-/// setting of one that is created, where each other one is at its default.
+/// A builder of a service of a pattern. A setting that the builder names is required of an existing service, and becomes the setting of a
+/// created one; in a created service, all other settings have their defaults.
 ///
 /// Ported from the builders of `iceoryx2::service::builder::{publish_subscribe, event, request_response}`.
 #[derive(Drop)]
@@ -145,9 +143,9 @@ pub struct ServiceBuilder<P: Negotiated> {
 }
 
 impl<P: Negotiated> ServiceBuilder<P> {
-    /// The id of the hub that it is of; 0 where it is of none.
+    /// The id of the hub to which the builder belongs; 0 if it belongs to no hub.
     ///
-    /// This port's own.
+    /// Not in `iceoryx2`.
     /// Example: `builder.hub()`
     pub fn hub(&self) -> u64
         ensures { result ≡ self.now.hub }
@@ -155,8 +153,8 @@ impl<P: Negotiated> ServiceBuilder<P> {
         self.hub
     }
 
-    /// The same builder, in memory of its own. Refused only where an allocation fails, which one that asks for no attributes takes
-    /// none of.
+    /// A copy of the builder in memory of its own. It fails only where an allocation fails, and never if the builder asks for no
+    /// attributes.
     /// Example: `let second = builder.try_clone(alloc)?;`
     pub fn try_clone(&self, alloc: Global) -> Result<Self, AllocError>
         ensures same { IfOk result (λ builder. builder ≡ self.now) }
@@ -170,7 +168,7 @@ impl<P: Negotiated> ServiceBuilder<P> {
         })
     }
 
-    /// Creates the service, with no attributes but those that were asked for. See `create_with_attributes`.
+    /// Creates the service, with only those attributes that the builder's requirement has. See `create_with_attributes`.
     /// Example: `let factory = builder.create(alloc, &mut table)?;`
     pub fn create<S: Storage>(
         self,
@@ -190,10 +188,10 @@ impl<P: Negotiated> ServiceBuilder<P> {
         )
     }
 
-    /// Creates the service with these attributes, in six accesses at most.
+    /// Creates the service with these attributes, in at most six accesses.
     ///
-    /// Refused as `iox_negotiate_base::create` refuses it, told as the error of the pattern of the same name. A number
-    /// past the limits is `InternalFailure`, with no access.
+    /// Refused as `iox_negotiate_base::create` refuses it, with the pattern's error of the same name. A number beyond its limits gives
+    /// `InternalFailure` without an access.
     /// Example: `let factory = builder.create_with_attributes(alloc, &attributes, &mut table)?;`
     pub fn create_with_attributes<S: Storage>(
         self,
@@ -210,7 +208,7 @@ impl<P: Negotiated> ServiceBuilder<P> {
         self.created(alloc, attributes, storage)
     }
 
-    /// Opens the service, whatever its attributes. See `open_with_attributes`.
+    /// Opens the service if it meets the builder's requirement. See `open_with_attributes`.
     /// Example: `let factory = builder.open(alloc, &mut table)?;`
     pub fn open<S: Storage>(
         self,
@@ -224,9 +222,9 @@ impl<P: Negotiated> ServiceBuilder<P> {
         self.opened(alloc, storage)
     }
 
-    /// Opens the service if it has these attributes too, in ten accesses at most.
+    /// Opens the service if it meets the builder's requirement, whose attributes are replaced by these, in at most ten accesses.
     ///
-    /// Refused as `iox_negotiate_base::open` refuses it, told as the error of the pattern of the same name.
+    /// Refused as `iox_negotiate_base::open` refuses it, with the pattern's error of the same name.
     /// Example: `let factory = builder.open_with_attributes(alloc, attributes, &mut table)?;`
     pub fn open_with_attributes<S: Storage>(
         self,
@@ -248,7 +246,8 @@ impl<P: Negotiated> ServiceBuilder<P> {
         builder.opened(alloc, storage)
     }
 
-    /// Opens the service, whatever its attributes, or creates it with none. See `open_or_create_with_attributes`.
+    /// Opens the service if it meets the builder's requirement, or creates it with the required pairs if it doesn't exist. See
+    /// `open_or_create_with_attributes`.
     /// Example: `let factory = builder.open_or_create(alloc, &mut table)?;`
     pub fn open_or_create<S: Storage>(
         self,
@@ -265,10 +264,10 @@ impl<P: Negotiated> ServiceBuilder<P> {
         self.opened_or_created(alloc, storage)
     }
 
-    /// Opens the service if it has these attributes too, or creates it with the required pairs where none stands, in fourteen
-    /// accesses at most.
+    /// Opens the service if it meets the builder's requirement, whose attributes are replaced by these, or creates it with the required
+    /// pairs if it doesn't exist, in at most fourteen accesses.
     ///
-    /// Refused as `iox_negotiate_base::open_or_create` refuses it, told as the error of the pattern of the same name.
+    /// Refused as `iox_negotiate_base::open_or_create` refuses it, with the pattern's error of the same name.
     /// Example: `let factory = builder.open_or_create_with_attributes(alloc, attributes, &mut table)?;`
     pub fn open_or_create_with_attributes<S: Storage>(
         self,

@@ -1,4 +1,4 @@
-//! What an open service is to a node: a factory of ports.
+//! An open service of a node: a factory of ports.
 ghost use Rattle.std.specs.Prelude.{◌≡◌, ◌≢◌, Some, None, Ok, Err, IsSome, MatchResult};
 ghost use Rattle.std.specs.Result.{result_map_both};
 ghost use Rattle.iox_negotiate_base.specs.Describe.Within.{HasForm};
@@ -11,7 +11,7 @@ use iox_describe::{AttributeSpecifier, Description, ServiceName, has_form};
 use iox_negotiate_base::errors::CloseError;
 use iox_negotiate_base::{LeaveAnswer, Opened, RemoveAnswer, Storage};
 
-/// That a node is in a service of a storage.
+/// The membership of a node in a service of a storage.
 #[derive(Drop)]
 pub struct Membership {
     storage: u64,
@@ -20,7 +20,7 @@ pub struct Membership {
 }
 
 impl Membership {
-    /// Leaves the service, and removes it if this was the last node.
+    /// Takes one factory of the node off the service, and removes the service if this was the last one.
     fn leave<S: Storage>(&self, storage: &mut S) -> Result<(), CloseError>
         ensures { Does S.gives storage.old (λ made. Closes self.now.service.description.service_hash self.now.service.number
             self.now.node made result) storage.new }
@@ -65,8 +65,8 @@ fn segment_removed(answer: RemoveAnswer) -> Result<(), CloseError>
     }
 }
 
-/// A service that is open to a node, from which its ports are made. It is to be closed in the storage that it was opened
-/// in; one that is let go leaves its node registered.
+/// A service that a node has open, and from which its ports are created. It must be closed in the storage in which it was opened; if a
+/// factory is dropped instead, its node stays registered.
 ///
 /// Ported from `iceoryx2::service::port_factory`, as one type for the three patterns.
 #[derive(Drop)]
@@ -76,12 +76,12 @@ pub struct PortFactory<P: Pattern> {
     ghost agreed: { P.static_config membership.service.description.settings ≡ Some config },
 }
 
-/// A factory that wasn't closed, or left something behind.
+/// The error of closing a factory that wasn't closed, or whose closing left something behind.
 #[derive(Drop)]
 pub struct NotClosed<P: Pattern> {
-    /// Why.
+    /// Why the factory wasn't closed, or what was left behind.
     pub error: CloseError,
-    /// The factory, where it is handed back: at `NotThisStorage`.
+    /// The factory, if it is returned to the caller, which is so for `NotThisStorage`.
     pub factory: Option<PortFactory<P>>,
 }
 
@@ -110,7 +110,7 @@ impl<P: Pattern> PortFactory<P> {
         self.membership.service.description.name()
     }
 
-    /// The settings that are agreed.
+    /// The settings on which the nodes agree.
     /// Example: `let nodes = factory.static_config().max_nodes;`
     pub fn static_config(&self) -> &P::StaticConfig
         ensures { P.static_config self.now.membership.service.description.settings ≡ Some result.now }
@@ -134,9 +134,9 @@ impl<P: Pattern> PortFactory<P> {
         self.membership.service.number
     }
 
-    /// What the nodes of the service agree on.
+    /// The description, which states what the nodes of the service agree on.
     ///
-    /// This port's own.
+    /// Not in `iceoryx2`.
     /// Example: `let fits = Domain::<u64, ()>::fits(factory.description());`
     pub fn description(&self) -> &Description
         ensures value { result.now ≡ self.now.membership.service.description }
@@ -146,9 +146,9 @@ impl<P: Pattern> PortFactory<P> {
         &self.membership.service.description
     }
 
-    /// Whether the call that made the factory created the service, and didn't open one that stood.
+    /// Whether the call that returned the factory created the service; false if it opened an existing one.
     ///
-    /// This port's own.
+    /// Not in `iceoryx2`.
     /// Example: `factory.is_new()`
     pub fn is_new(&self) -> bool
         ensures { result ≡ self.now.membership.service.is_new }
@@ -156,9 +156,9 @@ impl<P: Pattern> PortFactory<P> {
         self.membership.service.is_new
     }
 
-    /// The id of the storage that it was opened in.
+    /// The id of the storage in which the factory was opened.
     ///
-    /// This port's own.
+    /// Not in `iceoryx2`.
     /// Example: `factory.storage()`
     pub fn storage(&self) -> u64
         ensures { result ≡ self.now.membership.storage }
@@ -166,7 +166,7 @@ impl<P: Pattern> PortFactory<P> {
         self.membership.storage
     }
 
-    /// The node that the factory is of.
+    /// The node of the factory.
     /// Example: `factory.node()`
     pub fn node(&self) -> u64
         ensures { result ≡ self.now.membership.node }
@@ -174,12 +174,12 @@ impl<P: Pattern> PortFactory<P> {
         self.membership.node
     }
 
-    /// Closes the factory: takes it off the segment of the service, and removes description and segment if its node was
-    /// the last.
+    /// Closes the factory: takes it off the segment of the service, and removes the description and the segment if it was the last factory
+    /// of the last node.
     ///
-    /// Refused with `NotThisStorage` where the storage has another id than the one it was opened in; nothing is accessed
-    /// then, and the factory is handed back. `UnableToRemoveDescription` and `UnableToRemoveSegment` as the storage
-    /// answers; the factory is spent then.
+    /// Refused with `NotThisStorage` if the storage has another id than the one in which the factory was opened; then nothing is accessed,
+    /// and the factory is returned to the caller. Refused with `UnableToRemoveDescription` or `UnableToRemoveSegment` as the storage
+    /// reports; the factory is then consumed.
     /// Example: `let closed = factory.close(&mut table);`
     pub fn close<S: Storage>(self, storage: &mut S) -> Result<(), NotClosed<P>>
         ensures other_storage { S.id storage.old ≢ self.membership.storage → (storage.new ≡ storage.old)

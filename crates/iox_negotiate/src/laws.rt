@@ -1,5 +1,4 @@
-//! What holds of every service that was opened, said in other words than its accesses one by one. Each function does
-//! nothing: its contract is the law.
+//! Theorems about every service that was opened. Each one is the contract of a function that does nothing.
 ghost use Rattle.iox_negotiate_base.specs.DescribeSettings.Agreement.{agreement};
 ghost use Rattle.iox_negotiate_base.specs.Describe.Within.{HasForm};
 ghost use Rattle.iox_negotiate.specs.Laws.{OpenedIsMet, EitherIsMet};
@@ -8,23 +7,24 @@ ghost use Rattle.iox_negotiate.specs.Types.{AsksTheLarger};
 use iox_describe::{AttributeSpecifier, ServiceHash, ServiceName, Settings};
 use iox_negotiate_base::Request;
 
-/// A service that is opened is the one of the hash, meets what is asked, and is within the limits of a description.
+/// A service that is opened has the requested hash, meets the requirement, and is within the limits of a description.
 pub fn opened_is_met<R: Request>()
     ensures { OpenedIsMet R.ClauseError }
 {}
 
-/// A service that is opened or created is the one of the hash, meets what is asked and is within the limits of a description;
-/// or it is what was to be agreed, and wasn't refused for its settings.
+/// A service that is opened or created has the requested hash, meets the requirement and is within the limits of a description; or it is
+/// what was to be agreed, and its settings weren't refused.
 pub fn opened_or_created_is_met<R: Request>()
     ensures { EitherIsMet R.ClauseError }
 {}
 
-/// A setter of an alignment asks the larger of its number and that of the type: a smaller number changes nothing.
+/// A setter of an alignment asks for the larger of its argument and the alignment of the type, so a smaller argument changes nothing.
 pub fn asks_the_larger()
     ensures { AsksTheLarger }
 {}
 
-/// What a description is made of has the form of one: a name and attributes within their limits, a whole hash, numbers of 64 bits.
+/// The parts of a description have the form of one: the name and the attributes are within their limits, the hash has 20 bytes, and numbers
+/// have 64 bits.
 pub fn parts_have_form(
     name: ServiceName,
     hash: ServiceHash,

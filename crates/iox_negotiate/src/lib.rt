@@ -1,17 +1,17 @@
-//! Builders of services, whatever the storage, and what they give: factories of ports.
+//! Builders of services for any storage, and the factories of ports that they return.
 //!
-//! | Module | What it has, from the ground up |
+//! | Module | What it has (lower modules first) |
 //! |---|---|
 //! | `asked` | what a builder asks of a service, as a request of the rounds |
 //! | `patterns` | the three patterns with their errors |
-//! | `factory` | an open service: what is agreed, and its closing |
-//! | `negotiation` | from what is asked to a factory |
-//! | `payload` | what messages carry: a type, or a slice of one |
+//! | `factory` | an open service: what its nodes agree on, and its closing |
+//! | `negotiation` | turns what is asked into a factory |
+//! | `payload` | the payload of messages: a single value of a type, or a slice |
 //! | `builder` | builders of the three patterns |
-//! | `laws` | what holds of every open service |
-//! | `whole_calls` | what holds of every table of services, whatever is done to it |
+//! | `laws` | theorems about every open service |
+//! | `whole_calls` | theorems about every table of services, whatever is done to it |
 //!
-//! Named again are the storage, the table in memory with its foreign steps, and the errors of all calls.
+//! The storage trait, the table in memory with its foreign steps, and the errors of all calls are re-exported.
 //!
 //! First calls:
 //!

@@ -1,4 +1,4 @@
-//! From what is asked to a factory of ports.
+//! Turns what is asked of a service into a factory of ports.
 ghost use Rattle.std.specs.Result.{result_map_both};
 ghost use Rattle.iox_negotiate_base.specs.DescribeBase.Hash.{service_hash_of};
 ghost use Rattle.iox_negotiate_base.specs.DescribeSettings.Agreement.{agreement};
@@ -12,7 +12,7 @@ use crate::patterns::Negotiated;
 use iox_negotiate_base::{Request, Storage};
 use std::alloc::Global;
 
-/// Creates what is asked.
+/// Creates the service that is asked for.
 pub(crate) fn create<'a, P: Negotiated, S: Storage>(
     alloc: Global,
     asked: &Asked<'a, P>,
@@ -30,7 +30,7 @@ pub(crate) fn create<'a, P: Negotiated, S: Storage>(
     }
 }
 
-/// Opens what is asked.
+/// Opens the service that is asked for.
 pub(crate) fn open<'a, P: Negotiated, S: Storage>(
     alloc: Global,
     asked: &Asked<'a, P>,
@@ -47,7 +47,7 @@ pub(crate) fn open<'a, P: Negotiated, S: Storage>(
     }
 }
 
-/// Opens what is asked, or creates it where nothing stands.
+/// Opens the service that is asked for, or creates it if it doesn't exist.
 pub(crate) fn open_or_create<'a, P: Negotiated, S: Storage>(
     alloc: Global,
     asked: &Asked<'a, P>,

@@ -1,4 +1,4 @@
-//! The patterns with their errors, so that one builder serves all of them.
+//! The messaging patterns with their errors, so that one builder serves all of them.
 ghost use Rattle.std.specs.Prelude.{◌≡◌};
 ghost use Rattle.iox_negotiate_base.specs.declared.failure.CreateFailure.{CreateFailure};
 ghost use Rattle.iox_negotiate_base.specs.declared.failure.OpenFailure.{OpenFailure};
@@ -12,7 +12,7 @@ use iox_negotiate_base::errors::{
 };
 use iox_negotiate_base::{CreateFailure, OpenFailure, OpenOrCreateFailure};
 
-/// A pattern whose services are negotiated: with errors of its own for what the rounds answer.
+/// A messaging pattern whose services are negotiated, with its own errors for the failures of the rounds.
 pub trait Negotiated: Pattern {
     /// Why a service isn't opened.
     type OpenError: Copy + From<OpenFailure<Self::ClauseError>>;
@@ -32,15 +32,15 @@ pub trait Negotiated: Pattern {
     // the error of a failure to do either
     ghost open_or_create_error: { OpenOrCreateFailure Self.ClauseError → Self.OpenOrCreateError };
 
-    // what the error of opening is made of says which it is
+    // the error of opening is determined by the failure from which it is made
     ghost opens_from: { (failure : OpenFailure Self.ClauseError) (error : Self.OpenError) → Self.OpenError.from_gives failure error
         → error ≡ open_error failure };
 
-    // so does what the error of creating is made of
+    // the error of creating is determined by the failure from which it is made
     ghost creates_from: { (failure : CreateFailure) (error : Self.CreateError) → Self.CreateError.from_gives failure error
         → error ≡ create_error failure };
 
-    // so does what the error of either is made of
+    // the error of either is determined by the failure from which it is made
     ghost opens_or_creates_from: { (failure : OpenOrCreateFailure Self.ClauseError) (error : Self.OpenOrCreateError)
         → Self.OpenOrCreateError.from_gives failure error → error ≡ open_or_create_error failure };
 
@@ -60,7 +60,7 @@ pub trait Negotiated: Pattern {
         Self::CreateError::from(failure)
     }
 
-    /// The error of a failure to do either.
+    /// The error of a failure to open or create.
     /// Example: `Event::open_or_create_error(OpenOrCreateFailure::SystemInFlux)`
     final fn open_or_create_error(
         failure: OpenOrCreateFailure<Self::ClauseError>,

@@ -1,4 +1,4 @@
-//! What messages carry: a type, or a slice of one.
+//! The payload of messages: a single value of a type, or a slice.
 ghost use Rattle.std.specs.Prelude.{◌≡◌, ◌*◌, ◌-◌, ◌^◌, codes, min, take};
 ghost use Rattle.iox_negotiate_base.specs.DescribeBase.Detail.{Detail, array_name, detail};
 ghost use Rattle.iox_negotiate_base.specs.DescribeBase.declared.type_detail.TypeVariant.TheVariants.{FixedSize, Dynamic};
@@ -7,20 +7,20 @@ ghost use Rattle.iox_negotiate.specs.Types.{types_of, no_header, aligned};
 use iox_describe::{Header, MessageTypeDetails, TypeDetail, TypeVariant, ZeroCopySend};
 use std::marker::PhantomData;
 
-/// What the messages of a service carry: one value of a type, or a slice of values where it is a `Slice`.
+/// The payload of a service's messages: a single value of a type, or, for a `Slice`, a slice of values.
 pub trait Payload {
-    // how it lies in memory
+    // the memory layout of the payload
     ghost detail: { Detail };
 
-    /// How it lies in memory.
+    /// The memory layout of the payload.
     /// Example: `let detail = Slice::<u64>::type_detail();`
     fn type_detail() -> TypeDetail
         ensures { result ≡ detail };
 }
 
-/// A slice of values of a type, whose length each message has of its own.
+/// A slice of values of a type, whose length can differ from message to message.
 ///
-/// Stands for `[T]` in the types of `iceoryx2`.
+/// It represents `[T]` in the types of `iceoryx2`.
 pub struct Slice<T> {
     of: PhantomData<T>,
 }
@@ -161,7 +161,7 @@ impl Payload for char {
     }
 }
 
-/// An array as one value: its name is `[T; N]`, of which it has the first 255 bytes, and its size is that of all elements.
+/// An array as a single value: its name is the first 255 bytes of `[T; N]`, and its size is that of all elements, but at most 2^64 - 1.
 impl<T: ZeroCopySend, const N: usize> Payload for [T; N] {
     ghost detail = { detail FixedSize (take 255 (array_name T.name N)) (min (T.size * N) (2 ^ 64 - 1)) T.alignment };
 
@@ -195,7 +195,7 @@ fn no_header() -> TypeDetail
     TypeDetail::new(TypeVariant::FixedSize, b"()", 0, 1).unwrap()
 }
 
-/// This payload with the larger of its alignment and this one.
+/// This payload with the larger of its alignment and the given one.
 pub(crate) fn aligned(payload: &TypeDetail, alignment: u64) -> TypeDetail
     ensures { result ≡ aligned payload.now alignment }
 {

@@ -1,7 +1,7 @@
-//! What holds of every table of services that can be reached, whatever its own nodes and those of others do. Each function
-//! does nothing: its contract is the law.
+//! Theorems about every table of services that can be reached, whatever its own nodes and foreign nodes do. Each one is the contract of a
+//! function that does nothing.
 //!
-//! A proof cites a law by a call of its function, which does nothing; what it states is then among the facts of the caller:
+//! A proof uses a theorem by calling its function, after which the statement is among the facts of the caller:
 //!
 //! ```
 //! few_are_in();
@@ -19,7 +19,7 @@ ghost use Rattle.iox_negotiate.specs.Rooms.{RoomsAreAgreed, RoomsInsideCalls};
 use iox_describe::pattern::Pattern;
 use iox_negotiate_base::Request;
 
-/// A number is never taken twice: each life's is above those of all lives before.
+/// No number is given out twice: the number of each lifetime is above those of all lifetimes before.
 pub fn taken_once()
     ensures { TakenOnce }
 {}
@@ -29,79 +29,78 @@ pub fn one_life()
     ensures { OneLife }
 {}
 
-/// A description is published under a number in place of the lock of this number, by who has it.
+/// A description is published under a number only by the node that has the lock with this number, and it replaces this lock.
 pub fn published_by_its_lock()
     ensures { PublishedByItsLock }
 {}
 
-/// No more nodes are in any segment than there is room for.
+/// No more nodes are registered in any segment than its maximum.
 pub fn few_are_in()
     ensures { FewAreIn }
 {}
 
-/// What is opened under a number is the service of just this number, and after it the service is open.
+/// What an own node opens under a number is exactly the service with this number, and afterwards the service is open for the node.
 pub fn opened_stands()
     ensures { OpenedStands }
 {}
 
-/// Each open factory stands after any calls in a new table, with whatever foreign steps before each access and between the
-/// calls: what it carries is published under its number, its segment stands, its node is in, no more nodes are in than there is
-/// room for, and as many factories of its node are registered as are open, at least. The calls may be of services of three
-/// patterns.
+/// After any calls in a new table, with any foreign steps before each access and between the calls, the service of each open factory
+/// exists: what the factory states is published under its number, its segment exists, its node is registered, no more nodes are registered
+/// than the maximum, and the node has at least as many registered factories as are open. The calls may be on services of three patterns.
 pub fn open_factories_stand<P: Request, Q: Request, R: Request>()
     ensures { OpenFactoriesStand (of_three P.ClauseError Q.ClauseError R.ClauseError) }
 {}
 
-/// And so after each access inside a call, each one that the call doesn't close.
+/// The same holds after each access within a call, for each open factory that the call doesn't close.
 pub fn stand_inside_calls<P: Request, Q: Request, R: Request>()
     ensures { StandInsideCalls (of_three P.ClauseError Q.ClauseError R.ClauseError) }
 {}
 
-/// Registered are just the factories that are open: after any calls in a new table, with whatever foreign steps before each access
-/// and between the calls, the segment of each published service has just those own nodes that have factories of it open, and counts
-/// as many factories of each as are open.
+/// Exactly the open factories are registered: after any calls in a new table, with any foreign steps before each access and between the
+/// calls, the segment of each published service has exactly those own nodes that have open factories of it, and counts as many factories of
+/// each node as are open.
 pub fn factories_are_counted<P: Request, Q: Request, R: Request>()
     ensures { FactoriesAreCounted (of_three P.ClauseError Q.ClauseError R.ClauseError) }
 {}
 
-/// And so it is after each access inside a call: registered are just the factories that were open before the call, or just those that
-/// are open after it.
+/// The same holds after each access within a call: exactly the factories that were open before the call are registered, or exactly those
+/// that are open after it.
 pub fn counted_inside_calls<P: Request, Q: Request, R: Request>()
     ensures { CountedInsideCalls (of_three P.ClauseError Q.ClauseError R.ClauseError) }
 {}
 
-/// A closing in the table goes well: it takes one factory of its node off, the node's last one takes the node out, and the last of
-/// the last node takes description and segment away; what lies under another hash is as it was.
+/// Closing a factory in its table succeeds: it takes one factory off its node, with the last of which the node is removed; and with the
+/// last factory of the last node the description and the segment are removed. What is under any other hash is unchanged.
 pub fn closes_one()
     ensures { ClosesOne }
 {}
 
-/// Whatever a builder creates, opens or does either of in a table, with whatever foreign steps before its accesses, is a call that
-/// these laws speak of, and what it agrees on is within the limits. So `rooms_are_agreed` holds of builders' calls. The builder is of the
-/// pattern `B`, and its error of any type.
+/// Whatever a builder does in a table (create, open, or either), with any foreign steps before its accesses, is a call to which these
+/// theorems apply, and what it agrees on is within the limits. So `rooms_are_agreed` holds for the calls of builders. The builder is of the
+/// pattern `B`, and its error is of any type.
 pub fn builders_make_calls<B: Pattern, P: Request, Q: Request, R: Request, E>()
     ensures { BuildersMakeCalls (λ (config : B.StaticConfig). AreWithinLimits (B.settings config))
         (λ (config : B.StaticConfig). HasNoRoomForHistory (B.settings config)) (of_three P.ClauseError Q.ClauseError R.ClauseError) E }
 {}
 
-/// After any calls in a new table the segment of each published service has room for just the agreed number of nodes.
+/// After any calls in a new table, the maximum number of nodes in the segment of each published service is the agreed one.
 pub fn rooms_are_agreed<P: Request, Q: Request, R: Request>()
     ensures { RoomsAreAgreed (of_three P.ClauseError Q.ClauseError R.ClauseError) }
 {}
 
-/// And so it is after each access inside a call.
+/// The same holds after each access within a call.
 pub fn rooms_inside_calls<P: Request, Q: Request, R: Request>()
     ensures { RoomsInsideCalls (of_three P.ClauseError Q.ClauseError R.ClauseError) }
 {}
 
-/// What is opened or created under a number is just what was ever agreed under it: no service of a number has two agreements, one
-/// after the other, whoever acts on the table meanwhile. The calls may be of services of three patterns.
+/// What is opened or created under a number is exactly what was ever agreed under it: no service has two agreements under one number,
+/// whoever acts on the table in the meantime. The calls may be on services of three patterns.
 pub fn agrees_as_before<P: Request, Q: Request, R: Request>()
     ensures { AgreesAsBefore (of_three P.ClauseError Q.ClauseError R.ClauseError) }
 {}
 
-/// A refused call leaves what lies in the table as it was, where no foreign steps come between its accesses; only the next number
-/// may have risen. The calls may be of services of three patterns.
+/// A refused call leaves the contents of the table unchanged, provided that no foreign steps are made between its accesses; only the next
+/// number may have risen. The calls may be on services of three patterns.
 pub fn refused_leaves_all<P: Request, Q: Request, R: Request>()
     ensures { RefusedLeavesAll (of_three P.ClauseError Q.ClauseError R.ClauseError) }
 {}

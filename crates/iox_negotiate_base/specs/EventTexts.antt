@@ -1,4 +1,4 @@
--- What the errors of event services display as: the type's name, `::` and the variant, an inner variant in parentheses.
+-- The texts of the errors of event services: the name of the type, `::` and the variant, with an inner variant in parentheses.
 use Rattle.std.specs.Prelude.{ℕ, List, ◌++◌, codes}
 use Rattle.iox_negotiate_base.specs.declared.errors.event.EventOpenError.{EventOpenError}
 use Rattle.iox_negotiate_base.specs.declared.errors.event.EventOpenError.TheVariants as opening
@@ -7,7 +7,7 @@ use Rattle.iox_negotiate_base.specs.declared.errors.event.EventCreateError.TheVa
 use Rattle.iox_negotiate_base.specs.declared.errors.event.EventOpenOrCreateError.{EventOpenOrCreateError}
 use Rattle.iox_negotiate_base.specs.declared.errors.event.EventOpenOrCreateError.TheVariants as either
 
--- the name of the variant
+-- The name of the variant of an error of opening.
 abbrev pub open_name : EventOpenError → List ℕ
 open_name opening.IncompatibleMessagingPattern = codes "IncompatibleMessagingPattern"
 open_name opening.IncompatibleAttributes = codes "IncompatibleAttributes"
@@ -28,7 +28,7 @@ open_name opening.ExceedsMaxNumberOfNodes = codes "ExceedsMaxNumberOfNodes"
 open_name opening.IsMarkedForDestruction = codes "IsMarkedForDestruction"
 open_name opening.OutOfMemory = codes "OutOfMemory"
 
--- the name of the variant
+-- The name of the variant of an error of creating.
 abbrev pub create_name : EventCreateError → List ℕ
 create_name creating.AlreadyExists = codes "AlreadyExists"
 create_name creating.InsufficientPermissions = codes "InsufficientPermissions"
@@ -38,13 +38,15 @@ create_name creating.HangsInCreation = codes "HangsInCreation"
 create_name creating.ServiceInCorruptedState = codes "ServiceInCorruptedState"
 create_name creating.OutOfMemory = codes "OutOfMemory"
 
+-- The text of an error of opening: the name of the type, `::` and the variant.
 abbrev pub open_text : EventOpenError → List ℕ
 open_text error = codes "EventOpenError::" ++ open_name error
 
+-- The text of an error of creating: the name of the type, `::` and the variant.
 abbrev pub create_text : EventCreateError → List ℕ
 create_text error = codes "EventCreateError::" ++ create_name error
 
--- the variant is of the name of the error within
+-- The text of an error of either: the name of the type, `::` and the variant, which has the name of the inner error.
 abbrev pub open_or_create_text : EventOpenOrCreateError → List ℕ
 open_or_create_text (either.EventOpenError error) = codes "EventOpenOrCreateError::EventOpenError(" ++ open_name error ++ codes ")"
 open_or_create_text (either.EventCreateError error) = codes "EventOpenOrCreateError::EventCreateError(" ++ create_name error ++ codes ")"

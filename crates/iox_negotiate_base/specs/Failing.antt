@@ -1,4 +1,4 @@
--- What a refusing answer means to who creates and to who opens a service.
+-- What the results of accesses mean to a node that creates or opens a service.
 use Rattle.std.specs.Prelude.{ℕ, true, false, Option, None, Some, Result, Ok, Err}
 use Rattle.iox_describe.specs.DescribeSettings.Agreement.{Agreement}
 use Rattle.iox_negotiate_base.specs.declared.answer.LockAnswer.{LockAnswer}
@@ -23,15 +23,15 @@ use Rattle.iox_negotiate_base.specs.declared.failure.OpenFailure.TheVariants as 
 use Rattle.iox_negotiate_base.specs.declared.failure.OpenOrCreateFailure.{OpenOrCreateFailure}
 use Rattle.iox_negotiate_base.specs.declared.failure.OpenOrCreateFailure.TheVariants as either
 
--- a service that was opened
+-- A service that was opened.
 abbrev pub opened : ℕ → Agreement → Opened
 opened number agreed = record { number = number; description = agreed; is_new = false }
 
--- a service that was created
+-- A service that was created.
 abbrev pub brought_about : ℕ → Agreement → Opened
 brought_about number agreed = record { number = number; description = agreed; is_new = true }
 
--- why nothing is created where a look shows this; nothing speaks against it where no service stands
+-- Why the service isn't created after this look; nothing prevents the creation if the service doesn't exist.
 abbrev pub refusal_seen : Sight → Option CreateFailure
 refusal_seen seen.Absent = None
 refusal_seen (seen.Standing number agreed) = Some uncreated.AlreadyExists
@@ -40,14 +40,14 @@ refusal_seen (seen.Failed sight.InsufficientPermissions) = Some uncreated.Insuff
 refusal_seen (seen.Failed sight.ServiceInCorruptedState) = Some uncreated.ServiceInCorruptedState
 refusal_seen (seen.Failed sight.OutOfMemory) = Some uncreated.OutOfMemory
 
--- why nothing is opened where it can't be told what stands
+-- Why the service isn't opened if the lookup failed.
 abbrev pub open_failure_of : {V : Type 0} → SightFailure → OpenFailure V
 open_failure_of sight.HangsInCreation = unopened.HangsInCreation
 open_failure_of sight.InsufficientPermissions = unopened.InsufficientPermissions
 open_failure_of sight.ServiceInCorruptedState = unopened.ServiceInCorruptedState
 open_failure_of sight.OutOfMemory = unopened.OutOfMemory
 
--- the number of the service to create, or what the attempt to create it came to
+-- The number of the service to create, or the result of the attempt to create it.
 abbrev pub lock_gives : LockAnswer → Result ℕ Attempt
 lock_gives (lock.Taken number) = Ok number
 lock_gives lock.IsLocked = Err attempt.IsLocked
@@ -56,19 +56,19 @@ lock_gives lock.Denied = Err (attempt.Failed uncreated.InsufficientPermissions)
 lock_gives lock.Fault = Err (attempt.Failed uncreated.InternalFailure)
 lock_gives lock.OutOfMemory = Err (attempt.Failed uncreated.OutOfMemory)
 
--- why the segment isn't made
+-- Why the segment isn't made, if it isn't.
 abbrev pub making_failure : MakeSegmentAnswer → Option CreateFailure
 making_failure making.Made = None
 making_failure making.Fault = Some uncreated.InternalFailure
 making_failure making.OutOfMemory = Some uncreated.OutOfMemory
 
--- why the description isn't published
+-- Why the description isn't published, if it isn't.
 abbrev pub publishing_failure : PublishAnswer → Option CreateFailure
 publishing_failure publishing.Published = None
 publishing_failure publishing.Fault = Some uncreated.InternalFailure
 publishing_failure publishing.OutOfMemory = Some uncreated.OutOfMemory
 
--- what opening the segment of a service leads to: the service, a refusal, or the next round where the segment is absent
+-- The result of opening the segment of a service: the service, an error, or the next round if the segment is absent.
 abbrev pub entered : {V : Type 0} → ℕ → Agreement → OpenSegmentAnswer → Option (Result Opened (OpenFailure V))
 entered number agreed opening.Registered = Some (Ok (opened number agreed))
 entered number agreed opening.Absent = None
@@ -78,21 +78,21 @@ entered number agreed opening.Denied = Some (Err unopened.InsufficientPermission
 entered number agreed opening.Fault = Some (Err unopened.InternalFailure)
 entered number agreed opening.OutOfMemory = Some (Err unopened.OutOfMemory)
 
--- what an attempt is to who creates: another's lock and a service that stands are refusals
+-- The result of an attempt for a node that only creates: another node's lock and an existing service are errors.
 abbrev pub created : Attempt → Result Opened CreateFailure
 created (attempt.Made service) = Ok service
 created attempt.IsLocked = Err uncreated.IsBeingCreatedByAnotherInstance
 created attempt.Exists = Err uncreated.AlreadyExists
 created (attempt.Failed failure) = Err failure
 
--- what an attempt is to who opens or creates: another's lock and a service that stands lead to the next round
+-- The result of an attempt for a node that opens or creates: another node's lock and an existing service lead to the next round.
 abbrev pub created_or_again : {V : Type 0} → Attempt → Option (Result Opened (OpenOrCreateFailure V))
 created_or_again (attempt.Made service) = Some (Ok service)
 created_or_again attempt.IsLocked = None
 created_or_again attempt.Exists = None
 created_or_again (attempt.Failed failure) = Some (Err (either.Create failure))
 
--- what an opening is to who opens or creates
+-- The result of an opening for a node that opens or creates.
 abbrev pub opened_or_again : {V : Type 0} → Option (Result Opened (OpenFailure V)) → Option (Result Opened (OpenOrCreateFailure V))
 opened_or_again None = None
 opened_or_again (Some (Ok service)) = Some (Ok service)

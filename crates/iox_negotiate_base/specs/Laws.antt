@@ -1,4 +1,4 @@
--- What holds of every creation and every opening, said in other words than their accesses one by one.
+-- Theorems about every creation and every opening.
 use Rattle.std.specs.Prelude.{◌≡◌, ℕ, ◌+◌, ◌≤◌, List, [], ◌∷◌, ◌++◌, Option, Result, Ok, Err, length}
 use Rattle.iox_describe.specs.DescribeBase.declared.hash.ServiceHash.{ServiceHash}
 use Rattle.iox_describe.specs.DescribeSettings.Agreement.{Agreement, max_nodes_of}
@@ -15,51 +15,51 @@ use Rattle.iox_negotiate_base.specs.declared.failure.CreateFailure.{CreateFailur
 use Rattle.iox_negotiate_base.specs.declared.failure.OpenFailure.{OpenFailure}
 use Rattle.iox_negotiate_base.specs.declared.failure.OpenOrCreateFailure.{OpenOrCreateFailure}
 
--- a creation makes six accesses at most
+-- A creation makes at most six accesses.
 abbrev pub CreatesInSix : Type 0
 CreatesInSix = (hash : ServiceHash) (node : ℕ) (agreed : Agreement) (refusal : Option CreateFailure) (made : List Access)
     (result : Result Opened CreateFailure)
     → CreatesIf hash node agreed refusal made result → length made ≤ 6
 
--- how many locks were taken in these accesses
+-- How many locks these accesses took.
 abbrev pub locks_taken : List Access → ℕ
 locks_taken [] = 0
 locks_taken (Lock hash node (Taken number) ∷ rest) = 1 + locks_taken rest
 locks_taken (access ∷ rest) = locks_taken rest
 
--- how many locks ended: they were given back, or the description was published
+-- How many locks these accesses ended, by releasing them or by publishing a description.
 abbrev pub locks_ended : List Access → ℕ
 locks_ended [] = 0
 locks_ended (Unlock hash number ∷ rest) = 1 + locks_ended rest
 locks_ended (Publish hash number bytes Published ∷ rest) = 1 + locks_ended rest
 locks_ended (access ∷ rest) = locks_ended rest
 
--- no lock is left by a creation, however it ends
+-- A creation leaves no lock, however it ends.
 abbrev pub LeavesNoLock : Type 0
 LeavesNoLock = (hash : ServiceHash) (node : ℕ) (agreed : Agreement) (refusal : Option CreateFailure) (made : List Access)
     (result : Result Opened CreateFailure)
     → CreatesIf hash node agreed refusal made result → locks_taken made ≡ locks_ended made
 
--- how many segments were made
+-- How many segments these accesses made.
 abbrev pub segments_made : List Access → ℕ
 segments_made [] = 0
 segments_made (MakeSegment hash number node max_nodes Made ∷ rest) = 1 + segments_made rest
 segments_made (access ∷ rest) = segments_made rest
 
--- how many segments were asked to be removed
+-- How many segments these accesses tried to remove.
 abbrev pub segments_removed : List Access → ℕ
 segments_removed [] = 0
 segments_removed (RemoveSegment hash number answer ∷ rest) = 1 + segments_removed rest
 segments_removed (access ∷ rest) = segments_removed rest
 
--- a refused creation asks to remove each segment that it made
+-- A refused creation tries to remove each segment that it made.
 abbrev pub RefusedLeavesNoSegment : Type 0
 RefusedLeavesNoSegment = (hash : ServiceHash) (node : ℕ) (agreed : Agreement) (refusal : Option CreateFailure) (made : List Access)
     (failure : CreateFailure)
     → CreatesIf hash node agreed refusal made (Err failure) → segments_made made ≡ segments_removed made
 
--- A creation that goes well ends so: its segment was made, with room for the agreed nodes, and under the number that it
--- answers the line of what it answers was published, which is what was to be agreed.
+-- A successful creation returns what was to be agreed, and its last two accesses made the segment for the agreed number of nodes and
+-- published the line of the agreement, both under the number that it returns.
 abbrev pub CreatedIsPublished : Type 0
 CreatedIsPublished = (hash : ServiceHash) (node : ℕ) (agreed : Agreement) (refusal : Option CreateFailure) (made : List Access)
     (service : Opened)
@@ -68,27 +68,27 @@ CreatedIsPublished = (hash : ServiceHash) (node : ℕ) (agreed : Agreement) (ref
     × (made ≡ front ++ (MakeSegment hash service.number node (max_nodes_of agreed.settings) Made
     ∷ Publish hash service.number (line Two agreed) Published ∷ []))
 
--- an opening makes ten accesses at most
+-- An opening makes at most ten accesses.
 abbrev pub OpensInTen : Type 0 → Type 0
 OpensInTen V = (hash : ServiceHash) (node : ℕ) (verdict : Agreement
     → Result (Unit {0}) V) (made : List Access) (result : Result Opened (OpenFailure V))
     → Opens hash node verdict made result → length made ≤ 10
 
--- an opening or creation makes fourteen accesses at most
+-- An opening or creation makes at most fourteen accesses.
 abbrev pub OpensOrCreatesInFourteen : Type 0 → Type 0
 OpensOrCreatesInFourteen V = (hash : ServiceHash) (node : ℕ) (verdict : Agreement
     → Result (Unit {0}) V) (agreed : Agreement) (refusal : Option CreateFailure)
     (made : List Access) (result : Result Opened (OpenOrCreateFailure V)) → OpensOrCreates hash node verdict agreed refusal made result
     → length made ≤ 14
 
--- no lock is left by an opening or creation, however it ends
+-- An opening or creation leaves no lock, however it ends.
 abbrev pub EitherLeavesNoLock : Type 0 → Type 0
 EitherLeavesNoLock V = (hash : ServiceHash) (node : ℕ) (verdict : Agreement
     → Result (Unit {0}) V) (agreed : Agreement) (refusal : Option CreateFailure)
     (made : List Access) (result : Result Opened (OpenOrCreateFailure V))
     → OpensOrCreates hash node verdict agreed refusal made result → locks_taken made ≡ locks_ended made
 
--- a refused opening or creation asks to remove each segment that it made
+-- A refused opening or creation tries to remove each segment that it made.
 abbrev pub RefusedEitherLeavesNoSegment : Type 0 → Type 0
 RefusedEitherLeavesNoSegment V = (hash : ServiceHash) (node : ℕ) (verdict : Agreement
     → Result (Unit {0}) V) (agreed : Agreement) (refusal : Option CreateFailure)

@@ -1,4 +1,4 @@
--- Which accesses open a service: a look, and its segment if it meets what is asked.
+-- The accesses that open a service: a lookup, and the opening of its segment if it meets the request.
 use Rattle.std.specs.Prelude.{◌≡◌, ℕ, List, [], ◌∷◌, Option, None, Some, Result, Ok, Err}
 use Rattle.iox_describe.specs.DescribeBase.declared.hash.ServiceHash.{ServiceHash}
 use Rattle.iox_describe.specs.DescribeSettings.Agreement.{Agreement}
@@ -18,39 +18,41 @@ use Rattle.iox_negotiate_base.specs.declared.failure.OpenOrCreateFailure.{OpenOr
 use Rattle.iox_negotiate_base.specs.declared.failure.OpenOrCreateFailure.TheVariants as either
 
 module _ {V : Type 0} (hash : ServiceHash) (node : ℕ) (verdict : Agreement → Result (Unit {0}) V) where
-  -- the node is registered in the segment of the service that was read
+  -- The accesses register the node in the segment of the service that was read.
   abbrev pub Registers : ℕ → Agreement → List Access → Option (Result Opened (OpenFailure V)) → Type 0
   Registers number agreed (OpenSegment under of by answer ∷ rest) result =
       (under ≡ hash) × (of ≡ number) × (by ≡ node) × (rest ≡ []) × (result ≡ entered number agreed answer)
   Registers number agreed made result = ⊥
 
-  -- a service that doesn't meet what is asked is not opened
+  -- After the compatibility check: the accesses register the node if the service meets the request; else there are none.
   abbrev pub OpensJudged : ℕ → Agreement → Result (Unit {0}) V → List Access → Option (Result Opened (OpenFailure V)) → Type 0
   OpensJudged number agreed (Ok met) made result = Registers number agreed made result
   OpensJudged number agreed (Err unmet) made result = (made ≡ []) × (result ≡ Some (Err (Clause unmet)))
 
-  -- after a look that doesn't show that nothing stands
+  -- After the lookup: if the service exists, it is checked; else there are no more accesses.
   abbrev pub OpensSeen : Sight → List Access → Option (Result Opened (OpenFailure V)) → Type 0
   OpensSeen sight.Absent made result = (made ≡ []) × (result ≡ Some (Err DoesNotExist))
   OpensSeen (sight.Standing number agreed) made result = OpensJudged number agreed (verdict agreed) made result
   OpensSeen (sight.Failed failure) made result = (made ≡ []) × (result ≡ Some (Err (open_failure_of failure)))
 
-  -- one round of an opening: a look, and what follows; it comes to no answer where the segment is absent
+  -- One round of an opening: a lookup and what follows it. The round has no result if the segment is absent.
   abbrev pub OpenRound : List Access → Option (Result Opened (OpenFailure V)) → Type 0
   OpenRound (Look under answer ∷ rest) result =
       (shown : Sight) × (under ≡ hash) × IsSight hash answer shown × OpensSeen shown rest result
   OpenRound made result = ⊥
 
-  -- a service is opened, in five rounds at most
+  -- The accesses open a service, in at most five rounds.
   abbrev pub Opens : List Access → Result Opened (OpenFailure V) → Type 0
   Opens made result = Rounds OpenRound (Err ServiceInCorruptedState) made result
 
   module _ (agreed : Agreement) (refusal : Option CreateFailure) where
-    -- where nothing stands, it is created, if its settings allow; another's lock or a service that stands leads to the next round
+    -- If no service exists, the accesses create it, unless its settings are refused. Another node's lock or an existing service lead to the
+    -- next round.
     abbrev pub EitherCreates : Option CreateFailure → List Access → Option (Result Opened (OpenOrCreateFailure V)) → Type 0
     EitherCreates (Some failure) made result = (made ≡ []) × (result ≡ Some (Err (either.Create failure)))
     EitherCreates None made result = (attempt : Attempt) × Locks hash node agreed made attempt × (result ≡ created_or_again attempt)
 
+    -- After the lookup: an existing service is checked and opened, a missing one is created, and a failed lookup ends the call.
     abbrev pub EitherSeen : Sight → List Access → Option (Result Opened (OpenOrCreateFailure V)) → Type 0
     EitherSeen sight.Absent made result = EitherCreates refusal made result
     EitherSeen (sight.Standing number other) made result =
@@ -58,12 +60,12 @@ module _ {V : Type 0} (hash : ServiceHash) (node : ℕ) (verdict : Agreement →
         × (result ≡ opened_or_again answer)
     EitherSeen (sight.Failed failure) made result = (made ≡ []) × (result ≡ Some (Err (either.Open (open_failure_of failure))))
 
-    -- one round of an opening or creation
+    -- One round of an opening or creation: a lookup and what follows it.
     abbrev pub EitherRound : List Access → Option (Result Opened (OpenOrCreateFailure V)) → Type 0
     EitherRound (Look under answer ∷ rest) result =
         (shown : Sight) × (under ≡ hash) × IsSight hash answer shown × EitherSeen shown rest result
     EitherRound made result = ⊥
 
-    -- a service is opened or created, in five rounds at most
+    -- The accesses open or create a service, in at most five rounds.
     abbrev pub OpensOrCreates : List Access → Result Opened (OpenOrCreateFailure V) → Type 0
     OpensOrCreates made result = Rounds EitherRound (Err either.SystemInFlux) made result

@@ -1,4 +1,4 @@
--- The errors of publish-subscribe services, of the failures of any pattern.
+-- The errors of publish-subscribe services, made from the failures of any pattern.
 use Rattle.iox_negotiate_base.specs.DescribeVerdict.declared.requirement.publish_subscribe.ClauseError.{ClauseError}
 use Rattle.iox_negotiate_base.specs.DescribeVerdict.declared.requirement.publish_subscribe.ClauseError.TheVariants as clause
 use Rattle.iox_negotiate_base.specs.declared.failure.OpenFailure.{OpenFailure}
@@ -14,7 +14,7 @@ use Rattle.iox_negotiate_base.specs.declared.errors.publish_subscribe.PublishSub
 use Rattle.iox_negotiate_base.specs.declared.errors.publish_subscribe.PublishSubscribeOpenOrCreateError.{PublishSubscribeOpenOrCreateError}
 use Rattle.iox_negotiate_base.specs.declared.errors.publish_subscribe.PublishSubscribeOpenOrCreateError.TheVariants as either
 
--- the error of a clause that is not met has its name
+-- The error of an unmet clause has the clause's name.
 abbrev pub clause_error : ClauseError → PublishSubscribeOpenError
 clause_error clause.IncompatibleMessagingPattern = opening.IncompatibleMessagingPattern
 clause_error clause.IncompatibleTypes = opening.IncompatibleTypes
@@ -28,7 +28,7 @@ clause_error clause.DoesNotSupportRequestedMinHistorySize = opening.DoesNotSuppo
 clause_error clause.DoesNotSupportRequestedMinSubscriberBorrowedSamples = opening.DoesNotSupportRequestedMinSubscriberBorrowedSamples
 clause_error clause.DoesNotSupportRequestedAmountOfNodes = opening.DoesNotSupportRequestedAmountOfNodes
 
--- each other error has the name of the failure
+-- Any other error has the name of the failure.
 abbrev pub open_error : OpenFailure ClauseError → PublishSubscribeOpenError
 open_error (unopened.Clause unmet) = clause_error unmet
 open_error unopened.DoesNotExist = opening.DoesNotExist
@@ -40,7 +40,7 @@ open_error unopened.ExceedsMaxNumberOfNodes = opening.ExceedsMaxNumberOfNodes
 open_error unopened.IsMarkedForDestruction = opening.IsMarkedForDestruction
 open_error unopened.OutOfMemory = opening.OutOfMemory
 
--- the error has the name of the failure
+-- The error has the name of the failure.
 abbrev pub create_error : CreateFailure → PublishSubscribeCreateError
 create_error uncreated.AlreadyExists = creating.AlreadyExists
 create_error uncreated.InsufficientPermissions = creating.InsufficientPermissions
@@ -51,7 +51,7 @@ create_error uncreated.ServiceInCorruptedState = creating.ServiceInCorruptedStat
 create_error uncreated.SubscriberBufferMustBeLargerThanHistorySize = creating.SubscriberBufferMustBeLargerThanHistorySize
 create_error uncreated.OutOfMemory = creating.OutOfMemory
 
--- the error around the one within
+-- The error around the inner one.
 abbrev pub open_or_create_error : OpenOrCreateFailure ClauseError → PublishSubscribeOpenOrCreateError
 open_or_create_error (neither.Open failure) = either.PublishSubscribeOpenError (open_error failure)
 open_or_create_error (neither.Create failure) = either.PublishSubscribeCreateError (create_error failure)

@@ -1,4 +1,4 @@
--- What the errors of publish-subscribe services display as: the type's name, `::` and the variant, an inner variant in parentheses.
+-- The texts of the errors of publish-subscribe services: the name of the type, `::` and the variant, with an inner variant in parentheses.
 use Rattle.std.specs.Prelude.{ℕ, List, ◌++◌, codes}
 use Rattle.iox_negotiate_base.specs.declared.errors.publish_subscribe.PublishSubscribeOpenError.{PublishSubscribeOpenError}
 use Rattle.iox_negotiate_base.specs.declared.errors.publish_subscribe.PublishSubscribeOpenError.TheVariants as opening
@@ -7,7 +7,7 @@ use Rattle.iox_negotiate_base.specs.declared.errors.publish_subscribe.PublishSub
 use Rattle.iox_negotiate_base.specs.declared.errors.publish_subscribe.PublishSubscribeOpenOrCreateError.{PublishSubscribeOpenOrCreateError}
 use Rattle.iox_negotiate_base.specs.declared.errors.publish_subscribe.PublishSubscribeOpenOrCreateError.TheVariants as either
 
--- the name of the variant
+-- The name of the variant of an error of opening.
 abbrev pub open_name : PublishSubscribeOpenError → List ℕ
 open_name opening.IncompatibleMessagingPattern = codes "IncompatibleMessagingPattern"
 open_name opening.IncompatibleTypes = codes "IncompatibleTypes"
@@ -29,7 +29,7 @@ open_name opening.ExceedsMaxNumberOfNodes = codes "ExceedsMaxNumberOfNodes"
 open_name opening.IsMarkedForDestruction = codes "IsMarkedForDestruction"
 open_name opening.OutOfMemory = codes "OutOfMemory"
 
--- the name of the variant
+-- The name of the variant of an error of creating.
 abbrev pub create_name : PublishSubscribeCreateError → List ℕ
 create_name creating.AlreadyExists = codes "AlreadyExists"
 create_name creating.InsufficientPermissions = codes "InsufficientPermissions"
@@ -40,13 +40,15 @@ create_name creating.ServiceInCorruptedState = codes "ServiceInCorruptedState"
 create_name creating.SubscriberBufferMustBeLargerThanHistorySize = codes "SubscriberBufferMustBeLargerThanHistorySize"
 create_name creating.OutOfMemory = codes "OutOfMemory"
 
+-- The text of an error of opening: the name of the type, `::` and the variant.
 abbrev pub open_text : PublishSubscribeOpenError → List ℕ
 open_text error = codes "PublishSubscribeOpenError::" ++ open_name error
 
+-- The text of an error of creating: the name of the type, `::` and the variant.
 abbrev pub create_text : PublishSubscribeCreateError → List ℕ
 create_text error = codes "PublishSubscribeCreateError::" ++ create_name error
 
--- the variant is of the name of the error within
+-- The text of an error of either: the name of the type, `::` and the variant, which has the name of the inner error.
 abbrev pub open_or_create_text : PublishSubscribeOpenOrCreateError → List ℕ
 open_or_create_text (either.PublishSubscribeOpenError error) = codes "PublishSubscribeOpenOrCreateError::PublishSubscribeOpenError("
     ++ open_name error ++ codes ")"

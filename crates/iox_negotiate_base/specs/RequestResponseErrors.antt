@@ -1,4 +1,4 @@
--- The errors of request-response services, of the failures of any pattern.
+-- The errors of request-response services, made from the failures of any pattern.
 use Rattle.iox_negotiate_base.specs.DescribeVerdict.declared.requirement.request_response.ClauseError.{ClauseError}
 use Rattle.iox_negotiate_base.specs.DescribeVerdict.declared.requirement.request_response.ClauseError.TheVariants as clause
 use Rattle.iox_negotiate_base.specs.declared.failure.OpenFailure.{OpenFailure}
@@ -14,7 +14,7 @@ use Rattle.iox_negotiate_base.specs.declared.errors.request_response.RequestResp
 use Rattle.iox_negotiate_base.specs.declared.errors.request_response.RequestResponseOpenOrCreateError.{RequestResponseOpenOrCreateError}
 use Rattle.iox_negotiate_base.specs.declared.errors.request_response.RequestResponseOpenOrCreateError.TheVariants as either
 
--- the error of a clause that is not met has its name
+-- The error of an unmet clause has the clause's name.
 abbrev pub clause_error : ClauseError → RequestResponseOpenError
 clause_error clause.IncompatibleMessagingPattern = opening.IncompatibleMessagingPattern
 clause_error clause.IncompatibleRequestType = opening.IncompatibleRequestType
@@ -32,7 +32,7 @@ clause_error clause.DoesNotSupportRequestedAmountOfBorrowedResponsesPerPendingRe
     = opening.DoesNotSupportRequestedAmountOfBorrowedResponsesPerPendingResponse
 clause_error clause.DoesNotSupportRequestedAmountOfNodes = opening.DoesNotSupportRequestedAmountOfNodes
 
--- each other error has the name of the failure
+-- Any other error has the name of the failure.
 abbrev pub open_error : OpenFailure ClauseError → RequestResponseOpenError
 open_error (unopened.Clause unmet) = clause_error unmet
 open_error unopened.DoesNotExist = opening.DoesNotExist
@@ -44,7 +44,7 @@ open_error unopened.ExceedsMaxNumberOfNodes = opening.ExceedsMaxNumberOfNodes
 open_error unopened.IsMarkedForDestruction = opening.IsMarkedForDestruction
 open_error unopened.OutOfMemory = opening.OutOfMemory
 
--- The error has the name of the failure. A service without a history has no room to ask for it; that failure is never met.
+-- The error has the name of the failure. A request-response service has no history, so the failure about the history doesn't occur.
 abbrev pub create_error : CreateFailure → RequestResponseCreateError
 create_error uncreated.AlreadyExists = creating.AlreadyExists
 create_error uncreated.InsufficientPermissions = creating.InsufficientPermissions
@@ -55,7 +55,7 @@ create_error uncreated.ServiceInCorruptedState = creating.ServiceInCorruptedStat
 create_error uncreated.OutOfMemory = creating.OutOfMemory
 create_error uncreated.SubscriberBufferMustBeLargerThanHistorySize = creating.InternalFailure
 
--- the error around the one within
+-- The error around the inner one.
 abbrev pub open_or_create_error : OpenOrCreateFailure ClauseError → RequestResponseOpenOrCreateError
 open_or_create_error (neither.Open failure) = either.RequestResponseOpenError (open_error failure)
 open_or_create_error (neither.Create failure) = either.RequestResponseCreateError (create_error failure)

@@ -1,4 +1,4 @@
--- What a look shows to who asks for a service.
+-- What a lookup shows of a service.
 use Rattle.std.specs.Prelude.{◌≡◌, ℕ, List}
 use Rattle.iox_describe.specs.DescribeBase.declared.hash.ServiceHash.{ServiceHash}
 use Rattle.iox_describe.specs.DescribeSettings.Agreement.{Agreement}
@@ -11,13 +11,13 @@ use Rattle.iox_negotiate_base.specs.declared.sight.Sight.TheVariants as sight
 use Rattle.iox_negotiate_base.specs.declared.sight.SightFailure.TheVariants.{HangsInCreation, InsufficientPermissions}
 use Rattle.iox_negotiate_base.specs.declared.sight.SightFailure.TheVariants.{ServiceInCorruptedState, OutOfMemory}
 
--- these bytes describe, under this hash, a service with this agreement
+-- The bytes encode an agreement within the limits that has this hash.
 pub record Describes (hash : ServiceHash) (bytes : List ℕ) (agreed : Agreement) : Type 0 where
   pub within : IsWithinLimits agreed
   pub spelled : Spells bytes agreed
   pub own : agreed.service_hash ≡ hash
 
--- What bytes show: the service that they describe; that they describe none; or memory is wanting to read them.
+-- What bytes show: the service that they describe; or that they describe none; or nothing, if memory to read them runs out.
 abbrev pub IsRead : ServiceHash → ℕ → List ℕ → Sight → Type 0
 IsRead hash number bytes sight.Absent = ⊥
 IsRead hash number bytes (sight.Standing shown agreed) = (shown ≡ number) × Describes hash bytes agreed
@@ -26,7 +26,7 @@ IsRead hash number bytes (sight.Failed InsufficientPermissions) = ⊥
 IsRead hash number bytes (sight.Failed ServiceInCorruptedState) = (agreed : Agreement) → Describes hash bytes agreed → ⊥
 IsRead hash number bytes (sight.Failed OutOfMemory) = Unit {0}
 
--- what the answer of a look for a hash shows
+-- What the result of a lookup of a hash shows.
 abbrev pub IsSight : ServiceHash → LookAnswer → Sight → Type 0
 IsSight hash look.Absent shown = shown ≡ sight.Absent
 IsSight hash look.Locked shown = shown ≡ sight.Failed HangsInCreation

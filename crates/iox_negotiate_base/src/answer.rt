@@ -1,9 +1,9 @@
-//! What a storage answers to each access.
+//! The results of the accesses to a storage.
 ghost use Rattle.std.specs.Prelude.{◌≡◌};
 
 use std::marker::Model;
 
-/// The bytes of a description, as a storage has them. Contracts see the list of bytes.
+/// The bytes of a stored description. Contracts see the list of bytes.
 #[derive(Drop)]
 pub struct StoredDescription {
     bytes: Vec<u8>,
@@ -18,7 +18,7 @@ impl Model for StoredDescription {
 }
 
 impl StoredDescription {
-    /// These bytes, which need not be a description.
+    /// A stored description with these bytes, which need not be valid.
     pub fn new(bytes: Vec<u8>) -> Self
         ensures { result ≡ bytes.items }
     {
@@ -33,98 +33,98 @@ impl StoredDescription {
     }
 }
 
-/// What a look for the description under a hash shows.
+/// The result of looking up the description under a hash.
 #[derive(Drop)]
 pub enum LookAnswer {
-    /// There is none.
+    /// There is no description and no lock.
     Absent,
-    /// A node is about to create it.
+    /// A node has locked the hash and is about to create the service.
     Locked,
-    /// The description, and the number of its service.
+    /// There is a description: its bytes, and the number of its service.
     Found {
         number: u64,
         bytes: StoredDescription,
     },
-    /// Reading is not permitted.
+    /// The caller may not read the description.
     Denied,
-    /// What lies there can't be read.
+    /// The stored data can't be read.
     Broken,
-    /// No memory was found.
+    /// Memory ran out.
     OutOfMemory,
 }
 
-/// What comes of locking a hash, so that the caller alone may create its service.
+/// The result of locking a hash, after which only the caller may create its service.
 #[derive(Clone, Copy, PartialEq, Eq)]
 pub enum LockAnswer {
-    /// The caller has the lock, and the service to create has this number.
+    /// The caller has the lock, and the service to be created has this number.
     Taken(u64),
-    /// Another has the lock.
+    /// Another node has the lock.
     IsLocked,
-    /// A description stands.
+    /// There is a description already.
     Exists,
-    /// It is not permitted.
+    /// The caller may not lock the hash.
     Denied,
-    /// It failed.
+    /// The access failed.
     Fault,
-    /// No memory was found.
+    /// Memory ran out.
     OutOfMemory,
 }
 
-/// What comes of making the segment of a service, in which its nodes are registered.
+/// The result of making the segment of a service, in which its nodes are registered.
 #[derive(Clone, Copy, PartialEq, Eq)]
 pub enum MakeSegmentAnswer {
-    /// It is made, and the caller registered.
+    /// The segment exists now, and the caller is registered in it.
     Made,
-    /// It failed.
+    /// The access failed.
     Fault,
-    /// No memory was found.
+    /// Memory ran out.
     OutOfMemory,
 }
 
-/// What comes of publishing a description.
+/// The result of publishing a description.
 #[derive(Clone, Copy, PartialEq, Eq)]
 pub enum PublishAnswer {
-    /// It stands, and the lock is gone.
+    /// The description exists now, and the lock has ended.
     Published,
-    /// It failed.
+    /// The access failed.
     Fault,
-    /// No memory was found.
+    /// Memory ran out.
     OutOfMemory,
 }
 
-/// What comes of opening the segment of a service.
+/// The result of opening the segment of a service.
 #[derive(Clone, Copy, PartialEq, Eq)]
 pub enum OpenSegmentAnswer {
     /// The caller is registered.
     Registered,
     /// There is no such segment.
     Absent,
-    /// Its last node left, so it is about to be removed.
+    /// The last node left the segment, so the service is about to be removed.
     Marked,
-    /// As many nodes as it has room for are registered, and the caller is none of them.
+    /// The maximum number of nodes is registered, and the caller isn't one of them.
     Full,
-    /// It is not permitted.
+    /// The caller may not open the segment.
     Denied,
-    /// It failed.
+    /// The access failed.
     Fault,
-    /// No memory was found.
+    /// Memory ran out.
     OutOfMemory,
 }
 
-/// What a leave left.
+/// The result of taking one factory of a node off a segment.
 #[derive(Clone, Copy, PartialEq, Eq)]
 pub enum LeaveAnswer {
-    /// Some node is still registered.
+    /// A node is still registered.
     Stays,
-    /// The caller was the last, and is to remove the service.
+    /// The caller was the last node, and has to remove the service.
     Emptied,
 }
 
-/// What comes of removing a description or a segment.
+/// The result of removing a description or a segment.
 #[derive(Clone, Copy, PartialEq, Eq)]
 pub enum RemoveAnswer {
-    /// It is gone.
+    /// The description or the segment is removed.
     Removed,
-    /// It failed.
+    /// The access failed.
     Fault,
 }

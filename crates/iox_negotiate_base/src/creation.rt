@@ -1,4 +1,4 @@
-//! From a lock to a published service, or back.
+//! Creates a service under a lock, or undoes the creation.
 ghost use Rattle.std.specs.Prelude.{◌≡◌, IfOk};
 ghost use Rattle.iox_describe.specs.Line.{line};
 ghost use Rattle.iox_describe.specs.DescribeSettings.declared.description.Version.TheVariants.{Two};
@@ -15,16 +15,16 @@ use crate::storage::Storage;
 use iox_describe::{Description, ServiceHash, encode};
 use std::alloc::{AllocError, Global};
 
-/// What an attempt to create a service came to.
+/// The result of an attempt to create a service.
 #[derive(Drop)]
 pub enum Attempt {
-    /// It is created.
+    /// The service is created.
     Made(Opened),
-    /// Another has the lock.
+    /// Another node has the lock.
     IsLocked,
-    /// A service stands.
+    /// The service exists already.
     Exists,
-    /// It failed.
+    /// The attempt failed.
     Failed(CreateFailure),
 }
 
@@ -57,7 +57,7 @@ fn make_segment<R: Request, S: Storage>(
     publish(alloc, request, number, storage)
 }
 
-// Publishes the description, or takes back what was made.
+// Publishes the description, or undoes what was made.
 fn publish<R: Request, S: Storage>(
     alloc: Global,
     request: &R,
@@ -80,7 +80,7 @@ fn publish<R: Request, S: Storage>(
     })
 }
 
-// The description of the service that is created, and its line.
+// The description of the service to be created, and its line.
 fn write<R: Request>(alloc: Global, request: &R) -> Result<(Description, Vec<u8>), AllocError>
     ensures { IfOk result (λ written. (written.0 ≡ R.created request.now) × (written.1.items ≡ line Two (R.created request.now))) }
 {
@@ -89,7 +89,7 @@ fn write<R: Request>(alloc: Global, request: &R) -> Result<(Description, Vec<u8>
     Ok((description, bytes))
 }
 
-// Takes segment and lock back.
+// Removes the segment and releases the lock.
 fn undo<S: Storage>(
     hash: &ServiceHash,
     number: u64,
@@ -103,7 +103,7 @@ fn undo<S: Storage>(
     unlock(hash, number, failure, storage)
 }
 
-// Takes the lock back.
+// Releases the lock.
 fn unlock<S: Storage>(
     hash: &ServiceHash,
     number: u64,
@@ -150,7 +150,7 @@ fn publishing_failure(answer: PublishAnswer) -> Option<CreateFailure>
     }
 }
 
-/// Why nothing is created where a look shows this; `None` where nothing stands.
+/// Why the service isn't created after this look; `None` if no service exists.
 pub(crate) fn refusal_seen(seen: &Sight) -> Option<CreateFailure>
     ensures { result ≡ refusal_seen seen.now }
 {
@@ -168,7 +168,7 @@ pub(crate) fn refusal_seen(seen: &Sight) -> Option<CreateFailure>
     }
 }
 
-/// What an attempt is to who creates.
+/// The result of an attempt for a node that only creates.
 pub(crate) fn created(attempt: Attempt) -> Result<Opened, CreateFailure>
     ensures { result ≡ created attempt }
 {

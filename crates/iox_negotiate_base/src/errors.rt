@@ -1,13 +1,13 @@
-//! Why a service is neither opened nor created, by its pattern, and why a factory isn't closed. Each error displays as its
-//! type's name, `::` and the variant, an inner variant in parentheses.
+//! Why a service isn't opened or created, by its pattern, and why a factory isn't closed. Each error is displayed as the name of its type,
+//! `::` and the variant, with an inner variant in parentheses.
 //!
 //! | Module | What it has |
 //! |---|---|
-//! | `publish_subscribe`, `event`, `request_response` | the three errors of a pattern, of the failures of the rounds |
-//! | `close` | the errors of closing a factory |
+//! | `publish_subscribe`, `event`, `request_response` | the three errors of a pattern, made from the failures of the rounds |
+//! | `close` | the error of closing a factory |
 //! | `tables` | the tables of names that all patterns share |
 //!
-//! First calls, of a failure of the rounds. The builders of `iox_negotiate` return these errors.
+//! First calls, with a failure of the rounds, as the builders of `iox_negotiate` make them to return these errors:
 //!
 //! ```
 //! let error = PublishSubscribeOpenError::from(failure);

@@ -1,56 +1,56 @@
-//! Why a service isn't created or opened, whatever its pattern.
+//! Why a service isn't created or opened, for any pattern.
 
 /// Why a service isn't created.
 #[derive(Clone, Copy)]
 pub enum CreateFailure {
-    /// A service stands.
+    /// The service exists already.
     AlreadyExists,
-    /// It is not permitted.
+    /// The node lacks the permission.
     InsufficientPermissions,
-    /// A setting is beyond the limits, or an access failed.
+    /// A setting is beyond its limits, or an access failed.
     InternalFailure,
-    /// Another creates it.
+    /// Another node is creating the service.
     IsBeingCreatedByAnotherInstance,
-    /// Another was about to create it when it was looked for.
+    /// When the service was looked up, another node had its lock.
     HangsInCreation,
-    /// What stands is no description of this service.
+    /// The stored data isn't a description of this service.
     ServiceInCorruptedState,
-    /// A full buffer would hold the publisher up, and has no room for the history.
+    /// The history doesn't fit into a buffer that blocks the publisher when it is full.
     SubscriberBufferMustBeLargerThanHistorySize,
-    /// No memory was found.
+    /// Memory ran out.
     OutOfMemory,
 }
 
-/// Why a service isn't opened; `V` says which clause isn't met.
+/// Why a service isn't opened; `V` is the type of the error of an unmet clause.
 #[derive(Clone, Copy)]
 pub enum OpenFailure<V> {
-    /// The first clause that isn't met.
+    /// The service doesn't meet this clause, which is the first unmet one.
     Clause(V),
-    /// There is none.
+    /// The service doesn't exist.
     DoesNotExist,
-    /// It is not permitted.
+    /// The node lacks the permission.
     InsufficientPermissions,
-    /// What stands is no description of this service, or its segment was absent in each round.
+    /// The stored data isn't a description of this service, or its segment was absent in each round.
     ServiceInCorruptedState,
     /// An access failed.
     InternalFailure,
-    /// Another was about to create it when it was looked for.
+    /// When the service was looked up, another node had its lock.
     HangsInCreation,
-    /// As many nodes as the service allows are in it, and this node is none of them.
+    /// The service has its maximum number of nodes, and this node isn't one of them.
     ExceedsMaxNumberOfNodes,
-    /// Its last node left, so it is about to be removed.
+    /// The last node left the service, so it is about to be removed.
     IsMarkedForDestruction,
-    /// No memory was found.
+    /// Memory ran out.
     OutOfMemory,
 }
 
 /// Why a service is neither opened nor created.
 #[derive(Clone, Copy)]
 pub enum OpenOrCreateFailure<V> {
-    /// There is one, which isn't opened.
+    /// The service exists, and isn't opened.
     Open(OpenFailure<V>),
-    /// There was none, and it isn't created.
+    /// The service doesn't exist, and isn't created.
     Create(CreateFailure),
-    /// It came and went in each round.
+    /// In each round, other nodes were creating or removing the service.
     SystemInFlux,
 }

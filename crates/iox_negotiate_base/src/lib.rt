@@ -1,19 +1,19 @@
-//! How nodes agree on a service: rounds of accesses to a storage, whatever it answers.
+//! How nodes agree on a service: rounds of accesses to a storage, whatever the results of the accesses are.
 //!
-//! | Module | What it has, from the ground up |
+//! | Module | What it has (lower modules first) |
 //! |---|---|
-//! | `answer` | what a storage answers to each access |
+//! | `answer` | the results of the accesses to a storage |
 //! | `storage` | the trait of a storage |
-//! | `request` | what is asked of a service, whatever its pattern |
+//! | `request` | what a node asks of a service, for any pattern |
 //! | `failure` | why a service isn't created or opened |
-//! | `sight` | what a look shows |
-//! | `creation` | from a lock to a published service, or back |
-//! | `opening` | from a description to a place among the nodes |
+//! | `sight` | what a lookup of a service shows |
+//! | `creation` | creates a service under a lock, or undoes the creation |
+//! | `opening` | checks a description, and registers the node in its service |
 //! | `rounds` | `create`, `open`, `open_or_create` |
-//! | `laws` | what holds of all of them, in other words |
-//! | `errors` | why a service is neither opened nor created, by its pattern; why a factory isn't closed |
+//! | `laws` | theorems about all of these |
+//! | `errors` | why a service isn't opened or created, by its pattern; why a factory isn't closed |
 //!
-//! A first call. The builders of `iox_negotiate` make them.
+//! A first call, as the builders of `iox_negotiate` make it:
 //!
 //! ```
 //! let opened = open_or_create(alloc, &request, &mut storage)?;

@@ -1,4 +1,4 @@
-//! From a description to a place among the nodes of its service.
+//! Checks a description, and registers the node in its service.
 ghost use Rattle.std.specs.Prelude.{◌≡◌};
 ghost use Rattle.iox_negotiate_base.specs.Runs.{Does};
 ghost use Rattle.iox_negotiate_base.specs.Opening.{Registers, OpensJudged, OpensSeen};
@@ -11,7 +11,7 @@ use crate::sight::{Sight, SightFailure};
 use crate::storage::Storage;
 use iox_describe::Description;
 
-/// Opens what a look showed. `None` where its segment is absent, which leads to the next round.
+/// Opens the service that a lookup showed. `None` if its segment is absent, which leads to the next round.
 pub(crate) fn open_seen<R: Request, S: Storage>(
     request: &R,
     seen: Sight,
@@ -30,7 +30,7 @@ pub(crate) fn open_seen<R: Request, S: Storage>(
     }
 }
 
-/// Opens a service that stands, if it meets what is asked. `None` where its segment is absent.
+/// Opens an existing service, if it meets the request. `None` if its segment is absent.
 pub(crate) fn open_standing<R: Request, S: Storage>(
     request: &R,
     number: u64,
@@ -82,7 +82,7 @@ fn entered<V>(
     }
 }
 
-/// Why nothing is opened where it can't be told what stands.
+/// Why the service isn't opened if the lookup failed.
 pub(crate) fn open_failure_of<V>(failure: SightFailure) -> OpenFailure<V>
     ensures { result ≡ open_failure_of failure }
 {

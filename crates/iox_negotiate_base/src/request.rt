@@ -1,4 +1,4 @@
-//! What is asked of a service, whatever its pattern.
+//! What a node asks of a service, for any pattern.
 ghost use Rattle.std.specs.Prelude.{◌≡◌, ℕ, Option, Result, IfOk};
 ghost use Rattle.iox_describe.specs.DescribeBase.declared.hash.ServiceHash.{ServiceHash};
 ghost use Rattle.iox_describe.specs.DescribeSettings.Agreement.{Agreement, max_nodes_of};
@@ -8,38 +8,38 @@ use crate::failure::CreateFailure;
 use iox_describe::{Description, ServiceHash};
 use std::alloc::{AllocError, Global};
 
-/// A service that is open: its number, and what was agreed.
+/// An open service: its number, and its description.
 #[derive(Drop)]
 pub struct Opened {
     /// The number of the service.
     pub number: u64,
     /// What its nodes agree on.
     pub description: Description,
-    /// Whether it was created by this call, and not opened.
+    /// Whether this call created the service.
     pub is_new: bool,
 }
 
-/// What a node asks of a service: what it is to be like to be opened, and what it becomes where it is created.
+/// What a node asks of a service: what an existing service must meet, and what a created service becomes.
 pub trait Request {
-    /// Says which clause isn't met.
+    /// The type of the error of an unmet clause.
     type ClauseError: Copy;
 
-    // the hash under which the service is found
+    // the hash that identifies the service
     ghost hash: { Self → ServiceHash };
 
     // the node that asks
     ghost node: { Self → ℕ };
 
-    // whether a service meets the request: the error of the first clause that it doesn't meet
+    // the result of the compatibility check: the error of the first clause that a service doesn't meet
     ghost verdict: { Self → Agreement → Result (Unit {0}) Self.ClauseError };
 
-    // why no service can be created so, if that can be told from the settings alone
+    // why no service can be created with these settings, if the settings alone show it
     ghost refusal: { Self → Option CreateFailure };
 
-    // what the service is agreed to be where it is created
+    // the agreement of the service if it is created
     ghost created: { Self → Agreement };
 
-    /// The hash under which the service is found.
+    /// The hash that identifies the service.
     fn hash(&self) -> &ServiceHash
         ensures { result.now ≡ hash self.now };
 
@@ -47,19 +47,19 @@ pub trait Request {
     fn node(&self) -> u64
         ensures { result ≡ node self.now };
 
-    /// Whether a service meets the request; the error is that of the first clause that it doesn't meet.
+    /// Checks whether a service meets the request; the error is that of the first clause that it doesn't meet.
     fn verdict(&self, description: &Description) -> Result<(), Self::ClauseError>
         ensures { result ≡ verdict self.now description.now };
 
-    /// Why no service can be created so, if that can be told from the settings alone.
+    /// Why no service can be created with these settings, if the settings alone show it.
     fn refusal(&self) -> Option<CreateFailure>
         ensures { result ≡ refusal self.now };
 
-    /// How many nodes may be in the service where it is created.
+    /// The maximum number of nodes of the service if it is created.
     fn max_nodes(&self) -> u64
         ensures { result ≡ max_nodes_of (created self.now).settings };
 
-    /// What the service is agreed to be where it is created. It fails only where an allocation fails.
+    /// The description of the service if it is created. It fails only where an allocation fails.
     fn describe(&self, alloc: Global) -> Result<Description, AllocError>
         ensures { IfOk result (λ description. description ≡ created self.now) };
 }

@@ -1,4 +1,4 @@
-//! Creating, opening, and either: rounds of accesses to a storage.
+//! Creating a service, opening it, or either: rounds of accesses to a storage.
 ghost use Rattle.std.specs.Prelude.{◌≡◌};
 ghost use Rattle.iox_negotiate_base.specs.Runs.{Does};
 ghost use Rattle.iox_negotiate_base.specs.Creating.{CreatesSeen, CreatesIf};
@@ -13,15 +13,15 @@ use crate::sight::{Sight, shown};
 use crate::storage::Storage;
 use std::alloc::Global;
 
-/// How many rounds an opening makes at most.
+/// The maximum number of rounds of an opening.
 pub const ROUNDS: u32 = 5;
 
-/// Creates the service that is asked for.
+/// Creates the service of the request.
 ///
-/// Refused for its settings with no access to the storage; with `AlreadyExists` where a service stands,
-/// `IsBeingCreatedByAnotherInstance` where another has the lock, `HangsInCreation` where another had it when it was
-/// looked for, `ServiceInCorruptedState` where what stands can't be read, `InsufficientPermissions`, `InternalFailure`
-/// and `OutOfMemory` as the storage answers; what was made by then is taken back.
+/// Refused without an access to the storage if its settings aren't possible. Refused with `AlreadyExists` if the service exists, with
+/// `IsBeingCreatedByAnotherInstance` if another node has the lock, with `HangsInCreation` if another node had the lock at the lookup, with
+/// `ServiceInCorruptedState` if the stored data can't be read, and with `InsufficientPermissions`, `InternalFailure` or `OutOfMemory` as
+/// the storage reports. A refused call undoes what it made.
 pub fn create<R: Request, S: Storage>(
     alloc: Global,
     request: &R,
@@ -38,7 +38,7 @@ pub fn create<R: Request, S: Storage>(
     created(create_seen(alloc, request, &seen, storage))
 }
 
-// Creates the service, unless a look showed why not.
+// Creates the service, unless the lookup showed why it can't be created.
 fn create_seen<R: Request, S: Storage>(
     alloc: Global,
     request: &R,
@@ -54,12 +54,11 @@ fn create_seen<R: Request, S: Storage>(
     lock(alloc, request, storage)
 }
 
-/// Opens the service that is asked for, in five rounds at most.
+/// Opens the service of the request, in at most five rounds.
 ///
-/// Refused with the first clause that it doesn't meet; with `DoesNotExist`, `HangsInCreation`,
-/// `ServiceInCorruptedState`, `IsMarkedForDestruction`, `ExceedsMaxNumberOfNodes`, `InsufficientPermissions`,
-/// `InternalFailure` and `OutOfMemory` as the storage answers. A segment that is absent leads to the next round; after
-/// five it is `ServiceInCorruptedState`.
+/// Refused with the first clause that the service doesn't meet, or with `DoesNotExist`, `HangsInCreation`, `ServiceInCorruptedState`,
+/// `IsMarkedForDestruction`, `ExceedsMaxNumberOfNodes`, `InsufficientPermissions`, `InternalFailure` or `OutOfMemory` as the storage
+/// reports. If the segment is absent, the next round begins; after five rounds the result is `ServiceInCorruptedState`.
 pub fn open<R: Request, S: Storage>(
     alloc: Global,
     request: &R,
@@ -89,10 +88,10 @@ fn open_round<R: Request, S: Storage>(
     open_seen(request, seen, storage)
 }
 
-/// Opens the service that is asked for, or creates it where none stands, in five rounds at most.
+/// Opens the service of the request, or creates it if it doesn't exist, in at most five rounds.
 ///
-/// Refused as `open` refuses what stands, and as `create` refuses what is to be created. A segment that is absent, a
-/// lock of another and a service that came meanwhile lead to the next round; after five it is `SystemInFlux`.
+/// Refused as `open` refuses an existing service, and as `create` refuses to create one. If the segment is absent, another node has the
+/// lock, or another node created the service in the meantime, the next round begins; after five rounds the result is `SystemInFlux`.
 pub fn open_or_create<R: Request, S: Storage>(
     alloc: Global,
     request: &R,

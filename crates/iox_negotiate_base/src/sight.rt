@@ -1,4 +1,4 @@
-//! What a look shows.
+//! What a lookup of a service shows.
 ghost use Rattle.std.specs.Prelude.{◌≡◌};
 ghost use Rattle.iox_negotiate_base.specs.Sight.{IsSight, IsRead};
 
@@ -6,34 +6,34 @@ use crate::answer::{LookAnswer, StoredDescription};
 use iox_describe::{Description, DescriptionError, ServiceHash, decode};
 use std::alloc::Global;
 
-/// What a look shows to who asks for a service.
+/// What a lookup shows of a service.
 #[derive(Drop)]
 pub enum Sight {
-    /// No service stands.
+    /// The service doesn't exist.
     Absent,
-    /// This one stands.
+    /// The service with this number and this description exists.
     Standing {
         number: u64,
         description: Description,
     },
-    /// It can't be told what stands.
+    /// The lookup doesn't show whether the service exists.
     Failed(SightFailure),
 }
 
-/// Why a look doesn't show what stands.
+/// Why a lookup doesn't show whether the service exists.
 #[derive(Clone, Copy)]
 pub enum SightFailure {
-    /// Another is about to create the service.
+    /// Another node has the lock, and is about to create the service.
     HangsInCreation,
-    /// Reading is not permitted.
+    /// The node may not read the description.
     InsufficientPermissions,
-    /// What lies there is no description of the service.
+    /// The stored data isn't a description of this service.
     ServiceInCorruptedState,
-    /// No memory was found.
+    /// Memory ran out.
     OutOfMemory,
 }
 
-/// What the answer of a look for this hash shows.
+/// What the result of a lookup of this hash shows.
 pub fn shown(alloc: Global, hash: &ServiceHash, answer: &LookAnswer) -> Sight
     ensures { IsSight hash.now answer.now result }
 {
@@ -47,7 +47,7 @@ pub fn shown(alloc: Global, hash: &ServiceHash, answer: &LookAnswer) -> Sight
     }
 }
 
-// What these bytes show, found under this hash.
+// What these bytes show, which were found under this hash.
 fn standing(alloc: Global, hash: &ServiceHash, number: u64, bytes: &StoredDescription) -> Sight
     ensures { IsRead hash.now number bytes.now result }
 {

@@ -1,4 +1,4 @@
-//! Where services are kept: what nodes read and write to agree on one.
+//! The storage of services, which nodes read and write to agree on a service.
 ghost use Rattle.std.specs.Prelude.{◌≡◌, ℕ};
 ghost use Rattle.iox_negotiate_base.specs.Access.{Access, Look, Lock, MakeSegment, Publish, Unlock, OpenSegment, Leave};
 ghost use Rattle.iox_negotiate_base.specs.Access.{RemoveDescription, RemoveSegment};
@@ -9,32 +9,32 @@ use crate::answer::{
 };
 use iox_describe::ServiceHash;
 
-/// A storage of services. A description and its lock lie under the hash of the service; a segment, in which nodes are
-/// registered, under the hash and the number of the service.
+/// A storage of services. A description and its lock are stored under the hash of the service; a segment, in which nodes are registered, is
+/// stored under the hash and the number of the service.
 ///
-/// A storage may answer anything to any access. What an implementation says of its answers is its `gives`.
+/// A storage may return any result for any access. What an implementation guarantees of its results is its `gives`.
 ///
 /// Ported from `iceoryx2::service::{static_storage, dynamic_config}`, as one interface.
 pub trait Storage {
-    // the number that tells storages apart
+    // the id that distinguishes storages
     ghost id: { Self → ℕ };
 
-    // what an access with its answer may have made of the storage
+    // what an access with this result may have made of the storage
     ghost gives: { Self → Access → Self → Type 0 };
 
-    /// The number that tells storages apart.
+    /// The id that distinguishes storages.
     fn id(&self) -> u64
         ensures { result ≡ id self.now };
 
-    /// Looks for the description under a hash.
+    /// Looks up the description under a hash.
     fn look(&mut self, hash: &ServiceHash) -> LookAnswer
         ensures { gives self.old (Look hash.now result) self.new };
 
-    /// Locks a hash for a node that is about to create its service.
+    /// Locks a hash for a node that is about to create the service.
     fn lock(&mut self, hash: &ServiceHash, node: u64) -> LockAnswer
         ensures { gives self.old (Lock hash.now node result) self.new };
 
-    /// Makes the segment of a service, with room for so many nodes, and registers the node.
+    /// Makes the segment of a service for at most `max_nodes` nodes, and registers the node in it.
     fn make_segment(
         &mut self,
         hash: &ServiceHash,
@@ -48,7 +48,7 @@ pub trait Storage {
     fn publish(&mut self, hash: &ServiceHash, number: u64, bytes: &[u8]) -> PublishAnswer
         ensures { gives self.old (Publish hash.now number bytes.now result) self.new };
 
-    /// Gives a lock back.
+    /// Releases a lock.
     fn unlock(&mut self, hash: &ServiceHash, number: u64)
         ensures { gives self.old (Unlock hash.now number) self.new };
 

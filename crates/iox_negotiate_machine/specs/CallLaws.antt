@@ -1,4 +1,4 @@
--- What creating and opening a service over a table does is what the machine does in its phase.
+-- Theorems: creating and opening a service over a table does what the machine does in the service's phase.
 use Rattle.std.specs.Prelude.{ℕ, ◌+◌, ◌-◌, ◌^◌, ◌≡◌, ◌<◌, List, drop, length, map, Bool, true, Some, Result, Ok, Err, IfOk}
 use Rattle.std.specs.List.{AllByRecursion, IsAmong}
 use Rattle.std.specs.Result.{result_map_both}
@@ -32,23 +32,23 @@ use Rattle.iox_negotiate_table.specs.NegotiateBase.Opening as rounds
 use Rattle.iox_negotiate_table.specs.Stepped.{Steps, SteppedSight, next_list}
 use Rattle.iox_negotiate_table.specs.declared.step.ForeignStep.{ForeignStep as TableStep}
 
--- Before each of the first sixteen accesses come the steps that are named before it, as a table does them; no call makes more accesses.
+-- Before each of the first sixteen accesses come the actions that are named before it, in the table's form; no call makes more accesses.
 abbrev pub AreListed : MessageTypeDetails → List ℕ → List StepBefore → List (List TableStep) → Type 0
 AreListed types name steps lists =
     (made : ℕ) → made < 16 → next_list (drop made lists) ≡ map (table_step_of types name) (steps_at steps (made + 1))
 
--- What is published before each of the first sixteen accesses has the form of a description. So it has where the code makes it of the
--- options that are named.
+-- What is published before each of the first sixteen accesses has the form of a description. Whatever the code makes of the named options
+-- has it.
 abbrev pub HaveStepForms : MessageTypeDetails → List ℕ → List StepBefore → Type 0
 HaveStepForms types name steps = (made : ℕ) → made < 16 → AllByRecursion (HasStepForm types name) (steps_at steps (made + 1))
 
--- whether a service that was opened or created is new, or why it wasn't
+-- Whether a service that was opened or created is new, or why the call failed.
 abbrev pub newness_of : {F : Type 0} → Result Opened F → Result Bool F
 newness_of (Ok opened) = Ok opened.is_new
 newness_of (Err failure) = Err failure
 
--- A service that a node opened is that of a phase: the node is in it, it is published under the number that was taken last, and is what is
--- agreed on there.
+-- The service that a node opened is that of the phase: the node is in it, it is published under the number that was taken last, and its
+-- description is that of the phase's agreement.
 abbrev pub IsServiceIn : ℕ → MessagingPattern → List ℕ → Phase → List ℕ → Opened → Type 0
 IsServiceIn node pattern name (Published life agreed nodes) taken opened =
     (is_in (Own node) nodes ≡ true) × IsLast (λ number. opened.number ≡ number) taken
@@ -60,8 +60,8 @@ abbrev pub HasFewFactories : ℕ → Phase → Type 0
 HasFewFactories node (Published life agreed nodes) = AllByRecursion (λ count. count < 2 ^ 64 - 1) (counts_of (Own node) nodes)
 HasFewFactories node other = Unit {0}
 
--- What a call of a node came to is a call of the machine: it has the answer that the builder tells in its own words, a service that was
--- opened is that of the phase then, and the table stands for the machine with this phase.
+-- The result of a node's call is one of a call of the machine: the builder reports the machine's answer by `error`, a service that was
+-- opened is that of the phase afterwards, and the table represents the machine with this phase.
 pub record CallMatches {T F E : Type 0} (names : List (List ℕ)) (pattern : MessagingPattern) (name : List ℕ)
     (taken : MessagingPattern → List ℕ → List ℕ) (storage node : ℕ) (error : F → E) (state : State T)
     (Calls : Call → Answer F → Call → Type 0) (result : Result Membership E) (end : Contents) : Type 0 where
@@ -75,8 +75,8 @@ pub record CallMatches {T F E : Type 0} (names : List (List ℕ)) (pattern : Mes
   pub stands : TableStands names later end (with_phase pattern name after.phase state)
 
 module _ (T E : Type 0) where
-  -- What a builder does that creates a service over a table, as options ask and with these attributes, is what the machine does, each
-  -- refusal in its turn, with the steps of nodes outside the hub between its accesses. There are numbers left for as many locks.
+  -- A builder that creates a service over a table, as options ask and with these attributes, does what the machine does, each refusal in
+  -- its turn, with the actions of other nodes between its accesses. There are numbers left for as many locks.
   abbrev pub CreateMatches : Type 0
   CreateMatches = (names : List (List ℕ)) (types : MessageTypeDetails) (name : List ℕ) (node storage : ℕ)
       (named : ServiceOptions) (attributes : List Attribute) (steps : List StepBefore) (lists : List (List TableStep))
@@ -94,10 +94,9 @@ module _ (T E : Type 0) where
       result end.table
 
 module _ (T V E : Type 0) where
-  -- What a builder does that opens a service over a table, if it meets what is asked, is what the machine does: at most five rounds, each
-  -- of them a look and what it leads to, with the steps of nodes outside the hub between its accesses. What is asked of a description is
-  -- asked of the agreement that it describes. There are numbers left for as many locks as those nodes may take, and the node may get one
-  -- factory more.
+  -- A builder that opens a service over a table, if the service meets what is asked, does what the machine does: at most five rounds, each
+  -- of them a look and what follows from it, with the actions of other nodes between its accesses. The description is judged as the
+  -- agreement that it describes. There are numbers left for as many locks as those nodes may take, and the node may get one factory more.
   abbrev pub OpenMatches : Type 0
   OpenMatches = (names : List (List ℕ)) (types : MessageTypeDetails) (pattern : MessagingPattern) (name : List ℕ) (node storage : ℕ)
       (judge : Description → Result (Unit {0}) V) (verdict : Agreement → Result (Unit {0}) V) (steps : List StepBefore)
@@ -115,8 +114,8 @@ module _ (T V E : Type 0) where
       unopened.ServiceInCorruptedState 5)
       result end.table
 
-  -- So it is of a builder that opens a service, or creates it as options ask and with these attributes where none stands. There is a number
-  -- left for its own lock, too.
+  -- The same holds for a builder that opens a service, or creates it as options ask and with these attributes if it doesn't exist. There is
+  -- a number left for its own lock, too.
   abbrev pub OpenOrCreateMatches : Type 0
   OpenOrCreateMatches = (names : List (List ℕ)) (types : MessageTypeDetails) (name : List ℕ) (node storage : ℕ)
       (judge : Description → Result (Unit {0}) V) (verdict : Agreement → Result (Unit {0}) V) (named : ServiceOptions)

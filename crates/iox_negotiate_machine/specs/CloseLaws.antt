@@ -1,4 +1,4 @@
--- What closing a factory over a table does is what the machine does in its phase.
+-- A theorem: closing a factory over a table does what the machine does in the service's phase.
 use Rattle.std.specs.Prelude.{ℕ, ◌≡◌, true, List, Result, Ok}
 use Rattle.std.specs.List.{IsAmong}
 use Rattle.iox_command.specs.NegotiateBase.DescribeBase.Hash.{service_hash_of}
@@ -15,8 +15,8 @@ use Rattle.iox_negotiate_table.specs.NegotiateBase.Runs.{Does}
 use Rattle.iox_negotiate_table.specs.Sights.{Sight}
 
 module _ (T : Type 0) where
-  -- A factory of a node that is in a published service is closed over a table: that goes well, and the phase is what the machine says. The
-  -- last factory of the last node takes description and segment away; else the node has one factory less, and is out with its last.
+  -- A factory of a node that is in a published service is closed over a table. The close succeeds, and the phase is what the machine says:
+  -- the last factory of the last node removes description and segment; otherwise the node has one factory fewer, and leaves with its last.
   abbrev pub CloseMatches : Type 0
   CloseMatches = (names : List (List ℕ)) (pattern : MessagingPattern) (name : List ℕ) (node number life : ℕ) (agreed : Agreement)
       (nodes : List (Node × ℕ)) (taken : MessagingPattern → List ℕ → List ℕ) (old new : Contents) (result : Result (Unit {0}) CloseError)

@@ -1,4 +1,4 @@
--- What the open factories of a table are in the phases of the machine.
+-- Theorems: what the open factories of a table are in the phases of the machine.
 use Rattle.std.specs.Prelude.{ℕ, ◌-◌, ◌^◌, ◌≡◌, ◌<◌, true, List, length}
 use Rattle.std.specs.List.{IsAmong}
 use Rattle.iox_command.specs.NegotiateBase.Describe.Line.{Spells}
@@ -15,8 +15,8 @@ use Rattle.iox_negotiate_table.specs.Contents.{Contents}
 use Rattle.iox_negotiate_table.specs.Laws.{IsOpenIn}
 
 module _ (T : Type 0) where
-  -- What is open for a node in a table is a service that is published in the machine: the node is in it, its number is the one that was
-  -- taken last, and what lies there spells what is agreed on.
+  -- A service that is open for a node in a table is published in the machine: the node is in it, its number is the one that was taken last,
+  -- and its description is that of the agreement.
   abbrev pub OpenIsPublished : Type 0
   OpenIsPublished = (names : List (List ℕ)) (pattern : MessagingPattern) (name : List ℕ) (node number : ℕ) (bytes : List ℕ)
       (taken : MessagingPattern → List ℕ → List ℕ) (table : Contents) (state : State T)
@@ -25,7 +25,8 @@ module _ (T : Type 0) where
       × (is_in (Own node) nodes ≡ true) × IsLast (λ last. last ≡ number) (taken pattern name)
       × Spells bytes (description_of pattern name agreed)
 
-  -- Where the table counts just these open factories, and they are fewer than 2 ^ 64 - 1, each node may get one more of any service.
+  -- If the table counts exactly these open factories, and they are fewer than 2 ^ 64 - 1, each node may get one factory more of any
+  -- service.
   abbrev pub FewAreOpen : Type 0
   FewAreOpen = (names : List (List ℕ)) (pattern : MessagingPattern) (name : List ℕ) (node : ℕ) (held : List Factory)
       (taken : MessagingPattern → List ℕ → List ℕ) (table : Contents) (state : State T)

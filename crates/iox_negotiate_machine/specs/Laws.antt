@@ -1,4 +1,4 @@
--- What a table of services does is what the machine does in its phases.
+-- Theorems: a table of services does what the machine does in its phases.
 use Rattle.std.specs.Prelude.{ℕ, ◌+◌, ◌^◌, ◌≡◌, ◌<◌, List, [], ◌++◌, length, map, take, fold, Result, Ok, Err, MatchResult}
 use Rattle.std.specs.List.{AllByRecursion, IsAmong}
 use Rattle.std.specs.declared.alloc.AllocError.{AllocError}
@@ -27,21 +27,21 @@ use Rattle.iox_negotiate_table.specs.Stepped.{ActsAll}
 use Rattle.iox_negotiate_table.specs.declared.step.ForeignStep.{ForeignStep as TableStep}
 use Rattle.iox_negotiate_table.specs.declared.step.ForeignStep.TheVariants as table_step
 
--- No two services of these names have one hash, of whatever patterns they are.
+-- No two services with these names have the same hash, whatever their patterns are.
 abbrev pub HaveOwnHashes : List (List ℕ) → Type 0
 HaveOwnHashes names = (one other : MessagingPattern) (name another : List ℕ) → IsAmong names name → IsAmong names another
     → service_hash_of one name ≡ service_hash_of other another → (one ≡ other) × (name ≡ another)
 
--- Numbers were taken after those before: these stay as they were.
+-- Numbers were taken after those before, which stay as they were.
 abbrev pub GoOn : (MessagingPattern → List ℕ → List ℕ) → (MessagingPattern → List ℕ → List ℕ) → Type 0
 GoOn taken later = (pattern : MessagingPattern) (name : List ℕ) → (more : List ℕ) × (later pattern name ≡ more ++ taken pattern name)
 
 module _ (types : MessageTypeDetails) (name : List ℕ) where
-  -- what is agreed on where a node outside the hub publishes a service with these options
+  -- The agreement if another node publishes a service with these options.
   abbrev pub published_with : ServiceOptions → Agreement
   published_with options = record { settings = settings_of types options; attributes = [] }
 
-  -- the step of a table that a named one is
+  -- The action on a table that is the named action.
   abbrev pub table_step_of : ForeignStep → TableStep
   table_step_of (step.Lock node) = table_step.Lock node
   table_step_of (step.GiveUp node) = table_step.GiveUp node
@@ -52,25 +52,26 @@ module _ (types : MessageTypeDetails) (name : List ℕ) where
   table_step_of (step.Leave node) = table_step.Leave node
   table_step_of (step.Remove node) = table_step.Remove node
 
-  -- What a step publishes has the form of a description. So it has of any name, types and numbers of the code (`parts_have_form`).
+  -- What the action publishes has the form of a description. Any name, types and numbers of the code give one with that form
+  -- (`parts_have_form`).
   abbrev pub HasStepForm : ForeignStep → Type 0
   HasStepForm (step.Publish node options) = HasForm (description_of (pattern_of options) name (published_with options))
   HasStepForm (step.PublishV1 node options) = HasForm (description_of (pattern_of options) name (published_with options))
   HasStepForm other = Unit {0}
 
--- what is replied to steps that were done, or of which one found no memory
+-- The reply to actions of other nodes: they were done, or one ran out of memory.
 abbrev pub steps_reply : {T : Type 0} → Result (Unit {0}) AllocError → Reply T
 steps_reply (Ok done) = reply.Done
 steps_reply (Err lacking) = reply.Refused (refusal.Hub OutOfMemory)
 
 module _ (T : Type 0) where
-  -- A new table stands for the phases of a new machine.
+  -- A new table represents the phases of a new machine.
   abbrev pub NewTableStands : Type 0
   NewTableStands = (names : List (List ℕ)) (id : ℕ)
       → TableStands {T = T} names (λ pattern name. []) (empty_table id) new_state
 
-  -- Steps of nodes outside the hub on a table do to the phase of their pattern and name what the machine says, one after the other; where
-  -- one finds no memory those before it stand. All other phases stay. There are numbers left for as many locks.
+  -- Actions of other nodes on a table do to the phase of their pattern and name what the machine says, one after the other; if one runs out
+  -- of memory, those before it stay done. All other phases stay. There are numbers left for as many locks.
   abbrev pub ForeignStepsMatch : Type 0
   ForeignStepsMatch = (names : List (List ℕ)) (types : MessageTypeDetails) (pattern : MessagingPattern) (name : List ℕ)
       (steps : List ForeignStep) (taken : MessagingPattern → List ℕ → List ℕ) (old new : Contents) (result : Result (Unit {0}) AllocError)
@@ -85,7 +86,8 @@ module _ (T : Type 0) where
       (λ lacking. (done : ℕ) × (done < length steps) × TableStands names later new
       (with_phase pattern name (fold (acted types pattern) (state.phases pattern name) (take done steps)) state))
 
-  -- So the command that has them do these steps is answered as the machine may answer it, and the table stands for its state then.
+  -- The command by which other nodes do these actions has a reply that the machine may give, and the table represents the machine's state
+  -- afterwards.
   abbrev pub ForeignMatches : Choices T → Type 0
   ForeignMatches choices = (names : List (List ℕ)) (types : MessageTypeDetails) (buffer : ℕ) (pattern : MessagingPattern)
       (name : List ℕ) (steps : List ForeignStep) (taken : MessagingPattern → List ℕ → List ℕ) (old new : Contents)

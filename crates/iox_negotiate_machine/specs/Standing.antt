@@ -1,4 +1,4 @@
--- Which phases of the machine those in a table of services are.
+-- Which phases of the machine a table of services represents.
 use Rattle.std.specs.Prelude.{ℕ, ◌≡◌, ◌<◌, ◌≤◌, false, List, [], ◌∷◌, ◌++◌, length, map, filter, Some, None}
 use Rattle.std.specs.List.{IsAmong}
 use Rattle.iox_command.specs.NegotiateBase.Describe.Line.{line}
@@ -20,16 +20,16 @@ use Rattle.iox_negotiate_table.specs.declared.node.Node.{Node as TableNode}
 use Rattle.iox_negotiate_table.specs.declared.node.Node.TheVariants as table_node
 use Rattle.iox_negotiate_table.specs.declared.segment.Segment.TheVariants as segment
 
--- the node of a table that one of the machine is
+-- The node of a table that is this node of the machine.
 abbrev pub table_node_of : Node → TableNode
 table_node_of (Own number) = table_node.Own number
 table_node_of (Foreign number) = table_node.Foreign number
 
--- the nodes that are in, as the machine has them: an own one with as many factories as are counted, one outside the hub with one
+-- The nodes in a segment as the machine has them: an own node with as many factories as are counted, another node with one.
 abbrev pub seats_of : Nodes → List (Node × ℕ)
 seats_of seated = map (λ (entry : ℕ × ℕ). (Own entry.0, entry.1)) seated.own ++ map (λ (number : ℕ). (Foreign number, 1)) seated.foreign
 
--- with how many factories each entry of a list has a node
+-- The number of factories in each entry that the list has for this node.
 abbrev pub counts_of : Node → List (Node × ℕ) → List ℕ
 counts_of node nodes = map (λ (entry : Node × ℕ). entry.1) (filter (λ (entry : Node × ℕ). same_node entry.0 node) nodes)
 
@@ -44,18 +44,18 @@ abbrev pub AreFalling : ℕ → List ℕ → Type 0
 AreFalling next [] = Unit {0}
 AreFalling next (number ∷ before) = (number < next) × AreFalling number before
 
--- some number was taken, and the last one is so
+-- Some number was taken, and `So` holds of the last one.
 abbrev pub IsLast : (ℕ → Type 0) → List ℕ → Type 0
 IsLast So [] = ⊥
 IsLast So (number ∷ before) = So number
 
 module _ (pattern : MessagingPattern) (name : List ℕ) where
-  -- what nodes agree on, as the description of the service of this pattern and name
+  -- The agreement as the description of the service of this pattern and name.
   abbrev pub description_of : Agreement → Description
   description_of agreed = agreement name (service_hash_of pattern name) agreed.settings agreed.attributes
 
   module _ (table : Contents) where
-    -- What nodes agree on is published under a number: its line lies under the hash, of a version that has all of it; it is within the
+    -- The agreement is published under a number: its line lies under the hash, in a version that can express all of it; it is within the
     -- limits, and has the pattern.
     pub record IsDescribed (agreed : Agreement) (number : ℕ) : Type 0 where
       pub version : Version
@@ -64,15 +64,15 @@ module _ (pattern : MessagingPattern) (name : List ℕ) where
       pub kind : pattern_of agreed.settings ≡ pattern
       pub within : IsWithinLimits (description_of agreed)
 
-    -- The segment of a number is open, and has room for as many nodes as are agreed on; these are in it.
+    -- The segment of a number is open, and has capacity for as many nodes as the agreement says; these nodes are in it.
     pub record IsOpenTo (agreed : Agreement) (nodes : List (Node × ℕ)) (number : ℕ) : Type 0 where
       pub seated : Nodes
       pub stands : segment_at (service_hash_of pattern name) number table ≡ Some (segment.Open seated)
       pub nodes_stand : NodesStand seated nodes
       pub room : seated.max_nodes ≡ max_nodes_of agreed.settings
 
-    -- What lies under the hash, where these numbers were taken: nothing; a lock of the last number; or the description of the last
-    -- number, with its segment open, or emptied by the node that left last.
+    -- What lies under the hash after these numbers were taken: nothing; a lock of the last number; or the description of the last number,
+    -- with its segment open, or emptied by the node that left last.
     abbrev pub Lies : Phase → List ℕ → Type 0
     Lies (Absent lives) taken = entry_at (service_hash_of pattern name) table ≡ None
     Lies (BeingMade life by) taken =
@@ -82,7 +82,7 @@ module _ (pattern : MessagingPattern) (name : List ℕ) where
         IsLast (λ number. IsDescribed agreed number
         × (segment_at (service_hash_of pattern name) number table ≡ Some (segment.Emptied (table_node_of by)))) taken
 
-    -- The table has this phase under the hash of this pattern and name, after these numbers were taken there: one a life. Only what is
+    -- The table represents this phase of the pattern and name, after these numbers were taken there, one for each lifetime. Only what is
     -- described there has a segment.
     pub record PhaseStands (taken : List ℕ) (phase : Phase) : Type 0 where
       pub lives : life_of phase ≡ length taken
@@ -91,8 +91,8 @@ module _ (pattern : MessagingPattern) (name : List ℕ) where
       pub segments : (number : ℕ) → is_published (service_hash_of pattern name) number table ≡ false
           → segment_at (service_hash_of pattern name) number table ≡ None
 
--- The table of services stands for the phases of a state, for these names, in each pattern; these numbers were taken for
--- each. It is a table that can be reached.
+-- The table of services represents the phases of a state, for these names, in each pattern, after these numbers were taken for each. It is
+-- a table that can be reached.
 pub record TableStands {T : Type 0} (names : List (List ℕ)) (taken : MessagingPattern → List ℕ → List ℕ) (table : Contents)
     (state : State T) : Type 0 where
   pub reached : IsReached table

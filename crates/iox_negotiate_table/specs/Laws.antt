@@ -1,4 +1,4 @@
--- What holds of every table, said in other words than its accesses one by one.
+-- Theorems about every table.
 use Rattle.std.specs.Prelude.{ℕ, ◌≡◌, ◌≤◌, List, Some, IsSome, Result}
 use Rattle.std.specs.declared.alloc.AllocError.{AllocError}
 use Rattle.iox_negotiate_base.specs.DescribeBase.declared.hash.ServiceHash.{ServiceHash}
@@ -15,8 +15,8 @@ use Rattle.iox_negotiate_table.specs.Foreign.{Acts}
 use Rattle.iox_negotiate_table.specs.Stepped.{ActsAll}
 use Rattle.iox_negotiate_table.specs.Sights.{Sight}
 
--- The service of this number is open for an own node: these bytes are published under its hash, its segment stands, the
--- node is in, and no more nodes are in than there is room for.
+-- The service with this number is open for an own node: these bytes are published under its hash, its segment exists, the node is
+-- registered, and no more nodes are registered than the maximum.
 pub record IsOpenIn (hash : ServiceHash) (number node : ℕ) (bytes : List ℕ) (table : Contents) : Type 0 where
   pub nodes : Nodes
   pub published : entry_at hash table ≡ Some (Described number bytes)
@@ -24,29 +24,29 @@ pub record IsOpenIn (hash : ServiceHash) (number node : ℕ) (bytes : List ℕ) 
   pub is_in : IsSome (factories_of nodes node)
   pub few : count_in nodes ≤ nodes.max_nodes
 
--- a service that is open for an own node stays so, whatever one foreign node does
+-- A service that is open for an own node stays open for it, whatever step one foreign node makes.
 abbrev pub StaysOpen : Type 0
 StaysOpen = (hash : ServiceHash) (number node : ℕ) (bytes : List ℕ) (step : ForeignStep) (old new : Contents)
     (result : Result (Unit {0}) AllocError)
     → IsOpenIn hash number node bytes old → Acts hash step old result new → IsOpenIn hash number node bytes new
 
--- and whatever list of foreign steps is done
+-- A service that is open for an own node stays open for it, whatever steps foreign nodes make.
 abbrev pub StaysOpenThrough : Type 0
 StaysOpenThrough = (hash : ServiceHash) (number node : ℕ) (bytes : List ℕ) (steps : List ForeignStep) (old new : Contents)
     (result : Result (Unit {0}) AllocError)
     → IsOpenIn hash number node bytes old → ActsAll hash steps old result new → IsOpenIn hash number node bytes new
 
--- no more nodes are in the segment than there is room for
+-- No more nodes are registered in the segment than the maximum.
 abbrev pub HasFew : ServiceHash → ℕ → Contents → Type 0
 HasFew hash number table = (nodes : Nodes) → segment_at hash number table ≡ Some (Open nodes) → count_in nodes ≤ nodes.max_nodes
 
--- What is opened under a number is the service of just this number that stands, and after it the service is open.
+-- What an own node opens under a number is exactly the existing service with this number, and afterwards the service is open for the node.
 abbrev pub OpenedIsOpen : Type 0
 OpenedIsOpen = (hash : ServiceHash) (number node : ℕ) (old new : Contents) → HasFew hash number old
     → Sight old (OpenSegment hash number node Registered) new
     → (bytes : List ℕ) × (entry_at hash old ≡ Some (Described number bytes)) × IsOpenIn hash number node bytes new
 
--- what an own node makes and publishes is open for it
+-- A service that an own node makes and publishes is open for it.
 abbrev pub CreatedIsOpen : Type 0
 CreatedIsOpen = (hash : ServiceHash) (number node max_nodes : ℕ) (bytes : List ℕ) (old mid new : Contents)
     → Sight old (MakeSegment hash number node max_nodes Made) mid → Sight mid (Publish hash number bytes Published) new

@@ -20,8 +20,8 @@ use iox_negotiate_base::{LockAnswer, StoredDescription};
 use std::alloc::AllocError;
 
 impl Table {
-    /// Does the step of a foreign node under a hash. Where it doesn't fit, nothing changes; where an allocation fails,
-    /// nothing changes and the error says so.
+    /// Makes a foreign node's step under a hash. If the step isn't possible, nothing changes. If an allocation fails, nothing changes, and
+    /// the call returns the error.
     pub fn act(&mut self, hash: &ServiceHash, step: &ForeignStep) -> Result<(), AllocError>
         ensures { Acts hash.now step.now self.old result self.new }
     {
@@ -59,7 +59,7 @@ impl Table {
         }
     }
 
-    // The number of the lock that this foreign node has.
+    // The number of the lock that this foreign node has, if it has one.
     fn foreign_lock(&self, hash: &ServiceHash, node: u64) -> Option<u64>
         ensures value { result ≡ foreign_lock node (entry_at hash.now self.now) }
         ensures stands { OnSome result (IsSome (entry_at hash.now self.now)) }
@@ -103,7 +103,7 @@ impl Table {
         self.publish_at(version, hash, number, node, description)
     }
 
-    // Puts description and segment of the foreign node's service in the place of its lock.
+    // Replaces the lock of the foreign node by its service's description, and adds the segment.
     fn publish_at(
         &mut self,
         version: Version,
@@ -124,7 +124,7 @@ impl Table {
         Ok(())
     }
 
-    // The number of the service whose description stands.
+    // The number of the service whose description exists, if one does.
     fn published_number(&self, hash: &ServiceHash) -> Option<u64>
         ensures { result ≡ published_number (entry_at hash.now self.now) }
     {
@@ -193,8 +193,8 @@ impl Table {
     }
 }
 
-// Whether the description is within the limits, and of the service that lies under this hash: a description that was read may
-// state the hash of another service than its own.
+// Whether the description is within the limits, and is of the service with this hash. A description that was read may state the hash of a
+// service other than its own.
 fn is_for(version: Version, hash: &ServiceHash, description: &Description) -> bool
     ensures { IsTrue result ↔ IsFor version hash.now description.now }
 {

@@ -1,15 +1,15 @@
-//! The table of services: descriptions and locks under hashes, and the nodes in each service.
+//! The table of services: descriptions and locks under hashes, and the nodes of each service.
 //!
-//! | Module | What it has, from the ground up |
+//! | Module | What it has (lower modules first) |
 //! |---|---|
-//! | `node` | who acts |
-//! | `registry` | the nodes in a service |
-//! | `segment` | a registry, until its last node left |
-//! | `entry` | what lies under a hash |
+//! | `node` | own and foreign nodes |
+//! | `registry` | the nodes of a service |
+//! | `segment` | a registry, until its last node leaves |
+//! | `entry` | the entry under a hash |
 //! | `table` | the table, and its own calls |
 //! | `storage` | the table as a storage |
 //!
-//! First calls. `Hub` of `iox_hub_base` keeps one.
+//! First calls. The `Hub` of `iox_hub_base` contains such a table.
 //!
 //! ```
 //! let mut table = Table::new(alloc, id);

@@ -1,10 +1,10 @@
-//! Who acts on a table.
+//! Own and foreign nodes.
 
-/// A node. A node of others is never one of the table's own, whatever their numbers.
+/// A node. A foreign node is never the same as an own node, even if they have the same id.
 #[derive(Clone, Copy)]
 pub enum Node {
-    /// One that calls the table.
+    /// An own node, which calls the table.
     Own(u64),
-    /// One that acts between these calls.
+    /// A foreign node, which acts between these calls.
     Foreign(u64),
 }

@@ -1,4 +1,4 @@
-//! The nodes in a service.
+//! The nodes of a service.
 ghost use Rattle.std.specs.Prelude.{◌≡◌, ◌+◌, ◌≤◌, ◌<◌, ◌^◌, length, IsSome, IfOk, OnOk, OnErr, nat_eq, nat_lt, []};
 ghost use Rattle.iox_negotiate_table.specs.Nodes.{none_in, first_node, first_foreign, count_in, factories_of, with_node, with_factories};
 ghost use Rattle.iox_negotiate_table.specs.Nodes.{without_foreign, has_foreign, left, Enters, Registers};
@@ -8,7 +8,7 @@ use std::alloc::{AllocError, Global};
 use std::collections::{BTreeMap, BTreeSet};
 use std::marker::Model;
 
-/// The nodes that are in a service: each of the table's own with the number of its factories.
+/// The nodes of a service: each own node with the number of its factories, the foreign nodes, and the maximum number of nodes.
 #[derive(Drop)]
 pub struct Registry {
     own: BTreeMap<u64, u64>,
@@ -25,7 +25,7 @@ impl Model for Registry {
 }
 
 impl Registry {
-    /// A registry with room for so many nodes, and none in it. It takes no memory.
+    /// A registry for at most `max_nodes` nodes, without any node. It doesn't allocate.
     pub fn new(alloc: Global, max_nodes: u64) -> Self
         ensures { result ≡ none_in max_nodes }
     {
@@ -36,7 +36,7 @@ impl Registry {
         }
     }
 
-    /// A registry with room for so many nodes, and one own node in it, with one factory.
+    /// A registry for at most `max_nodes` nodes, with one own node that has one factory. It fails only where an allocation fails.
     pub fn of_node(alloc: Global, node: u64, max_nodes: u64) -> Result<Self, AllocError>
         ensures { IfOk result (λ registry. registry ≡ first_node node max_nodes) }
     {
@@ -45,7 +45,7 @@ impl Registry {
         Ok(registry)
     }
 
-    /// A registry with room for so many nodes, and one foreign node in it.
+    /// A registry for at most `max_nodes` nodes, with one foreign node. It fails only where an allocation fails.
     pub fn of_foreign(alloc: Global, node: u64, max_nodes: u64) -> Result<Self, AllocError>
         ensures { IfOk result (λ registry. registry ≡ first_foreign node max_nodes) }
     {
@@ -54,35 +54,35 @@ impl Registry {
         Ok(registry)
     }
 
-    /// How many nodes are in.
+    /// How many nodes are registered.
     pub fn len(&self) -> u64
         ensures { result ≡ count_in self.now }
     {
         self.own.len() as u64 + self.foreign.len() as u64
     }
 
-    /// Whether no node is in.
+    /// Whether no node is registered.
     pub fn is_empty(&self) -> bool
         ensures { result ≡ nat_eq (count_in self.now) 0 }
     {
         self.len() == 0
     }
 
-    /// Whether one more node fits.
+    /// Whether fewer nodes are registered than the maximum.
     pub fn has_room(&self) -> bool
         ensures { result ≡ nat_lt (count_in self.now) self.now.max_nodes }
     {
         self.len() < self.max_nodes
     }
 
-    /// How many factories an own node has; `None` where it is not in.
+    /// How many factories an own node has; `None` if it isn't registered.
     pub fn factories_of(&self, node: u64) -> Option<u64>
         ensures { result ≡ factories_of self.now node }
     {
         self.own.get(&node).copied()
     }
 
-    /// Lets an own node in, with one factory.
+    /// Registers an own node, with one factory. It fails only where an allocation fails.
     pub fn add(&mut self, node: u64) -> Result<(), AllocError>
         ensures ok { OnOk result (self.new ≡ with_node node self.old) }
         ensures err { OnErr result (self.new ≡ self.old) }
@@ -91,7 +91,7 @@ impl Registry {
         Ok(())
     }
 
-    /// Sets how many factories an own node has that is in.
+    /// Changes the number of factories of an own node that is registered.
     pub fn set_factories(&mut self, node: u64, count: u64)
         requires { IsSome (factories_of self.old node) }
         ensures { self.new ≡ with_factories node count self.old }
@@ -102,7 +102,7 @@ impl Registry {
         *factories = count;
     }
 
-    /// Takes one factory of an own node off; its last one takes the node out. A node that is not in stays out.
+    /// Takes one factory off an own node; with its last factory the node is removed. A node that isn't registered changes nothing.
     pub fn leave(&mut self, node: u64)
         ensures { self.new ≡ left node self.old }
     {
@@ -118,8 +118,8 @@ impl Registry {
 
     /// Opens the service once more for an own node.
     ///
-    /// A node that is in gets one factory more; `Fault` where its count stands at 2^64 - 1. Another is let in with its
-    /// first factory; `Full` where there is no room, and `OutOfMemory` where an allocation fails.
+    /// A registered node gets one more factory, or `Fault` if it has 2^64 - 1. Any other node is registered with its first factory, or gets
+    /// `Full` if the maximum number of nodes is registered, and `OutOfMemory` if an allocation fails.
     pub fn enter(&mut self, node: u64) -> OpenSegmentAnswer
         ensures { Enters node self.old result self.new }
     {
@@ -139,14 +139,15 @@ impl Registry {
         }
     }
 
-    /// Whether this foreign node is in.
+    /// Whether this foreign node is registered.
     pub fn has_foreign(&self, node: u64) -> bool
         ensures { result ≡ has_foreign node self.now }
     {
         self.foreign.contains(&node)
     }
 
-    /// Lets a foreign node in, if it is not in and there is room.
+    /// Registers a foreign node, unless it is registered already or the maximum number of nodes is. It fails only where an allocation
+    /// fails.
     pub fn register(&mut self, node: u64) -> Result<(), AllocError>
         ensures { Registers node self.old result self.new }
     {
@@ -157,7 +158,7 @@ impl Registry {
         Ok(())
     }
 
-    /// Takes a foreign node out, if it is in.
+    /// Removes a foreign node, if it is registered.
     pub fn take_out(&mut self, node: u64)
         ensures { self.new ≡ without_foreign node self.old }
     {

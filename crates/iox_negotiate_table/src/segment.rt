@@ -1,16 +1,16 @@
-//! The segment of a service.
+//! The segment of a service, in which its nodes are registered.
 
 use crate::node::Node;
 use crate::registry::Registry;
 use iox_negotiate_base::{LeaveAnswer, OpenSegmentAnswer};
 use std::alloc::AllocError;
 
-/// The segment of a service.
+/// The segment of a service, in which its nodes are registered.
 #[derive(Drop)]
 pub enum Segment {
-    /// These nodes are in.
+    /// These nodes are registered.
     Open(Registry),
-    /// The last node left; no other comes in again.
+    /// The last node, which was this one, left; no node can be registered any more.
     Emptied(Node),
 }
 
@@ -19,7 +19,7 @@ impl Segment {
     ghost use Rattle.iox_negotiate_table.specs.Segments.{Opens, after_leave, leave_answer, RegistersIn, after_foreign_leave, is_emptied};
     ghost use Rattle.iox_negotiate_table.specs.Segments.{is_emptied_by};
 
-    /// Opens the service for an own node; `Marked` where the last node left.
+    /// Opens the service for an own node; `Marked` if the last node left.
     pub fn open(&mut self, node: u64) -> OpenSegmentAnswer
         ensures { Opens node self.old result self.new }
     {
@@ -29,7 +29,7 @@ impl Segment {
         }
     }
 
-    /// Takes one factory of an own node off, and answers whether this was the last of the last node.
+    /// Takes one factory off an own node, and reports whether this was the last factory of the last node.
     pub fn leave(&mut self, node: u64) -> LeaveAnswer
         ensures after { self.new ≡ after_leave node self.old }
         ensures answer { result ≡ leave_answer self.old self.new }
@@ -45,7 +45,8 @@ impl Segment {
         LeaveAnswer::Stays
     }
 
-    /// Lets a foreign node in, if it is not in and there is room.
+    /// Registers a foreign node, unless it is registered already or the maximum number of nodes is. It fails only where an allocation
+    /// fails.
     pub fn register(&mut self, node: u64) -> Result<(), AllocError>
         ensures { RegistersIn node self.old result self.new }
     {
@@ -55,7 +56,7 @@ impl Segment {
         }
     }
 
-    /// Takes a foreign node out, if it is in.
+    /// Removes a foreign node, if it is registered.
     pub fn take_out(&mut self, node: u64)
         ensures { self.new ≡ after_foreign_leave node self.old }
     {

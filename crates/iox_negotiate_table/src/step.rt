@@ -1,24 +1,23 @@
-//! What nodes of others do to a table.
+//! The steps of foreign nodes.
 
 use iox_describe::Description;
 
-/// What a node of others does under a hash. Where it doesn't fit what stands there, nothing changes.
+/// What a foreign node does under a hash. If the step isn't possible, nothing changes.
 #[derive(Drop)]
 pub enum ForeignStep {
-    /// Where nothing lies, the node locks the hash.
+    /// If there is no entry under the hash, the node locks it.
     Lock { node: u64 },
-    /// Where the node has the lock, it gives it back.
+    /// If the node has the lock, it releases the lock.
     GiveUp { node: u64 },
-    /// Where the node has the lock, and the description is of the service under this hash, by its pattern and its name and as it
-    /// states itself, and within the limits, it is published, and the node is in.
+    /// If the node has the lock, and the description is within the limits and is of the service under this hash (by its pattern and its
+    /// name, and as it states itself), the description is published and the node is registered.
     Publish { node: u64, description: Description },
-    /// The same with a line of the first version, which can't say that messages have sequence numbers: it doesn't fit where the
-    /// description says so.
+    /// The same with a line of version 1. It isn't possible if the service numbers its messages, which such a line can't state.
     PublishV1 { node: u64, description: Description },
-    /// Where a service stands, the node is not in and there is room, it comes in.
+    /// If the service exists, and the node isn't registered and may be, it is registered.
     Register { node: u64 },
-    /// Where the node is in, it leaves.
+    /// If the node is registered, it leaves.
     Leave { node: u64 },
-    /// Where the node was the last to leave, it removes description and segment.
+    /// If the node was the last to leave, it removes the description and the segment.
     Remove { node: u64 },
 }

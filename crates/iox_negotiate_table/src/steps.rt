@@ -1,4 +1,4 @@
-//! Foreign steps before each access.
+//! A table with foreign steps before each access.
 ghost use Rattle.std.specs.Prelude.{◌≡◌, drop};
 ghost use Rattle.iox_negotiate_table.specs.Stepped.{ActsAll, next_list};
 
@@ -12,12 +12,12 @@ use iox_negotiate_base::{
 use std::alloc::AllocError;
 use std::marker::Model;
 
-/// Foreign steps that are done one after the other. Contracts see their list.
+/// Foreign steps that are made one after another. Contracts see their list.
 pub struct StepList {
     steps: Vec<ForeignStep>,
 }
 
-/// Said here once, so that no crate above proves it anew.
+/// Stated once here, so that crates above don't have to prove it again.
 impl Drop for StepList {
     fn drop(self) {
         let StepList { steps: _ } = self;
@@ -34,7 +34,7 @@ impl Model for StepList {
 }
 
 impl StepList {
-    /// These steps.
+    /// A list of these steps.
     pub fn new(steps: Vec<ForeignStep>) -> Self
         ensures { result ≡ steps.items }
     {
@@ -49,9 +49,9 @@ impl StepList {
     }
 }
 
-/// A table on which nodes of others act: the first list before the first access that looks, locks, makes, publishes or
-/// opens, the second before the second, and so on. Where a step finds no memory, the access answers `OutOfMemory`; the
-/// steps before it stand.
+/// A table on which foreign nodes act: the first list of steps comes before the first access that looks up, locks, makes, publishes or
+/// opens something, the second list before the second such access, and so on. If memory for a step runs out, the access returns
+/// `OutOfMemory`, and the steps before remain.
 #[derive(Drop)]
 pub struct Stepped {
     table: Table,
@@ -71,7 +71,7 @@ impl Model for Stepped {
 impl Stepped {
     ghost use Rattle.iox_negotiate_table.specs.Stepped.{Steps};
 
-    /// The table, with these lists of steps to do.
+    /// The table, with these lists of steps to be made.
     pub fn new(table: Table, lists: Vec<StepList>) -> Self
         ensures { result ≡ record { table = table; lists = lists.items } }
     {
@@ -82,14 +82,14 @@ impl Stepped {
         }
     }
 
-    /// The table as it is; lists that are left are not done.
+    /// The table as it is now; the steps in the remaining lists are not made.
     pub fn into_table(self) -> Table
         ensures { result ≡ self.table }
     {
         self.table
     }
 
-    // Does the steps of the next list.
+    // Makes the steps of the next list.
     fn run_list(&mut self, hash: &ServiceHash) -> Result<(), AllocError>
         ensures acts { ActsAll hash.now (next_list self.old.lists) self.old.table result self.new.table }
         ensures lists { self.new.lists ≡ drop 1 self.old.lists }
@@ -102,7 +102,7 @@ impl Stepped {
     }
 }
 
-// Does the steps in turn.
+// Makes the steps one after another.
 fn act_all(table: &mut Table, hash: &ServiceHash, steps: &[ForeignStep]) -> Result<(), AllocError>
     ensures { ActsAll hash.now steps.now table.old result table.new }
 {

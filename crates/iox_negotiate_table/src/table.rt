@@ -14,7 +14,7 @@ use std::alloc::{AllocError, Global};
 use std::collections::BTreeMap;
 use std::marker::Model;
 
-/// All services: descriptions and locks under their hash, segments under hash and number.
+/// All services: descriptions and locks under their hashes, and segments under hash and number.
 ///
 /// Ported from the services of `iceoryx2::service`, as one value.
 pub struct Table {
@@ -25,7 +25,7 @@ pub struct Table {
     pub(crate) segments: BTreeMap<([u8; 20], u64), Segment>,
 }
 
-/// Said here once, so that no crate above proves it anew.
+/// Stated once here, so that crates above don't have to prove it again.
 impl Drop for Table {
     fn drop(self) {
         let Table {
@@ -49,7 +49,7 @@ impl Model for Table {
 impl Table {
     ghost use Rattle.iox_negotiate_table.specs.Contents.{empty_table};
 
-    /// A table of this id in which nothing lies. It takes no memory; the first lock has number 1.
+    /// An empty table with this id. It doesn't allocate; the first lock gets the number 1.
     pub fn new(alloc: Global, id: u64) -> Self
         ensures { result ≡ empty_table id }
     {
@@ -75,7 +75,7 @@ impl Table {
         self.has_lock_of(hash, number, node) && !self.has_segment(hash, number) && max_nodes > 0
     }
 
-    // Whether an own node has the lock, and of this number.
+    // Whether an own node has the lock with this number.
     fn has_own_lock(&self, hash: &ServiceHash, number: u64) -> bool
         ensures { result ≡ is_own_lock number (entry_at hash.now self.now) }
     {
@@ -90,7 +90,7 @@ impl Table {
         }
     }
 
-    // Whether this own node has the lock, and of this number.
+    // Whether this own node has the lock with this number.
     fn has_lock_of(&self, hash: &ServiceHash, number: u64, node: u64) -> bool
         ensures { result ≡ is_lock_of node number (entry_at hash.now self.now) }
     {
@@ -105,28 +105,28 @@ impl Table {
         }
     }
 
-    // Whether the segment stands.
+    // Whether the segment exists.
     pub(crate) fn has_segment(&self, hash: &ServiceHash, number: u64) -> bool
         ensures { result ≡ is_some (segment_at hash.now number self.now) }
     {
         self.segments.contains_key(&(hash.digest, number))
     }
 
-    // Whether an own node may publish.
+    // Whether an own node may publish the description.
     pub(crate) fn may_publish(&self, hash: &ServiceHash, number: u64) -> bool
         ensures { result ≡ may_publish hash.now number self.now }
     {
         self.has_own_lock(hash, number) && self.has_segment(hash, number)
     }
 
-    // Whether an own lock may be given back.
+    // Whether the lock of an own node may be released.
     pub(crate) fn may_unlock(&self, hash: &ServiceHash, number: u64) -> bool
         ensures { result ≡ may_unlock hash.now number self.now }
     {
         self.has_own_lock(hash, number) && !self.has_segment(hash, number)
     }
 
-    // Whether the description of this service stands.
+    // Whether the description of this service exists.
     pub(crate) fn is_published(&self, hash: &ServiceHash, number: u64) -> bool
         ensures { result ≡ is_published hash.now number self.now }
     {
@@ -136,7 +136,7 @@ impl Table {
         }
     }
 
-    // Whether the segment stands and its last node left.
+    // Whether the segment exists and its last node left.
     pub(crate) fn is_left(&self, hash: &ServiceHash, number: u64) -> bool
         ensures { result ≡ is_left (segment_at hash.now number self.now) }
     {
@@ -157,7 +157,7 @@ impl Table {
         }
     }
 
-    // Locks a hash under which nothing lies.
+    // Locks a hash that has no entry.
     fn lock_free(&mut self, hash: &ServiceHash, node: Node) -> LockAnswer
         ensures { LocksFree (nat_eq self.old.next (2 ^ 64 - 1)) hash.now node self.old result self.new }
     {
@@ -191,7 +191,7 @@ impl Table {
         Ok(())
     }
 
-    // Puts the description in the place of the lock.
+    // Replaces the lock by the description.
     pub(crate) fn set_description(
         &mut self,
         hash: &ServiceHash,
@@ -207,7 +207,7 @@ impl Table {
         *entry = Entry::Described { number, bytes };
     }
 
-    // Opens the segment of a service whose description stands.
+    // Opens the segment of a service whose description exists.
     pub(crate) fn open_published(
         &mut self,
         hash: &ServiceHash,
@@ -222,7 +222,7 @@ impl Table {
         segment.open(node)
     }
 
-    // Takes a factory off the segment of a service whose description stands.
+    // Takes a factory off the segment of a service whose description exists.
     pub(crate) fn leave_published(
         &mut self,
         hash: &ServiceHash,

@@ -1,4 +1,4 @@
--- What a shared call answers, from the stage where its run ended.
+-- The result of a shared call, from the stage at which its run ended.
 use Rattle.std.specs.Prelude.{ℕ, Bool, true, false, Option, Some, None}
 use Rattle.iox_queues.specs.QueuesSteps.declared.order.PushAnswer.TheVariants.{Kept, LeftOut, Refused}
 use Rattle.iox_queues_steps.specs.declared.rings.overflowing.push.Push.{Push as OverflowingPush}
@@ -10,7 +10,7 @@ use Rattle.iox_queues_steps.specs.declared.rings.refusing.push.Push.TheVariants 
 use Rattle.iox_queues_steps.specs.declared.rings.refusing.pop.Pop.{Pop as RefusingPop}
 use Rattle.iox_queues_steps.specs.declared.rings.refusing.pop.Pop.TheVariants as refusing_pop
 
--- the push ended with its value kept
+-- Whether the push ended with its value kept.
 abbrev pub is_kept : RefusingPush → Bool
 is_kept refusing_push.Idle = false
 is_kept (refusing_push.Begun limit value) = false
@@ -21,7 +21,7 @@ is_kept (refusing_push.Pushed value Kept) = true
 is_kept (refusing_push.Pushed value (LeftOut oldest)) = false
 is_kept (refusing_push.Pushed value Refused) = false
 
--- what the pop ended with
+-- The number that the pop took, if it took one.
 abbrev pub popped : RefusingPop → Option ℕ
 popped refusing_pop.Idle = None
 popped refusing_pop.Begun = None
@@ -33,7 +33,7 @@ popped refusing_pop.LookBegun = None
 popped (refusing_pop.LookRead read) = None
 popped (refusing_pop.Looked some) = None
 
--- the oldest value, if it left by the push
+-- The oldest value, if the push removed it.
 abbrev pub left_by : OverflowingPush → Option ℕ
 left_by overflowing_push.Idle = None
 left_by (overflowing_push.Begun limit value) = None
@@ -46,7 +46,7 @@ left_by (overflowing_push.Pushed value Kept) = None
 left_by (overflowing_push.Pushed value (LeftOut oldest)) = Some oldest
 left_by (overflowing_push.Pushed value Refused) = None
 
--- what the pop ended with; nothing, where its turns were used up
+-- The number that the pop took, if it took one before its tries were used up.
 abbrev pub taken : OverflowingPop → Option ℕ
 taken overflowing_pop.Idle = None
 taken overflowing_pop.Begun = None

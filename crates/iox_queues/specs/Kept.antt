@@ -1,4 +1,4 @@
--- What every step of a set's machine keeps.
+-- The invariant of each step of a set's machine.
 use Rattle.std.specs.Prelude.{ℕ, ◌≡◌, ◌+◌, ◌<◌, ◌≤◌, ◌^◌, Bool, true, false, List, length, drop}
 use Rattle.std.specs.List.{list_any}
 use Rattle.iox_queues.specs.Machine.{SetState, AreTold, IsBalanced, seat_at, stage_at}
@@ -9,12 +9,11 @@ use Rattle.iox_queues.specs.declared.bits.call.SetCall.{SetCall}
 use Rattle.iox_queues.specs.declared.bits.call.SetCall.TheVariants.{Idle, Add, Adding, Next, Sweep, Taking, Found, Done}
 use Rattle.iox_queues.specs.declared.bits.machine.Event.{Event}
 
--- place i is none of the `left` places from `place` on, going round
+-- Place `i` is none of the `left` places from `place` on, wrapping around.
 abbrev pub IsBehind : ℕ → ℕ → ℕ → ℕ → Type 0
 IsBehind n place left i = (place ≤ i → place + left ≤ i) × (i < place → place + left ≤ i + n)
 
--- a sweep with some places left counted none, found each place behind it at 0 or took it out, and
--- took none out if it looks for one
+-- A scan with `left` places left raised no count, found each place behind it at 0 or reset it, and reset none if it looks for one.
 pub record Sweeps (n : ℕ) (events : List Event) (place : ℕ) (left : ℕ) (capacity : ℕ) (all : Bool) : Type 0 where
   pub whole : capacity ≡ n
   pub there : place < n
@@ -23,7 +22,7 @@ pub record Sweeps (n : ℕ) (events : List Event) (place : ℕ) (left : ℕ) (ca
   pub takes : all ≡ false → TakeNone n events
   pub passed : (i : ℕ) → i < n → IsBehind n place left i → list_any (finds_none n i) events ≡ true
 
--- what a call did by its own steps, where it stands now
+-- What a call did by its own steps up to its stage.
 abbrev pub Knows : ℕ → ℕ → List Event → SetCall → Type 0
 Knows max n events Idle = Unit {0}
 Knows max n events (Add place top) = (top ≡ max) × (place < n) × AddNone n events × TakeNone n events
@@ -37,8 +36,8 @@ Knows max n events (Found place after) =
     × (cleared n place events ≡ 1)
 Knows max n events (Done c answer) = Tells max n c answer events
 
--- the words balance, each call that ended did what it answered, each call in hand knows its steps, each step is recorded and
--- is of one call, and places change by acts alone
+-- The invariant: the counts balance, each finished call did what its result says, each call in progress did what its stage says, each step
+-- is recorded and belongs to one call, and counts change only by acts.
 pub record IsKept (m : SetState) : Type 0 where
   pub balanced : IsBalanced m
   pub told : AreTold m.max (length m.words.cells) m.events m.finished

@@ -19,7 +19,7 @@ use Rattle.iox_queues.specs.declared.bits.machine.Move.{Move}
 use Rattle.iox_queues.specs.declared.bits.machine.Move.TheVariants.{Begin, GoOn}
 use Rattle.iox_queues.specs.declared.bits.state.Seat.{Seat}
 
--- the largest count, the words, where each party stands, the steps made, and the calls that ended
+-- A set with its parties: the largest count, the words, the stage of each party, the steps made, and the finished calls.
 pub record SetState : Type 0 where
   pub max : ℕ
   pub words : RingWords
@@ -27,46 +27,49 @@ pub record SetState : Type 0 where
   pub events : List Event
   pub finished : List Finished
 
--- a party between calls
+-- A party without a call in progress.
 abbrev pub idle_seat : Seat
 idle_seat = record { stage = Idle; first = 0 }
 
+-- The seat of a party; a missing party is idle.
 abbrev pub seat_of : Option Seat → Seat
 seat_of None = idle_seat
 seat_of (Some seat) = seat
 
--- where a party stands; one that is not there is idle
+-- The seat of the party with this number; a party that doesn't exist is idle.
 abbrev pub seat_at : List Seat → ℕ → Seat
 seat_at seats party = seat_of (slice_get seats party)
 
+-- The stage of the party with this number; a party that doesn't exist is idle.
 abbrev pub stage_at : List Seat → ℕ → SetCall
 stage_at seats party = (seat_at seats party).stage
 
--- a call names places below the capacity
+-- Whether a call names only places below the capacity.
 abbrev pub is_within : ℕ → Call → Bool
 is_within capacity (call.Set place) = nat_lt place capacity
 is_within capacity call.ResetNext = true
 is_within capacity call.ResetAll = true
 
--- a begin fits a party that is there and between calls, a go on one inside a call
+-- Whether a step is possible: a begin if the party exists, is idle, and the call's place exists; a next step if the party has a call in
+-- progress.
 abbrev pub fits : SetState → Move → Bool
 fits m (Begin party c) =
     nat_lt party (length m.seats) && (call_is_idle (stage_at m.seats party) && is_within (length m.words.cells) c)
 fits m (GoOn party) = nat_lt party (length m.seats) && not (call_is_idle (stage_at m.seats party))
 
--- the step is the last of its call
+-- Whether the step is the last one of its call.
 abbrev pub ends : SetState → Move → Bool
 ends m (Begin party c) = false
 ends m (GoOn party) = call_is_over (stage_at m.seats party)
 
--- the machine after a begin
+-- The machine after a party begins a call.
 abbrev pub begun : SetState → ℕ → Call → SetState
 begun m party c = record m {
   seats = set m.seats party (record { stage = call_begun m.max (length m.words.cells) c; first = length m.events });
   events = m.events ++ record { party = party; access = Local; answer = 0 } ∷ [];
 }
 
--- the call of a party, if its next step is its last
+-- The finished call of a party, if its next step is the last one.
 abbrev pub call_ended : ℕ → ℕ → ℕ → SetCall → List Finished
 call_ended party first last Idle = []
 call_ended party first last (Add place top) = []
@@ -78,7 +81,7 @@ call_ended party first last (Found place after) = []
 call_ended party first last (Done c answer) =
     record { party = party; call = c; answer = answer; first = first; last = last } ∷ []
 
--- the machine after one access of a party
+-- The machine after a party makes its next access.
 abbrev pub went : SetState → ℕ → SetState
 went m party = record m {
   words = after_access m.words (call_next (stage_at m.seats party));
@@ -94,21 +97,21 @@ went m party = record m {
   finished = m.finished ++ call_ended party (seat_at m.seats party).first (length m.events) (stage_at m.seats party);
 }
 
--- the machine after a step that fits
+-- The machine after a step that is possible.
 abbrev pub happens : SetState → Move → SetState
 happens m (Begin party c) = begun m party c
 happens m (GoOn party) = went m party
 
--- what a step answers, and what it leaves
+-- The outcome of a step, and the machine after it.
 abbrev pub StepsTo : SetState → Move → Stepped → SetState → Type 0
 StepsTo m step r n = StepsBy fits ends happens m step r n
 
--- a list of steps, of which `made` were made; it may stop where a step that fits finds no memory
+-- A list of steps of which `made` were made and the others were skipped; it may stop where memory for a possible step runs out.
 abbrev pub RunsTo : SetState → List Move → ℕ → SetState → Type 0
 RunsTo m steps made n = RunsBy fits happens m steps made n
 
--- for each place: increments are the counts taken out and the count now, and no count passes the
--- largest. In a bit set: it went from clear to set as often as it was cleared, plus one if it is set
+-- For each place, the increments are the counts taken out plus the current count, and no count exceeds the largest. In a bit set, a place
+-- was set as often as it was cleared, plus once if it is set now.
 pub record IsBalanced (m : SetState) : Type 0 where
   pub each : (i : ℕ) → i < length m.words.cells
       → increments (length m.words.cells) i m.events ≡ taken_out (length m.words.cells) i m.events + slice_index m.words.cells i
@@ -116,27 +119,28 @@ pub record IsBalanced (m : SetState) : Type 0 where
   pub bits : m.max ≤ 1 → (i : ℕ) → i < length m.words.cells
       → increments (length m.words.cells) i m.events ≡ cleared (length m.words.cells) i m.events + slice_index m.words.cells i
 
--- the steps of a call that ended are what it answered, and lie among the steps made
+-- The steps of a finished call are what its result says, and lie within the steps made.
 pub record IsToldBy (max n : ℕ) (events : List Event) (f : Finished) : Type 0 where
   pub begun : f.first ≤ f.last
   pub ended : f.last < length events
   pub tells : Tells max n f.call f.answer (own f.party (drop f.first (take f.last events)))
 
+-- Each of these finished calls did what its result says.
 abbrev pub AreTold : ℕ → ℕ → List Event → List Finished → Type 0
 AreTold max n events [] = Unit {0}
 AreTold max n events (f ∷ finished) = IsToldBy max n events f × AreTold max n events finished
 
--- each call that ended did what it answered, so one in hand that has its answer
+-- Each finished call did what its result says, and so did each call in progress that has its result.
 abbrev pub IsTold : SetState → Type 0
 IsTold m = AreTold m.max (length m.words.cells) m.events m.finished
     × ((party : ℕ) (c : Call) (answer : Answer) → stage_at m.seats party ≡ Done c answer
     → Tells m.max (length m.words.cells) c answer (own party (drop (seat_at m.seats party).first m.events)))
 
--- the words of an empty set of so many places
+-- The words of an empty set with this capacity.
 abbrev pub start_words : ℕ → RingWords
 start_words capacity = record { cells = replicate capacity 0; write = 0; read = 0 }
 
--- an empty set
+-- The machine of an empty set, before the first step.
 abbrev pub start : ℕ → ℕ → ℕ → SetState
 start max capacity parties = record {
   max = max;

@@ -1,4 +1,4 @@
--- The steps of calls on a bit set or a counting bit set, by the stage where each stands.
+-- The steps of calls on a bit set or a counting bit set, by the stage of each.
 use Rattle.std.specs.Prelude.{ℕ, ◌-◌, Bool, true, false, if◌then◌else◌, ◌==◌, nat_lt, Some, None}
 use Rattle.iox_queues_steps.specs.Access.{successor}
 use Rattle.iox_queues_steps.specs.declared.access.Word.TheVariants.{Write, Read, Cell}
@@ -10,7 +10,7 @@ use Rattle.iox_queues.specs.declared.bits.call.Call.TheVariants as call
 use Rattle.iox_queues.specs.declared.bits.call.SetCall.{SetCall}
 use Rattle.iox_queues.specs.declared.bits.call.SetCall.TheVariants.{Idle, Add, Adding, Next, Sweep, Taking, Found, Done}
 
--- the access of a call at each stage
+-- The next access of a call.
 abbrev pub call_next : SetCall → Access
 call_next Idle = Local
 call_next (Add place max) = Load (Cell place)
@@ -21,39 +21,39 @@ call_next (Taking place left capacity all count) = Exchange (Cell place) count 0
 call_next (Found place after) = Store Read after
 call_next (Done c answer) = Local
 
--- one more, unless the count is the largest
+-- The stage after a load: an exchange for one more, unless the count is the largest.
 abbrev pub adding_at : ℕ → ℕ → ℕ → SetCall
 adding_at place max count = if nat_lt count max then Adding place max count else Done (call.Set place) (Added false)
 
--- no place is left
+-- The stage after the last place.
 abbrev pub swept_by : Bool → SetCall
 swept_by true = Done call.ResetAll Swept
 swept_by false = Done call.ResetNext (Taken None)
 
--- to the next place, if one is left
+-- The stage at the next place, if one is left.
 abbrev pub going_on_at : ℕ → ℕ → ℕ → Bool → SetCall
 going_on_at place left capacity all =
     if left == 0
     then swept_by all
     else Sweep (if nat_lt place capacity then place else 0) left capacity all
 
--- the first stage of a call
+-- The first stage of a call.
 abbrev pub call_begun : ℕ → ℕ → Call → SetCall
 call_begun max capacity (call.Set place) = Add place max
 call_begun max capacity call.ResetNext = Next capacity
 call_begun max capacity call.ResetAll = going_on_at 0 capacity capacity true
 
--- a place that is 0 is passed over; another is to be taken out
+-- The stage after a place was read: a place with count 0 is skipped, and any other place is to be reset.
 abbrev pub sweeping_at : ℕ → ℕ → ℕ → Bool → ℕ → SetCall
 sweeping_at place left capacity all count =
     if count == 0 then going_on_at (successor place) (left - 1) capacity all else Taking place left capacity all count
 
--- a place was taken out: all the others too, or done
+-- The stage after a place was reset: the scan goes on if all places are to be reset, else the call is done.
 abbrev pub found_at : ℕ → ℕ → ℕ → Bool → SetCall
 found_at place left capacity all =
     if all then going_on_at (successor place) (left - 1) capacity all else Found place (successor place)
 
--- the stage after the answer of that access
+-- The stage of a call after the result of its access.
 abbrev pub call_take : SetCall → ℕ → SetCall
 call_take Idle answer = Idle
 call_take (Add place max) answer = adding_at place max answer
@@ -66,7 +66,7 @@ call_take (Taking place left capacity all count) answer =
 call_take (Found place after) answer = Done call.ResetNext (Taken (Some place))
 call_take (Done c answered) answer = Idle
 
--- an access that touches no cell: none at all, or where the next search begins
+-- Whether the access touches no cell: it touches no word, or it loads the place at which the next search starts.
 abbrev pub is_apart : Access → Bool
 is_apart Local = true
 is_apart (Load Read) = true
@@ -75,6 +75,7 @@ is_apart (Load (Cell place)) = false
 is_apart (Store word value) = false
 is_apart (Exchange word old new) = false
 
+-- Whether no call is in progress.
 abbrev pub call_is_idle : SetCall → Bool
 call_is_idle Idle = true
 call_is_idle (Add place max) = false
@@ -85,7 +86,7 @@ call_is_idle (Taking place left capacity all count) = false
 call_is_idle (Found place after) = false
 call_is_idle (Done c answer) = false
 
--- the next step of this call is its last
+-- Whether the next step of this call is its last one.
 abbrev pub call_is_over : SetCall → Bool
 call_is_over Idle = false
 call_is_over (Add place max) = false

@@ -1,4 +1,4 @@
--- What the answer of a call says of the call's own steps.
+-- What the result of a call says of the call's own steps.
 use Rattle.std.specs.Prelude.{ℕ, ◌≡◌, ◌%◌, ◌<◌, Bool, true, false, if◌then◌else◌, ◌==◌, ◌&&◌, ◌||◌, nat_lt, nat_le, Some, None, List, []}
 use Rattle.std.specs.Prelude.{◌∷◌}
 use Rattle.std.specs.List.{list_any}
@@ -12,12 +12,12 @@ use Rattle.iox_queues.specs.declared.bits.call.Answer.{Answer}
 use Rattle.iox_queues.specs.declared.bits.call.Answer.TheVariants.{Added, Taken, Swept}
 use Rattle.iox_queues.specs.declared.bits.machine.Event.{Event}
 
--- the steps of one party
+-- The steps of one party.
 abbrev pub own : ℕ → List Event → List Event
 own party [] = []
 own party (event ∷ events) = if event.party == party then event ∷ own party events else own party events
 
--- the answer of the access is what place i of n held
+-- Whether the result of the access is what place `i` of `n` held.
 abbrev pub shows : ℕ → ℕ → Access → Bool
 shows n i (Load Write) = false
 shows n i (Load Read) = false
@@ -28,30 +28,30 @@ shows n i (Exchange Read old new) = false
 shows n i (Exchange (Cell place) old new) = place % n == i
 shows n i Local = false
 
--- the step found place i at 0, or took out what was there
+-- Whether the step found place `i` at 0, or took out its count.
 abbrev pub finds_none : ℕ → ℕ → Event → Bool
 finds_none n i event =
     (shows n i event.access && (event.answer == 0)) || nat_lt 0 (taken_by n i event.access event.answer)
 
--- the step found place i at the largest count
+-- Whether the step found place `i` at the largest count.
 abbrev pub finds_full : ℕ → ℕ → ℕ → Event → Bool
 finds_full max n i event = shows n i event.access && nat_le max event.answer
 
--- the steps count no place more
+-- The steps raise no count.
 abbrev pub AddNone : ℕ → List Event → Type 0
 AddNone n events = (i : ℕ) → increments n i events ≡ 0
 
--- the steps take nothing out
+-- The steps take no count out.
 abbrev pub TakeNone : ℕ → List Event → Type 0
 TakeNone n events = (i : ℕ) → taken_out n i events ≡ 0
 
--- the steps found each place at 0 once, or took out what was there
+-- For each place, one of the steps found it at 0 or took out its count.
 abbrev pub FindEachNone : ℕ → List Event → Type 0
 FindEachNone n events = (i : ℕ) → i < n → list_any (finds_none n i) events ≡ true
 
--- what a call's answer says of its steps, in a set of n places whose largest count is max: a set
--- counted its place, one of the n, once and nothing else, or found it full; a reset of the next place took that
--- one place out, once, or found each place at 0; a reset of all left no place out; none does more
+-- What a call's result says of its steps, in a set of `n` places whose largest count is `max`. A set raised the count of its place by one
+-- and changed nothing else, or found its place full. A reset of the next place reset that place once and no other, or found each place at
+-- 0. A reset of all found each place at 0 or reset it, and raised none.
 abbrev pub Tells : ℕ → ℕ → Call → Answer → List Event → Type 0
 Tells max n (call.Set place) (Added true) events =
     (place < n) × ((i : ℕ) → increments n i events ≡ (if place == i then 1 else 0)) × TakeNone n events

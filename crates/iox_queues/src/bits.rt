@@ -1,10 +1,10 @@
 //! Bit sets and counting bit sets one word at a time.
 //!
-//! Each place of a set has a word of its own: 0 or 1 in a bit set, a count in a counting bit set.
-//! Any number of parties work on a set of any number of places.
+//! Each place of a set has a word of its own: 0 or 1 in a bit set, a count in a counting bit set. Any number of parties work on one set,
+//! which has any number of places.
 //!
-//! - [`call`]: what each party does next, free of any set.
-//! - [`machine`]: a set with its parties, which go in any order.
+//! - [`call`]: the accesses of a call, independent of any set.
+//! - [`machine`]: a set with its parties, whose steps are made in any order.
 //!
 //! A first call:
 //!

@@ -1,9 +1,9 @@
-//! Queues and bit sets: plain, shared among threads, and one word at a time.
+//! Queues and bit sets: sequential, shared among threads, and as machines that make one access at a time.
 //!
-//! - [`shared`]: queues and single values that threads share, over atomics.
-//! - [`bits`]: bit sets one word at a time (also [`sets`]).
-//! - [`values`]: values that calls by steps name by a number.
-//! - The plain forms come from `iox_queues_base`, the vocabulary of steps and rings by steps from `iox_queues_steps` (here
+//! - [`shared`]: queues and single values that threads share, based on atomics.
+//! - [`bits`]: bit sets that are accessed one word at a time (also [`sets`]).
+//! - [`values`]: tables of values, from which step machines take a value by its number.
+//! - The sequential forms come from `iox_queues_base`. The types of steps and the rings by steps come from `iox_queues_steps` (here
 //!   [`rings`], with the ends of each kind in [`overflowing`] and [`refusing`]).
 //!
 //! A first call:

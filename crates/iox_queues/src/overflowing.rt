@@ -1,2 +1,2 @@
-//! The ends of the ring that hands its oldest number out when it is full, one word at a time.
+//! The ends of the ring that removes its oldest number when it is full, one word at a time.
 pub use iox_queues_steps::rings::overflowing::{Pop, Push};

@@ -1,12 +1,12 @@
-//! Queues and single values that threads share, over atomics.
+//! Queues and single values that threads share, based on atomics.
 //!
-//! Each push and pop makes the accesses that its party value names, one after the other. Every call
-//! is safe and returns. What the values are that other threads stored is not claimed.
+//! Each push and pop makes the accesses of its step machine, one after another. Every call is memory-safe and returns. Nothing is proved of
+//! the values that other threads stored.
 //!
 //! - [`words`]: the shared words.
-//! - [`calls`]: a push, a pop, a store or a load as one run of its party value.
+//! - [`calls`]: a push, a pop, a store or a load as one run of its call.
 //! - [`index`]: the queues of numbers.
-//! - [`value`]: the queue of any copied value.
+//! - [`value`]: the queue of values of any type that is copied as words.
 //! - [`atomic`]: the single value; [`single`]: its store and load, one access at a time.
 pub mod atomic;
 pub(crate) mod calls;
@@ -22,32 +22,32 @@ use std::marker::PhantomData;
 use std::sync::atomic::{AtomicU64, Ordering};
 use words::SharedWords;
 
-/// How many lost turns end a pop or a load.
+/// After how many lost exchanges a pop gives up, and after how many moves of the position a load does.
 pub const LOST_TURNS: u32 = 1 << 20;
 
-/// A form that may be shared: its values lie in cells of words.
+/// A structure that can be shared: its values are stored in cells of words.
 pub trait Shareable: Drop + Sized {
     // how many values may wait
     ghost room: { Self → ℕ };
 
-    /// How many words a cell has; None where a value has more words than can be shared.
+    /// How many words a cell has; `None` if a value has more words than can be shared.
     fn width(&self) -> Option<usize>;
 
     /// How many cells there are.
     fn cells(&self) -> usize;
 
-    /// How many values may wait.
+    /// The maximum number of waiting values.
     fn limit(&self) -> u64
         ensures { result ≡ room self.now };
 
-    /// Puts the oldest value into a cell; false if none is left.
+    /// Moves the oldest value into a cell and returns true, or returns false if no value is left.
     fn pour(&mut self, cell: &[AtomicU64]) -> bool;
 }
 
-/// A queue that may be shared: it has an end that takes values out.
+/// A queue that can be shared. Unlike a single value, it has an end that takes values out.
 pub trait SharedQueue: Shareable {}
 
-/// A queue or a single value whose roles may be taken by several threads.
+/// A shared queue or a shared single value, whose two roles different threads may take.
 #[derive(Drop)]
 pub struct Shared<Q> {
     words: SharedWords,
@@ -55,10 +55,10 @@ pub struct Shared<Q> {
     form: PhantomData<Q>,
 }
 
-/// Puts a queue's or a single value's words where threads can share them.
+/// Moves the words of a queue or a single value to memory that threads can share.
 pub trait Share: Shareable {
-    /// The shared form, with the values that waited. The value itself comes back where no memory is
-    /// found, or where one value has more than 16 words.
+    /// Makes the shared form, which has the waiting values. The value itself is returned unchanged if memory runs out, or if one value has
+    /// more than 16 words.
     fn share(self, alloc: Global) -> Result<Shared<Self>, Self>
         ensures back { IfErr result (λ q. q ≡ self) }
         ensures room { IfOk result (λ s. s.limit ≡ Self.room self) };
@@ -102,14 +102,14 @@ fn zeros(alloc: Global, count: usize) -> Result<Vec<AtomicU64>, AllocError> {
 }
 
 impl<Q> Shared<Q> {
-    /// How many values may wait.
+    /// The maximum number of waiting values.
     pub fn capacity(&self) -> u64
         ensures { result ≡ self.now.limit }
     {
         self.limit
     }
 
-    /// The role that pushes or stores; None while it is taken. The guard's drop gives it back.
+    /// Takes the role that pushes or stores; `None` while another guard has it. Dropping the guard returns the role.
     pub fn acquire_producer(&self) -> Option<Producer<'_, Q>>
         ensures { IfSome result (λ p. p.limit ≡ self.now.limit) }
     {
@@ -125,7 +125,7 @@ impl<Q> Shared<Q> {
 }
 
 impl<Q: SharedQueue> Shared<Q> {
-    /// The role that pops; None while it is taken. The guard's drop gives it back.
+    /// Takes the role that pops; `None` while another guard has it. Dropping the guard returns the role.
     pub fn acquire_consumer(&self) -> Option<Consumer<'_, Q>> {
         if self.words.consumer_taken.swap(true, Ordering::SeqCst) {
             return None;

@@ -1,8 +1,8 @@
-//! Values that calls by steps name by their number.
+//! Tables of values, from which step machines take a value by its number.
 ghost use Rattle.std.specs.Prelude.{◌≡◌, slice_index};
 ghost use Rattle.iox_queues.specs.Values.{table_value};
 
-/// The words of a value; none where it isn't in the table.
+/// The words of the value with this number; an empty slice if the table has no such value.
 pub fn value_of(values: &[Vec<u64>], number: usize) -> &[u64]
     ensures { result.now ≡ table_value values.now number }
 {
@@ -12,7 +12,7 @@ pub fn value_of(values: &[Vec<u64>], number: usize) -> &[u64]
     }
 }
 
-/// Word `i` of a value; 0 where there is none.
+/// Word `i` of the value with this number; 0 if there is none.
 pub fn word_of(values: &[Vec<u64>], number: usize, i: usize) -> u64
     ensures { result ≡ slice_index (table_value values.now number) i }
 {

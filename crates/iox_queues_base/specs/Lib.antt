@@ -1,4 +1,4 @@
--- The definitions that contracts about plain queues and bit sets cite.
+-- The definitions that the contracts of sequential queues and bit sets use.
 pub mod Waiting
 pub mod Bits
 pub mod Coding

@@ -1,12 +1,12 @@
 //! A single value that is stored and loaded whole.
 //!
-//! Ported from `UnrestrictedAtomic` of iceoryx2: here its plain form, for one thread.
+//! Ported from `UnrestrictedAtomic` of iceoryx2; this is its sequential form, for one thread.
 ghost use Rattle.std.specs.Prelude.{◌≡◌};
 
 use crate::words::Words;
 use std::marker::Model;
 
-/// A single value. Clauses see the value stored last.
+/// A single value. Contracts see the value stored last.
 #[derive(Drop)]
 pub struct UnrestrictedAtomic<T: Words> {
     value: T,
@@ -19,13 +19,14 @@ impl<T: Words> Model for UnrestrictedAtomic<T> {
 }
 
 impl<T: Words> UnrestrictedAtomic<T> {
+    /// A cell that holds the value.
     pub fn new(value: T) -> UnrestrictedAtomic<T>
         ensures { result ≡ value }
     {
         UnrestrictedAtomic { value }
     }
 
-    /// Puts the value in the place of the one before.
+    /// Replaces the value by another.
     pub fn store(&mut self, value: T)
         ensures { self.new ≡ value }
     {

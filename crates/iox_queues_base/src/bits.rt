@@ -1,4 +1,4 @@
-//! Sets of numbers below a capacity, and counts of them.
+//! Sets of numbers below a capacity, and counters for such numbers.
 //!
 //! Ported from `BitSet` and `CountingBitSet` of iceoryx2 and their fixed-size forms.
 mod counting;
@@ -9,7 +9,7 @@ ghost use Rattle.std.specs.Prelude.{◌≡◌};
 pub use counting::{CountingBitSet, FixedSizeCountingBitSet};
 pub use set::{BitSet, FixedSizeBitSet};
 
-/// A place of a counting bit set, and how often it was set since it was last reset.
+/// A number of a counting bit set, and how often it was set since the last reset.
 #[derive(Clone, Copy, Debug, PartialEq, Eq)]
 pub struct BitState {
     bit: usize,
@@ -23,7 +23,7 @@ impl BitState {
         BitState { bit, count }
     }
 
-    /// The place.
+    /// The number.
     pub fn bit(&self) -> usize
         ensures { result ≡ self.now.bit }
     {

@@ -1,6 +1,6 @@
-//! Queues of numbers of two kinds: when full, one refuses a push and the other hands its oldest number out.
+//! Queues of numbers of two kinds: when full, one kind refuses a push, and the other removes its oldest number and returns it.
 //!
-//! Ported from `IndexQueue`, `SafelyOverflowingIndexQueue` and their forms of fixed size of iceoryx2.
+//! Ported from `IndexQueue`, `SafelyOverflowingIndexQueue` and their fixed-size forms in iceoryx2.
 ghost use Rattle.std.specs.Prelude.{◌≡◌, ◌<◌, ◌≤◌, ◌==◌, ◌++◌, ◌∷◌, [], option_to_list, length, drop, nat_lt, nat_le, slice_get};
 ghost use Rattle.std.specs.Prelude.{if◌then◌else◌, IfOk, IfSome};
 ghost use Rattle.iox_queues_base.specs.Waiting.{Bounded, put, put_over, left_out};
@@ -13,11 +13,11 @@ use std::marker::{Model, PhantomData};
 #[derive(Clone, Copy, Debug)]
 pub struct Refusing;
 
-/// The kind of a queue that hands its oldest number out when it is full.
+/// The kind of a queue that removes its oldest number when a push finds it full.
 #[derive(Clone, Copy, Debug)]
 pub struct Overflowing;
 
-/// A queue of numbers of kind `K` whose capacity is set when it is made.
+/// A queue of numbers of kind `K` whose capacity is chosen by `new`. Contracts see the waiting numbers, oldest first, and the capacity.
 #[derive(Debug, Drop)]
 pub struct NumberQueue<K> {
     waiting: VecDeque<u64>,
@@ -25,10 +25,10 @@ pub struct NumberQueue<K> {
     kind: PhantomData<K>,
 }
 
-/// A queue that refuses a push when it is full, and whose capacity is set when it is made.
+/// A queue that refuses a push when it is full, and whose capacity is chosen by `new`.
 pub type IndexQueue = NumberQueue<Refusing>;
 
-/// A queue that hands its oldest number out when it is full, and whose capacity is set when it is made.
+/// A queue that removes its oldest number when a push finds it full, and whose capacity is chosen by `new`.
 pub type SafelyOverflowingIndexQueue = NumberQueue<Overflowing>;
 
 impl<K> Model for NumberQueue<K> {
@@ -44,7 +44,7 @@ impl<K> Model for NumberQueue<K> {
 }
 
 impl<K> NumberQueue<K> {
-    /// An empty queue, with the memory for `capacity` numbers.
+    /// An empty queue, which allocates memory for `capacity` numbers. It fails only where an allocation fails.
     pub fn new(alloc: Global, capacity: usize) -> Result<NumberQueue<K>, AllocError>
         ensures { IfOk result (λ q. q ≡ record { waiting = []; capacity = capacity }) }
     {
@@ -55,7 +55,7 @@ impl<K> NumberQueue<K> {
         })
     }
 
-    /// Takes the oldest number out; None if the queue is empty.
+    /// Removes the oldest number and returns it; `None` if the queue is empty.
     pub fn pop(&mut self) -> Option<u64>
         ensures answer { result ≡ slice_get self.old.waiting 0 }
         ensures after { self.new ≡ record self.old { waiting = drop 1 self.old.waiting } }
@@ -71,7 +71,7 @@ impl<K> NumberQueue<K> {
         self.waiting.len()
     }
 
-    /// How many numbers have room.
+    /// The maximum number of waiting numbers.
     pub fn capacity(&self) -> usize
         ensures { result ≡ self.now.capacity }
     {
@@ -85,7 +85,7 @@ impl<K> NumberQueue<K> {
         self.waiting.len() == 0
     }
 
-    /// Whether no further number has room.
+    /// Whether the queue is full.
     pub fn is_full(&self) -> bool
         ensures { result ≡ nat_le self.now.capacity (length self.now.waiting) }
     {
@@ -94,7 +94,7 @@ impl<K> NumberQueue<K> {
 }
 
 impl NumberQueue<Refusing> {
-    /// Puts the number behind the rest; false if the queue is full, and then it stays as it was.
+    /// Appends the number and returns true. If the queue is full, it stays as it was, and the result is false.
     pub fn push(&mut self, value: u64) -> bool
         ensures answer { result ≡ nat_lt (length self.old.waiting) self.old.capacity }
         ensures after { self.new ≡ record self.old { waiting = put self.old.capacity self.old.waiting value } }
@@ -110,8 +110,7 @@ impl NumberQueue<Refusing> {
 }
 
 impl NumberQueue<Overflowing> {
-    /// Puts the number behind the rest. A full queue hands its oldest number out; one of capacity 0
-    /// hands the new one back.
+    /// Appends the number. A full queue removes its oldest number and returns it; a queue of capacity 0 returns the new number.
     pub fn push(&mut self, value: u64) -> Option<u64>
         ensures answer { result ≡ left_out self.old.capacity self.old.waiting value }
         ensures none_lost { option_to_list result ++ self.new.waiting ≡ self.old.waiting ++ value ∷ [] }
@@ -130,7 +129,7 @@ impl NumberQueue<Overflowing> {
     }
 }
 
-/// A queue of numbers of kind `K` and of capacity `CAPACITY`. Clauses see the numbers that wait.
+/// A queue of numbers of kind `K` and of capacity `CAPACITY`. Contracts see the waiting numbers, oldest first.
 #[derive(Debug, Drop)]
 pub struct FixedSizeNumberQueue<K, const CAPACITY: usize> {
     queue: NumberQueue<K>,
@@ -139,7 +138,7 @@ pub struct FixedSizeNumberQueue<K, const CAPACITY: usize> {
 /// A queue of capacity `CAPACITY` that refuses a push when it is full.
 pub type FixedSizeIndexQueue<const CAPACITY: usize> = FixedSizeNumberQueue<Refusing, CAPACITY>;
 
-/// A queue of capacity `CAPACITY` that hands its oldest number out when it is full.
+/// A queue of capacity `CAPACITY` that removes its oldest number when a push finds it full.
 pub type FixedSizeSafelyOverflowingIndexQueue<const CAPACITY: usize> = FixedSizeNumberQueue<
     Overflowing,
     CAPACITY,
@@ -156,7 +155,7 @@ impl<K, const CAPACITY: usize> Model for FixedSizeNumberQueue<K, CAPACITY> {
 }
 
 impl<K, const CAPACITY: usize> FixedSizeNumberQueue<K, CAPACITY> {
-    /// An empty queue, with all its memory.
+    /// An empty queue, which allocates all its memory. It fails only where an allocation fails.
     pub fn new(alloc: Global) -> Result<FixedSizeNumberQueue<K, CAPACITY>, AllocError>
         ensures { IfOk result (λ q. q ≡ []) }
     {
@@ -165,7 +164,7 @@ impl<K, const CAPACITY: usize> FixedSizeNumberQueue<K, CAPACITY> {
         })
     }
 
-    /// Takes the oldest number out; None if the queue is empty.
+    /// Removes the oldest number and returns it; `None` if the queue is empty.
     pub fn pop(&mut self) -> Option<u64>
         ensures answer { result ≡ slice_get self.old 0 }
         ensures after { self.new ≡ drop 1 self.old }
@@ -181,7 +180,7 @@ impl<K, const CAPACITY: usize> FixedSizeNumberQueue<K, CAPACITY> {
         self.queue.len()
     }
 
-    /// How many numbers have room.
+    /// The maximum number of waiting numbers, which is `CAPACITY`.
     pub fn capacity(&self) -> usize
         ensures { result ≡ CAPACITY }
     {
@@ -195,7 +194,7 @@ impl<K, const CAPACITY: usize> FixedSizeNumberQueue<K, CAPACITY> {
         self.queue.is_empty()
     }
 
-    /// Whether no further number has room.
+    /// Whether the queue is full.
     pub fn is_full(&self) -> bool
         ensures { result ≡ nat_le CAPACITY (length self.now) }
     {
@@ -204,7 +203,7 @@ impl<K, const CAPACITY: usize> FixedSizeNumberQueue<K, CAPACITY> {
 }
 
 impl<const CAPACITY: usize> FixedSizeNumberQueue<Refusing, CAPACITY> {
-    /// Puts the number behind the rest; false if the queue is full, and then it stays as it was.
+    /// Appends the number and returns true. If the queue is full, it stays as it was, and the result is false.
     pub fn push(&mut self, value: u64) -> bool
         ensures answer { result ≡ nat_lt (length self.old) CAPACITY }
         ensures after { self.new ≡ put CAPACITY self.old value }
@@ -215,8 +214,7 @@ impl<const CAPACITY: usize> FixedSizeNumberQueue<Refusing, CAPACITY> {
 }
 
 impl<const CAPACITY: usize> FixedSizeNumberQueue<Overflowing, CAPACITY> {
-    /// Puts the number behind the rest. A full queue hands its oldest number out; one of capacity 0
-    /// hands the new one back.
+    /// Appends the number. A full queue removes its oldest number and returns it; a queue of capacity 0 returns the new number.
     pub fn push(&mut self, value: u64) -> Option<u64>
         ensures answer { result ≡ left_out CAPACITY self.old value }
         ensures none_lost { option_to_list result ++ self.new ≡ self.old ++ value ∷ [] }

@@ -1,9 +1,9 @@
-//! Queues of fixed capacity, sets of bits, counts and single values, for one thread at a time.
+//! Queues of fixed capacity, bit sets, counters and single values, for one thread at a time.
 //!
 //! - [`words`]: values that are copied as 64-bit words.
-//! - [`index_queue`]: queues of numbers; when full, they refuse a push or hand the oldest number out.
-//! - [`value_queue`]: the queue of any copied value.
-//! - [`bits`]: sets of numbers, and counts of them.
+//! - [`index_queue`]: queues of numbers; when full, they refuse a push or remove the oldest number.
+//! - [`value_queue`]: queues of values of any type that is copied as words.
+//! - [`bits`]: sets of numbers, and counters for numbers.
 //! - [`atomic`]: a single value that is stored and loaded whole.
 //!
 //! A first call:

@@ -1,4 +1,4 @@
-//! The queue of any copied value.
+//! Queues of values of any type that is copied as words.
 //!
 //! Ported from `Queue` of iceoryx2's lock-free structures.
 ghost use Rattle.std.specs.Prelude.{◌≡◌, ◌<◌, ◌≤◌, ◌==◌, ◌++◌, ◌∷◌, [], length, drop, nat_lt, nat_le, slice_get, if◌then◌else◌, IfOk};
@@ -9,7 +9,7 @@ use std::alloc::{AllocError, Global};
 use std::collections::VecDeque;
 use std::marker::Model;
 
-/// A queue of at most `CAPACITY` values. Clauses see the values that wait, oldest first.
+/// A queue of at most `CAPACITY` values. Contracts see the waiting values, oldest first.
 #[derive(Drop)]
 pub struct Queue<T: Words, const CAPACITY: usize> {
     waiting: VecDeque<T>,
@@ -27,7 +27,7 @@ impl<T: Words, const CAPACITY: usize> Model for Queue<T, CAPACITY> {
 }
 
 impl<T: Words, const CAPACITY: usize> Queue<T, CAPACITY> {
-    /// An empty queue, with all its memory.
+    /// An empty queue, which allocates all its memory. It fails only where an allocation fails.
     pub fn new(alloc: Global) -> Result<Queue<T, CAPACITY>, AllocError>
         ensures { IfOk result (λ q. q ≡ []) }
     {
@@ -36,7 +36,7 @@ impl<T: Words, const CAPACITY: usize> Queue<T, CAPACITY> {
         })
     }
 
-    /// Puts the value behind the rest; false if the queue is full, and then it stays as it was.
+    /// Appends the value and returns true. If the queue is full, it stays as it was, and the result is false.
     pub fn push(&mut self, value: &T) -> bool
         ensures answer { result ≡ nat_lt (length self.old) CAPACITY }
         ensures after { self.new ≡ put CAPACITY self.old value.now }
@@ -50,7 +50,7 @@ impl<T: Words, const CAPACITY: usize> Queue<T, CAPACITY> {
         }
     }
 
-    /// Takes the oldest value out; None if the queue is empty.
+    /// Removes the oldest value and returns it; `None` if the queue is empty.
     pub fn pop(&mut self) -> Option<T>
         ensures answer { result ≡ slice_get self.old 0 }
         ensures after { self.new ≡ drop 1 self.old }
@@ -66,19 +66,21 @@ impl<T: Words, const CAPACITY: usize> Queue<T, CAPACITY> {
         self.waiting.len()
     }
 
-    /// How many values have room.
+    /// The maximum number of waiting values, which is `CAPACITY`.
     pub fn capacity(&self) -> usize
         ensures { result ≡ CAPACITY }
     {
         CAPACITY
     }
 
+    /// Whether no value waits.
     pub fn is_empty(&self) -> bool
         ensures { result ≡ (length self.now == 0) }
     {
         self.waiting.len() == 0
     }
 
+    /// Whether the queue is full.
     pub fn is_full(&self) -> bool
         ensures { result ≡ nat_le CAPACITY (length self.now) }
     {

@@ -1,6 +1,6 @@
 //! Values that are copied as 64-bit words.
 //!
-//! New in this port: what iceoryx2 copies as bytes of any `Copy` type is copied here word by word.
+//! New in this port: iceoryx2 copies the bytes of any `Copy` type, and this port copies the value word by word.
 ghost use Rattle.std.specs.Prelude.{◌≡◌, ℕ, ◌+◌, ◌*◌, ◌/◌, ◌%◌, ◌^◌, ◌<◌, ◌≤◌, List, [], ◌∷◌, length, slice_index, if◌then◌else◌, ◌==◌};
 ghost use Rattle.std.specs.Prelude.{nat_lt, Bool, true, false, refl};
 ghost use Rattle.std.proofs.Common.{arith, rules};
@@ -14,37 +14,38 @@ pub use arrays::OneWord;
 
 /// A value that is copied as a fixed number of 64-bit words, which may be none.
 ///
-/// The words of a value give it back: so a type whose values have no words has one value.
+/// A value is determined by its words; so a type whose values have no words has only one value.
 pub trait Words: Copy {
     // the words of a value
     ghost parts: { Self → List ℕ };
 
-    // the value that has these words, or any value where none has
+    // the value that has these words, or any value if no value has them
     ghost of_parts: { List ℕ → Self };
 
-    // what holds of every value of this type, as the bound of an integer
+    // a condition that every value of this type meets, such as the bound of an integer
     ghost is_value: { Self → Type 0 };
 
+    /// How many words a value has.
     const WORDS: usize;
 
     ghost WORDS: { ℕ };
 
-    /// Word `i` of the value; 0 where it has no such word.
+    /// Word `i` of the value, or 0 if the value has no such word.
     fn word(&self, i: usize) -> u64
         ensures { result ≡ slice_index (parts self.now) i };
 
-    /// The value that has these words, or any value where none has.
+    /// The value that has these words, or any value if no value has them.
     fn of_words(words: &[u64]) -> Self
         requires { length words.now ≡ WORDS }
         ensures same { result ≡ of_parts words.now }
         ensures value { is_value result };
 
-    /// Does nothing: it shows what holds of every value, as an integer's range. The body of an integer
-    /// reads it, and that of a struct calls this for each field.
+    /// Does nothing at run time. For the prover it recalls that the value meets the condition of its type (`is_value`), such as an
+    /// integer's range. The body for an integer reads it, and the body for a struct calls `shows` for each field.
     fn shows(&self)
         ensures { is_value self.now };
 
-    /// Does nothing: it says of each value, however few its words are, that they give it back.
+    /// Does nothing at run time. For the prover it recalls that the words of a value, even if there are none, determine it.
     final fn gives_back(&self)
         ensures value { is_value self.now }
         ensures same { of_parts (parts self.now) ≡ self.now }
@@ -57,7 +58,7 @@ pub trait Words: Copy {
     ghost given_back: { (x : Self) → is_value x → of_parts (parts x) ≡ x };
 }
 
-// The word itself if it is at most so much, else 0.
+// The word itself if it is at most `most`, else 0.
 fn word_or_zero(word: u64, most: u64) -> u64
     ensures value { result ≡ (if nat_lt word (most + 1) then word else 0) }
     ensures fits { result ≤ most }
@@ -206,7 +207,7 @@ impl Words for usize {
     ghost given_back = { λ x h. refl };
 }
 
-/// The low word comes first.
+/// Two words, the low one first.
 impl Words for u128 {
     ghost parts = { λ x. (x % 2 ^ 64) ∷ (x / 2 ^ 64) ∷ [] };
 
@@ -266,7 +267,7 @@ impl Words for bool {
     ghost given_back = { elim [ true ↦ λ h. refl | false ↦ λ h. refl ] };
 }
 
-/// No words: there is one value.
+/// No words, since there is only one value.
 impl Words for () {
     ghost parts = { λ x. [] };
 

@@ -1,4 +1,4 @@
--- The definitions that contracts about steps and schedules cite.
+-- The definitions that the contracts of steps and schedules use.
 pub mod Access
 pub mod Schedule
 pub mod Order

@@ -1,4 +1,4 @@
--- The fields of a ring machine, as lists and numbers.
+-- The state of a ring machine, as lists and numbers.
 use Rattle.std.specs.Prelude.{ℕ, ◌+◌, ◌≤◌, [], length, if◌then◌else◌, vec_len, vec_capacity}
 use Rattle.iox_queues_steps.specs.RingMachine.{RingState}
 use Rattle.iox_queues_steps.specs.Recorded.{log_of, HasRoom}
@@ -8,6 +8,7 @@ use Rattle.iox_queues_steps.specs.declared.schedule.Move.{Move}
 use Rattle.iox_queues_steps.specs.declared.schedule.Move.TheVariants.{Begin, GoOn}
 use Rattle.iox_queues_steps.specs.declared.rings.state.State.{State}
 
+-- The state of a ring machine, with its vectors as lists.
 abbrev pub machine_of : State → RingState
 machine_of s = record {
   kind = s.kind;
@@ -19,26 +20,26 @@ machine_of s = record {
   log = log_of s.log;
 }
 
--- how many acts stand at a step
+-- How many acts take effect at a step.
 abbrev pub new_acts : RingState → Move → ℕ
 new_acts m (Begin c) = 0
 new_acts m (GoOn Producer) = length (placed_by_push m.limit m.words.read m.producer.push)
 new_acts m (GoOn Consumer) = length (taken_by_pop m.words.write m.words.read m.consumer.pop) + length
     (if pop_moves m.words.read m.consumer.pop then late_put m.words.read m.producer.push else [])
 
--- how many pushes end with a step
+-- How many pushes finish with a step.
 abbrev pub new_pushes : RingState → Move → ℕ
 new_pushes m (Begin c) = 0
 new_pushes m (GoOn Producer) = length (push_ended m.producer.push)
 new_pushes m (GoOn Consumer) = 0
 
--- how many pops and looks end with a step
+-- How many pops and looks finish with a step.
 abbrev pub new_pops : RingState → Move → ℕ
 new_pops m (Begin c) = 0
 new_pops m (GoOn Producer) = 0
 new_pops m (GoOn Consumer) = length (pop_ended m.consumer.pop)
 
--- room for what a step appends
+-- The vectors have capacity for what a step appends.
 pub record StateRoom (step : Move) (s : State) : Type 0 where
   pub log : HasRoom (new_acts (machine_of s) step) s.log
   pub pushes : vec_len s.pushes + new_pushes (machine_of s) step ≤ vec_capacity s.pushes

@@ -1,4 +1,4 @@
--- The steps of a push and of a pop on the overflowing ring, by the stage where each stands.
+-- The steps of a push and of a pop on the overflowing ring, by the stage of each.
 use Rattle.std.specs.Prelude.{ℕ, ◌-◌, Bool, true, false, not, if◌then◌else◌, ◌==◌, nat_lt, Some, None}
 use Rattle.iox_queues_steps.specs.Access.{successor}
 use Rattle.iox_queues_steps.specs.declared.access.Word.TheVariants.{Write, Read, Cell}
@@ -10,7 +10,7 @@ use Rattle.iox_queues_steps.specs.declared.rings.overflowing.push.Push.TheVarian
 use Rattle.iox_queues_steps.specs.declared.rings.overflowing.pop.Pop.{Pop}
 use Rattle.iox_queues_steps.specs.declared.rings.overflowing.pop.Pop.TheVariants as pop
 
--- the access of a push at each stage
+-- The next access of a push.
 abbrev pub push_next : Push → Access
 push_next push.Idle = Local
 push_next (push.Begun limit value) = Load Write
@@ -21,16 +21,16 @@ push_next (push.Full value read next) = Load (Cell read)
 push_next (push.SawOldest value read next oldest) = Exchange Read read next
 push_next (push.Pushed value answered) = Local
 
--- after its write position is stored, a push that may have left too many goes on
+-- The stage after the store of the write position: the push goes on if more than `limit` numbers may wait now.
 abbrev pub push_filled : ℕ → ℕ → ℕ → ℕ → Push
 push_filled limit value next read =
     if nat_lt limit (next - read) then push.Full value read (successor read) else push.Pushed value Kept
 
--- the oldest left by this push exactly if it won the exchange
+-- The stage after the exchange: this push removed the oldest number exactly if it won the exchange.
 abbrev pub push_swapped : ℕ → Bool → ℕ → Push
 push_swapped value won oldest = push.Pushed value (if won then LeftOut oldest else Kept)
 
--- the stage after the answer of that access
+-- The stage of a push after the result of its access.
 abbrev pub push_take : Push → ℕ → Push
 push_take push.Idle answer = push.Idle
 push_take (push.Begun limit value) answer = push.SawWrite limit value answer (successor answer)
@@ -41,7 +41,7 @@ push_take (push.Full value read next) answer = push.SawOldest value read next an
 push_take (push.SawOldest value read next oldest) answer = push_swapped value (answer == read) oldest
 push_take (push.Pushed value answered) answer = push.Idle
 
--- the access of a pop or a look at each stage
+-- The next access of a pop or a look.
 abbrev pub pop_next : Pop → Access
 pop_next pop.Idle = Local
 pop_next pop.Begun = Load Read
@@ -53,16 +53,16 @@ pop_next pop.LookBegun = Load Read
 pop_next (pop.LookRead read) = Load Write
 pop_next (pop.Looked waiting) = Local
 
--- equal positions end a pop with nothing
+-- The stage after the load of the write position: equal positions end the pop with no number.
 abbrev pub pop_emptied : Bool → ℕ → Pop
 pop_emptied empty read = if empty then pop.Popped None else pop.Nonempty read (successor read)
 
--- a lost exchange goes on from the position found
+-- The stage after the exchange: a lost exchange is tried again from the position found.
 abbrev pub pop_swapped : Bool → ℕ → ℕ → Pop
 pop_swapped won found value =
     if won then pop.Popped (Some value) else pop.Nonempty found (successor found)
 
--- the stage after the answer of that access
+-- The stage of a pop or a look after the result of its access.
 abbrev pub pop_take : Pop → ℕ → Pop
 pop_take pop.Idle answer = pop.Idle
 pop_take pop.Begun answer = pop.SawRead answer
@@ -74,28 +74,28 @@ pop_take pop.LookBegun answer = pop.LookRead answer
 pop_take (pop.LookRead read) answer = pop.Looked (not (answer == read))
 pop_take (pop.Looked waiting) answer = pop.Idle
 
--- no push is under way
+-- Whether no push is in progress.
 abbrev pub push_is_idle : Push → Bool
 push_is_idle push.Idle = true
 push_is_idle other = false
 
--- no pop or look is under way
+-- Whether no pop or look is in progress.
 abbrev pub pop_is_idle : Pop → Bool
 pop_is_idle pop.Idle = true
 pop_is_idle other = false
 
--- the next step of this push is its last
+-- Whether the next step of this push is its last one.
 abbrev pub push_is_over : Push → Bool
 push_is_over (push.Pushed value answer) = true
 push_is_over other = false
 
--- the next step of this pop or look is its last
+-- Whether the next step of this pop or look is its last one.
 abbrev pub pop_is_over : Pop → Bool
 pop_is_over (pop.Popped got) = true
 pop_is_over (pop.Looked waiting) = true
 pop_is_over other = false
 
--- the number that a push puts
+-- The number that a push puts.
 abbrev pub push_value : Push → ℕ
 push_value push.Idle = 0
 push_value (push.Begun limit value) = value
@@ -106,7 +106,7 @@ push_value (push.Full value seen next) = value
 push_value (push.SawOldest value seen next oldest) = value
 push_value (push.Pushed value answer) = value
 
--- the call is a look, and no pop
+-- Whether the call is a look and not a pop.
 abbrev pub pop_looks : Pop → Bool
 pop_looks pop.LookBegun = true
 pop_looks (pop.LookRead seen) = true

@@ -1,4 +1,4 @@
--- The overflowing ring step by step: where puts and takes stand, and what each step keeps.
+-- The overflowing ring step by step: when puts and takes take effect, and the invariant of each step.
 use Rattle.std.specs.Prelude.{ℕ, ◌≡◌, ◌+◌, ◌-◌, ◌^◌, ◌%◌, ◌<◌, ◌≤◌, Bool, false, not, if◌then◌else◌, ◌==◌, nat_lt, Some, None, List, []}
 use Rattle.std.specs.Prelude.{◌∷◌, ◌++◌, length, slice_index}
 use Rattle.iox_queues_steps.specs.Access.{RingWords}
@@ -14,8 +14,8 @@ use Rattle.iox_queues_steps.specs.declared.rings.overflowing.push.Push.TheVarian
 use Rattle.iox_queues_steps.specs.declared.rings.overflowing.pop.Pop.{Pop}
 use Rattle.iox_queues_steps.specs.declared.rings.overflowing.pop.Pop.TheVariants as pop
 
--- a put whose position store leaves more than the limit unread waits for the next move of the read
--- position; any other put stands at its position store
+-- The put that takes effect at the next step of a push, if one does: at the store of its write position, unless that leaves more than
+-- `limit` numbers unread; such a put takes effect at the next move of the read position.
 abbrev pub placed_by_push : ℕ → ℕ → Push → List Act
 placed_by_push limit read push.Idle = []
 placed_by_push limit read (push.Begun l value) = []
@@ -28,7 +28,7 @@ placed_by_push limit read (push.SawOldest value seen next oldest) =
     if read == seen then Put value (LeftOut oldest) ∷ [] else []
 placed_by_push limit read (push.Pushed value answer) = []
 
--- the put that waits for the next move of the read position
+-- The put that takes effect at the next move of the read position, if there is one.
 abbrev pub late_put : ℕ → Push → List Act
 late_put read push.Idle = []
 late_put read (push.Begun l value) = []
@@ -39,7 +39,8 @@ late_put read (push.Full value seen next) = if read == seen then Put value Kept 
 late_put read (push.SawOldest value seen next oldest) = if read == seen then Put value Kept ∷ [] else []
 late_put read (push.Pushed value answer) = []
 
--- a take stands at its move of the read position; what moves nothing, at its load of the write position
+-- The take or look that takes effect at the next step: a take at its move of the read position, a call that takes nothing at its load of
+-- the write position.
 abbrev pub taken_by_pop : ℕ → ℕ → Pop → List Act
 taken_by_pop write read pop.Idle = []
 taken_by_pop write read pop.Begun = []
@@ -52,7 +53,7 @@ taken_by_pop write read pop.LookBegun = []
 taken_by_pop write read (pop.LookRead seen) = Take (Saw (not (write == seen))) ∷ []
 taken_by_pop write read (pop.Looked waiting) = []
 
--- this step of the pop moves the read position
+-- Whether this step of the pop moves the read position.
 abbrev pub pop_moves : ℕ → Pop → Bool
 pop_moves read pop.Idle = false
 pop_moves read pop.Begun = false
@@ -64,12 +65,12 @@ pop_moves read pop.LookBegun = false
 pop_moves read (pop.LookRead seen) = false
 pop_moves read (pop.Looked waiting) = false
 
--- a pop's step: its take first, then the put that waited for the move
+-- The acts that take effect at a step of a pop: first its take, then the put that the move of the read position makes effective.
 abbrev pub placed_by_pop : RingWords → Push → Pop → List Act
 placed_by_pop words push pop =
     taken_by_pop words.write words.read pop ++ (if pop_moves words.read pop then late_put words.read push else [])
 
--- a push whose put stands already, and which is not finished
+-- The put of a push that isn't finished and whose put took effect already, if there is one.
 abbrev pub put_in_hand : ℕ → Push → List PutNow
 put_in_hand read push.Idle = []
 put_in_hand read (push.Begun l value) = []
@@ -82,7 +83,7 @@ put_in_hand read (push.SawOldest value seen next oldest) =
     if read == seen then [] else record { value = value; answer = Kept } ∷ []
 put_in_hand read (push.Pushed value answer) = record { value = value; answer = answer } ∷ []
 
--- the put of a push that ends with its next step
+-- The put of a push that finishes with its next step, if it does.
 abbrev pub push_ended : Push → List PutNow
 push_ended push.Idle = []
 push_ended (push.Begun l value) = []
@@ -93,7 +94,7 @@ push_ended (push.Full value seen next) = []
 push_ended (push.SawOldest value seen next oldest) = []
 push_ended (push.Pushed value answer) = record { value = value; answer = answer } ∷ []
 
--- the answer of a pop or a look that ends with its next step
+-- The result of a pop or a look that finishes with its next step, if it does.
 abbrev pub pop_ended : Pop → List PopAnswer
 pop_ended pop.Idle = []
 pop_ended pop.Begun = []
@@ -105,12 +106,12 @@ pop_ended pop.LookBegun = []
 pop_ended (pop.LookRead seen) = []
 pop_ended (pop.Looked waiting) = Saw waiting ∷ []
 
--- the positions are as far apart as the list is long
+-- The distance of the positions is the length of the list.
 abbrev pub IsLevel : RingWords → List ℕ → Type 0
 IsLevel words q = words.read + length q ≡ words.write
 
--- a push stored its position and may have left one too many: until the read position moves from
--- where the push saw it, its put waits in the cell behind the list
+-- A push stored its write position and may have exceeded the limit by one: until the read position moves from where the push saw it, the
+-- push's number is in the cell behind the list.
 pub record IsLate (limit : ℕ) (words : RingWords) (q : List ℕ) (value : ℕ) (seen : ℕ) : Type 0 where
   pub written : words.write ≡ seen + limit + 1
   pub seen_before : seen ≤ words.read
@@ -118,7 +119,7 @@ pub record IsLate (limit : ℕ) (words : RingWords) (q : List ℕ) (value : ℕ)
   pub full : seen ≡ words.read → length q ≡ limit
   pub behind : seen ≡ words.read → slice_index words.cells ((words.read + limit) % (limit + 1)) ≡ value
 
--- what a push knows at each stage
+-- What is known of a push at each stage.
 abbrev pub PushKnows : ℕ → RingWords → List ℕ → Push → Type 0
 PushKnows limit words q push.Idle = IsLevel words q
 PushKnows limit words q (push.Begun l value) = IsLevel words q × (l ≡ limit)
@@ -134,11 +135,11 @@ PushKnows limit words q (push.SawOldest value seen next oldest) =
     IsLate limit words q value seen × (next ≡ seen + 1) × (seen ≡ words.read → oldest ≡ slice_index q 0)
 PushKnows limit words q (push.Pushed value answer) = IsLevel words q
 
--- a position that was read, and is behind only if something waits
+-- A read position that was seen before: if the actual one has moved on since, a number waits.
 abbrev pub WasRead : ℕ → List ℕ → ℕ → Type 0
 WasRead read q seen = (seen ≤ read) × (seen < read → 0 < length q)
 
--- what a pop knows at each stage
+-- What is known of a pop or a look at each stage.
 abbrev pub PopKnows : ℕ → List ℕ → Pop → Type 0
 PopKnows read q pop.Idle = Unit {0}
 PopKnows read q pop.Begun = Unit {0}
@@ -151,7 +152,7 @@ PopKnows read q pop.LookBegun = Unit {0}
 PopKnows read q (pop.LookRead seen) = WasRead read q seen
 PopKnows read q (pop.Looked waiting) = Unit {0}
 
--- the words, the list that waits by the order so far, and the stages fit together
+-- The words, the waiting list according to the order so far, and the stages of both ends are consistent.
 pub record Shape (limit : ℕ) (words : RingWords) (q : List ℕ) (push : Push) (pop : Pop) : Type 0 where
   pub some : 0 < limit
   pub small : limit < 2 ^ 62

@@ -1,4 +1,4 @@
--- The steps of a push and of a pop on the ring that refuses, by the stage where each stands.
+-- The steps of a push and of a pop on the refusing ring, by the stage of each.
 use Rattle.std.specs.Prelude.{ℕ, ◌+◌, ◌-◌, ◌<◌, ◌≤◌, ◌≡◌, ◌%◌, ◌^◌, Bool, true, false, not, if◌then◌else◌, ◌==◌, nat_lt, Some, None, List}
 use Rattle.std.specs.Prelude.{[], ◌∷◌, length, slice_index}
 use Rattle.iox_queues_steps.specs.Access.{RingWords, successor}
@@ -17,7 +17,7 @@ use Rattle.iox_queues_steps.specs.declared.rings.refusing.push.Push.TheVariants 
 use Rattle.iox_queues_steps.specs.declared.rings.refusing.pop.Pop.{Pop}
 use Rattle.iox_queues_steps.specs.declared.rings.refusing.pop.Pop.TheVariants as pop
 
--- the access of a push at each stage
+-- The next access of a push.
 abbrev pub push_next : Push → Access
 push_next push.Idle = Local
 push_next (push.Begun limit value) = Load Write
@@ -26,12 +26,12 @@ push_next (push.SawRoom value write next) = Store (Cell write) value
 push_next (push.Filled value next) = Store Write next
 push_next (push.Pushed value answer) = Local
 
--- a full ring refuses
+-- The stage after the load of the read position: the push is refused if the ring is full.
 abbrev pub push_measured : ℕ → ℕ → ℕ → ℕ → ℕ → Push
 push_measured limit value write next read =
     if nat_lt (write - read) limit then push.SawRoom value write next else push.Pushed value Refused
 
--- the stage after the answer of that access
+-- The stage of a push after the result of its access.
 abbrev pub push_take : Push → ℕ → Push
 push_take push.Idle answer = push.Idle
 push_take (push.Begun limit value) answer = push.SawWrite limit value answer (successor answer)
@@ -40,7 +40,7 @@ push_take (push.SawRoom value write next) answer = push.Filled value next
 push_take (push.Filled value next) answer = push.Pushed value Kept
 push_take (push.Pushed value answered) answer = push.Idle
 
--- the access of a pop or a look at each stage
+-- The next access of a pop or a look.
 abbrev pub pop_next : Pop → Access
 pop_next pop.Idle = Local
 pop_next pop.Begun = Load Read
@@ -52,11 +52,11 @@ pop_next pop.LookBegun = Load Read
 pop_next (pop.LookRead read) = Load Write
 pop_next (pop.Looked some) = Local
 
--- equal positions end a pop with nothing
+-- The stage after the load of the write position: equal positions end the pop with no number.
 abbrev pub pop_emptied : Bool → ℕ → Pop
 pop_emptied empty read = if empty then pop.Popped None else pop.Nonempty read (successor read)
 
--- the stage after the answer of that access
+-- The stage of a pop or a look after the result of its access.
 abbrev pub pop_take : Pop → ℕ → Pop
 pop_take pop.Idle answer = pop.Idle
 pop_take pop.Begun answer = pop.SawRead answer
@@ -68,28 +68,28 @@ pop_take pop.LookBegun answer = pop.LookRead answer
 pop_take (pop.LookRead read) answer = pop.Looked (not (answer == read))
 pop_take (pop.Looked some) answer = pop.Idle
 
--- no push is under way
+-- Whether no push is in progress.
 abbrev pub push_is_idle : Push → Bool
 push_is_idle push.Idle = true
 push_is_idle other = false
 
--- no pop or look is under way
+-- Whether no pop or look is in progress.
 abbrev pub pop_is_idle : Pop → Bool
 pop_is_idle pop.Idle = true
 pop_is_idle other = false
 
--- the next step of this push is its last
+-- Whether the next step of this push is its last one.
 abbrev pub push_is_over : Push → Bool
 push_is_over (push.Pushed value answer) = true
 push_is_over other = false
 
--- the next step of this pop or look is its last
+-- Whether the next step of this pop or look is its last one.
 abbrev pub pop_is_over : Pop → Bool
 pop_is_over (pop.Popped got) = true
 pop_is_over (pop.Looked some) = true
 pop_is_over other = false
 
--- the number that a push puts
+-- The number that a push puts.
 abbrev pub push_value : Push → ℕ
 push_value push.Idle = 0
 push_value (push.Begun limit value) = value
@@ -98,14 +98,15 @@ push_value (push.SawRoom value write next) = value
 push_value (push.Filled value next) = value
 push_value (push.Pushed value answer) = value
 
--- the call is a look, and no pop
+-- Whether the call is a look and not a pop.
 abbrev pub pop_looks : Pop → Bool
 pop_looks pop.LookBegun = true
 pop_looks (pop.LookRead seen) = true
 pop_looks (pop.Looked some) = true
 pop_looks other = false
 
--- a kept put stands at its position store, a refused one at its load of the read position
+-- The put that takes effect at the next step: a kept put at its store of the write position, a refused one at its load of the read
+-- position.
 abbrev pub placed_by_push : ℕ → Push → List Act
 placed_by_push read push.Idle = []
 placed_by_push read (push.Begun limit value) = []
@@ -115,7 +116,8 @@ placed_by_push read (push.SawRoom value write next) = []
 placed_by_push read (push.Filled value next) = Put value Kept ∷ []
 placed_by_push read (push.Pushed value answer) = []
 
--- a take stands at its position store; what moves nothing, at its load of the write position
+-- The take or look that takes effect at the next step: a take at its store of the read position, a call that takes nothing at its load of
+-- the write position.
 abbrev pub placed_by_pop : ℕ → Pop → List Act
 placed_by_pop write pop.Idle = []
 placed_by_pop write pop.Begun = []
@@ -127,7 +129,7 @@ placed_by_pop write pop.LookBegun = []
 placed_by_pop write (pop.LookRead seen) = Take (Saw (not (write == seen))) ∷ []
 placed_by_pop write (pop.Looked some) = []
 
--- a push whose put stands already, and which is not finished; its next step is its last
+-- The put of a push that finishes with its next step, if it does; the put took effect already.
 abbrev pub push_ended : Push → List PutNow
 push_ended push.Idle = []
 push_ended (push.Begun limit value) = []
@@ -136,7 +138,7 @@ push_ended (push.SawRoom value write next) = []
 push_ended (push.Filled value next) = []
 push_ended (push.Pushed value answer) = record { value = value; answer = answer } ∷ []
 
--- a pop or look whose take stands already; its next step is its last
+-- The result of a pop or a look that finishes with its next step, if it does; the call took effect already.
 abbrev pub pop_ended : Pop → List PopAnswer
 pop_ended pop.Idle = []
 pop_ended pop.Begun = []
@@ -148,11 +150,11 @@ pop_ended pop.LookBegun = []
 pop_ended (pop.LookRead seen) = []
 pop_ended (pop.Looked some) = Saw some ∷ []
 
--- the number of cells of a ring: at least one, which is never used where nothing may wait
+-- The number of cells of a ring: at least one, which is never used if the limit is 0.
 abbrev pub cells_of : ℕ → ℕ
 cells_of limit = if nat_lt 0 limit then limit else 1
 
--- what a push knows at each stage
+-- What is known of a push at each stage.
 abbrev pub PushKnows : ℕ → RingWords → List ℕ → Push → Type 0
 PushKnows limit words q push.Idle = Unit {0}
 PushKnows limit words q (push.Begun l value) = l ≡ limit
@@ -164,7 +166,7 @@ PushKnows limit words q (push.Filled value next) =
     × (slice_index words.cells (words.write % length words.cells) ≡ value)
 PushKnows limit words q (push.Pushed value answer) = Unit {0}
 
--- what a pop knows at each stage
+-- What is known of a pop or a look at each stage.
 abbrev pub PopKnows : ℕ → List ℕ → Pop → Type 0
 PopKnows read q pop.Idle = Unit {0}
 PopKnows read q pop.Begun = Unit {0}
@@ -176,7 +178,7 @@ PopKnows read q pop.LookBegun = Unit {0}
 PopKnows read q (pop.LookRead seen) = seen ≡ read
 PopKnows read q (pop.Looked some) = Unit {0}
 
--- the words, the list that waits by the order so far, and the stages fit together
+-- The words, the waiting list according to the order so far, and the stages of both ends are consistent.
 pub record Shape (limit : ℕ) (words : RingWords) (q : List ℕ) (push : Push) (pop : Pop) : Type 0 where
   pub small : limit < 2 ^ 62
   pub some : 0 < length words.cells

@@ -1,16 +1,16 @@
--- What the answer of a step counts for.
+-- The outcome of a step.
 use Rattle.std.specs.Prelude.{ℕ, Bool, true, false}
 use Rattle.iox_queues_steps.specs.declared.schedule.Stepped.{Stepped}
 use Rattle.iox_queues_steps.specs.declared.schedule.Stepped.TheVariants.{Went, Finished, Skipped, NoMemory}
 
--- how many steps were made
+-- How many steps were made: 1 or 0.
 abbrev pub count_of : Stepped → ℕ
 count_of Went = 1
 count_of Finished = 1
 count_of Skipped = 0
 count_of NoMemory = 0
 
--- the step fitted, but found no memory
+-- Whether the step was possible, but memory for recording it ran out.
 abbrev pub is_stopped_of : Stepped → Bool
 is_stopped_of Went = false
 is_stopped_of Finished = false

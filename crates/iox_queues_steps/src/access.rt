@@ -1,6 +1,6 @@
 //! The shared words of a ring, and the accesses to them.
 //!
-//! One access reads or changes at most one word.
+//! One access reads or changes at most one shared word.
 ghost use Rattle.std.specs.Prelude.{◌≡◌, ◌<◌, ◌≤◌, ◌%◌, ◌^◌, length, set, slice_index, if◌then◌else◌, ◌==◌};
 ghost use Rattle.iox_queues_steps.specs.Access.{RingWords, word_of, after_store, answer_of, after_access};
 
@@ -9,28 +9,28 @@ use std::marker::Model;
 /// A shared word of a ring.
 #[derive(Clone, Copy)]
 pub enum Word {
-    /// How many numbers were put so far: the position of the next one.
+    /// How many numbers were put so far, which is the position of the next one.
     Write,
-    /// How many numbers left so far: the position of the oldest one that waits.
+    /// How many numbers were taken or overflowed so far, which is the position of the oldest waiting number.
     Read,
     /// The cell of the number at this position.
     Cell(u64),
 }
 
-/// What a step does with the shared words.
+/// The access that a step makes to the shared words.
 #[derive(Clone, Copy)]
 pub enum Access {
-    /// Reads the word; the answer is what it holds.
+    /// Reads the word; the result is its content.
     Load(Word),
-    /// Writes the number into the word; the answer is 0.
+    /// Writes the number into the word; the result is 0.
     Store(Word, u64),
-    /// Writes the second number if the word holds the first; the answer is what it held before.
+    /// Writes the second number if the word holds the first; the result is the content before.
     Exchange(Word, u64, u64),
-    /// Touches no shared word; the answer is 0.
+    /// Accesses no shared word; the result is 0.
     Local,
 }
 
-/// The words of a ring: two positions, and cells that the positions go round.
+/// The words of a ring: two positions, and the cells, which the positions address modulo their number.
 #[derive(Drop)]
 pub struct Ring {
     cells: Vec<u64>,
@@ -54,7 +54,7 @@ impl Ring {
         Ring { cells, write, read }
     }
 
-    /// What the word holds.
+    /// The content of the word.
     pub fn word(&self, word: Word) -> u64
         requires { 0 < length self.now.cells }
         ensures { result ≡ word_of self.now word }
@@ -94,7 +94,7 @@ impl Ring {
         }
     }
 
-    /// Makes the access, and gives its answer.
+    /// Makes the access, and returns its result.
     pub fn apply(&mut self, access: Access) -> u64
         requires { 0 < length self.old.cells }
         ensures answer { result ≡ answer_of self.old access }

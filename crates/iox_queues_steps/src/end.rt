@@ -1,46 +1,46 @@
-//! An end of a structure, which asks for one access after the other, and the words that answer.
+//! A call on a shared structure, which requests one access after another, and the memory that performs them.
 ghost use Rattle.std.specs.Prelude.{◌≡◌, ℕ, Bool, List, [], length, false};
 ghost use Rattle.iox_queues_steps.specs.Runs.{Runs};
 ghost use Rattle.iox_queues_steps.specs.declared.access.Access.{Access};
 
 use crate::access::Access;
 
-/// A call that goes on one access at a time.
+/// A call that proceeds one access at a time.
 pub trait End: Copy {
-    // the access that comes next
+    // the next access of the call
     ghost asks: { Self → Access };
 
-    // the call after the answer of that access
+    // the call after it received the result of that access
     ghost takes: { Self → ℕ → Self };
 
-    // the call was answered
+    // whether the call is finished
     ghost over: { Self → Bool };
 
-    /// The access that comes next.
+    /// The next access of the call.
     fn next(&self) -> Access
         ensures { result ≡ asks self.now };
 
-    /// The call after the answer of that access.
+    /// The call after it received the result of that access.
     fn take(self, answer: u64) -> Self
         ensures { result ≡ takes self answer };
 
-    /// The call was answered.
+    /// Whether the call is finished.
     fn is_over(&self) -> bool
         ensures { result ≡ over self.now };
 }
 
-/// Shared words that answer accesses.
+/// A memory of shared words that performs accesses.
 pub trait Memory {
-    // the access may be answered so, which leaves the memory so
+    // the access may have this result, and leave this memory
     ghost answers: { Self → Access → ℕ → Self → Type 0 };
 
-    /// Makes the access, and gives its answer.
+    /// Makes the access, and returns its result.
     fn apply(&mut self, access: Access) -> u64
         ensures { answers self.old access result self.new };
 }
 
-/// Makes the accesses that the call asks for, one after the other, until it is answered, and at most
-/// so many.
+/// Makes the accesses that the call requests, one after another, until the call is finished, but at most `most` of them. Returns the call
+/// as it is then.
 #[inline(always)]
 pub fn run<E: End, M: Memory>(begun: E, memory: &mut M, most: u32) -> E
     ensures { (given : List ℕ) × Runs M.answers E.asks E.takes E.over given memory.old begun memory.new result

@@ -1,13 +1,13 @@
-//! Step machines: what a party asks of shared words, one access at a time, what a machine records of it, and rings by steps.
+//! Step machines: calls that access shared words one access at a time, the log of a machine, and rings that are run step by step.
 //!
 //! - [`access`]: the shared words of a ring, and the accesses to them.
-//! - [`schedule`]: what may be asked of a machine, and what it did.
+//! - [`schedule`]: the steps that a machine can be asked for, and the steps that it made.
 //! - [`order`]: the order of puts and takes, and the calls that made them.
 //! - [`log`]: what a machine records.
-//! - [`end`]: a call that asks for one access after the other, and the words that answer.
-//! - [`rings`]: rings of either kind, with their two ends, and a machine that runs them.
+//! - [`end`]: a call that requests one access after another, and the memory that performs them.
+//! - [`rings`]: rings of either kind, their two ends, and a machine that runs them.
 //!
-//! First calls, of the trait `End`. `RingMachine` makes them.
+//! First calls, through the trait `End`. A `RingMachine` makes such calls itself.
 //!
 //! ```
 //! let answer = ring.apply(push.next());

@@ -1,4 +1,4 @@
-//! What a machine records: the order of puts and takes, and each step that it made.
+//! The log of a machine: the order of puts and takes, and each step that it made.
 ghost use Rattle.std.specs.Prelude.{◌≡◌, ◌+◌, ◌<◌, ◌≤◌, ◌^◌, ◌++◌, ◌∷◌, [], OnOk, length, vec_len, vec_capacity};
 ghost use Rattle.std.specs.Option.{option_to_list};
 ghost use Rattle.iox_queues_steps.specs.Order.{at, logged, Log};
@@ -8,15 +8,19 @@ use crate::order::{Act, Placed};
 use crate::schedule::Event;
 use std::alloc::{AllocError, Global};
 
-/// The order so far, the steps so far, and how many there were.
+/// The order of puts and takes so far, the steps so far, and how many steps there were.
 #[derive(Drop)]
 pub struct Record {
+    /// The puts, takes and looks so far, each with the number of the step at which it took effect.
     pub order: Vec<Placed>,
+    /// The steps so far.
     pub events: Vec<Event>,
+    /// How many steps were made so far.
     pub moments: u64,
 }
 
 impl Record {
+    /// An empty log. It doesn't allocate.
     pub fn new(alloc: Global) -> Record
         ensures { log_of result ≡ record { order = []; events = []; moments = 0 } }
     {
@@ -27,7 +31,7 @@ impl Record {
         }
     }
 
-    /// Makes room for one more step, at which so many acts stand.
+    /// Reserves memory for one more step, at which `acts` puts, takes or looks take effect. It fails only where an allocation fails.
     pub fn reserve(&mut self, acts: usize) -> Result<(), AllocError>
         ensures same { log_of self.new ≡ log_of self.old }
         ensures room { OnOk result (HasRoom acts self.new) }
@@ -36,7 +40,7 @@ impl Record {
         self.events.reserve(1)
     }
 
-    /// Records a step, with at most two acts that stand at it.
+    /// Records a step, and at most two acts that take effect at it.
     pub fn add(&mut self, event: Event, first: Option<Act>, second: Option<Act>)
         requires room { HasRoom (length (option_to_list first) + length (option_to_list second)) self.old }
         requires few { self.old.moments < 2 ^ 63 }

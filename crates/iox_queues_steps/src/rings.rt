@@ -1,9 +1,9 @@
-//! Rings of either kind, one word at a time: their two ends, and a machine that runs them.
+//! Rings of either kind, which are accessed one word at a time: their two ends, and a machine that runs them.
 //!
-//! - [`overflowing`], [`refusing`]: the two ends of each kind, free of any ring.
+//! - [`overflowing`], [`refusing`]: the two ends of each kind, independent of any ring.
 //! - [`ends`]: an end of either kind.
-//! - [`machine`]: a ring with its two ends, which go in any order.
-//! - [`waiting`]: what one step does to the numbers that wait.
+//! - [`machine`]: a ring with its two ends, whose steps are made in any order.
+//! - [`waiting`]: what one step does to the waiting numbers.
 //!
 //! First calls:
 //!

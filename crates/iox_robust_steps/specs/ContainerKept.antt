@@ -1,4 +1,4 @@
--- What every step of a container's machine keeps.
+-- The invariant of each step of a container's machine.
 use Rattle.std.specs.Prelude.{ℕ, ◌≡◌, ◌+◌, ◌*◌, ◌^◌, ◌<◌, ◌≤◌, ◌⊎◌, true, false, Ok, Err, ◌∷◌, Option, Some, None, List, [], length}
 use Rattle.std.specs.Prelude.{slice_index, take, drop}
 use Rattle.std.specs.Global.{Vec}
@@ -38,38 +38,38 @@ use Rattle.iox_robust_steps.specs.declared.container.call.ContainerCall.TheVaria
 use Rattle.iox_robust_steps.specs.declared.state.Place.{Place}
 use Rattle.iox_robust_steps.specs.declared.state.Place.TheVariants as place
 
--- the first words of a value stand at a place
+-- The first `next` words of a value are stored at a place.
 abbrev pub IsFilled : ℕ → ℕ → List ℕ → ℕ → ℕ → List ℕ → Type 0
 IsFilled n width cells index next value =
     (j : ℕ) → j < next → slice_index cells (value_cell n width index j) ≡ slice_index value j
 
--- so it is, unless the recovery of the owner began
+-- The fact holds, unless the recovery of the owner began.
 abbrev pub UnlessLost : RobustSetState → ℕ → Type 0 → Type 0
 UnlessLost indices owner fact = is_lost owner indices.lost ≡ false → fact
 
--- the party holds the index for this owner
+-- The party holds the index for this owner.
 abbrev pub HoldsFor : RobustSetState → ℕ → ℕ → ℕ → Type 0
 HoldsFor indices party owner index =
     (place_of indices.places index ≡ place.Held party) × (slice_index indices.words.cells index ≡ owner)
 
--- where the set has an index for an addition, the party holds it, and no member is in there
+-- If the set has an index for an addition, the party holds it for the owner and no member is there, unless the owner's recovery began.
 abbrev pub HasIndex : ℕ → ℕ → ℕ → List ℕ → RobustSetState → RobustCall → Type 0
 HasIndex n party owner cells indices s = (i : ℕ) → answer_at s ≡ Some (Acquired (Ok i))
     → (i < n) × UnlessLost indices owner (HoldsFor indices party owner i × (is_shown (slice_index cells i) ≡ false))
 
--- the number names an owner, whose recovery began
+-- The number is a valid owner, whose recovery began.
 abbrev pub IsLostOwner : RobustSetState → ℕ → Type 0
 IsLostOwner indices owner = IsOwner owner × (is_lost owner indices.lost ≡ true)
 
--- the cell of an index names this owner, or shows that it is about to take the index
+-- The cell of an index names this owner, or shows that the owner is about to take the index.
 abbrev pub IsOf : ℕ → ℕ → Type 0
 IsOf owner cell = (cell ≡ owner) ⊎ (cell ≡ reserved owner)
 
--- the set's recovery is about to free this index, where it saw the owner
+-- The set's recovery is about to free this index, in whose cell it read the owner.
 abbrev pub IsToFree : ℕ → ℕ → ReleaseMode → ℕ → RobustCall → Type 0
 IsToFree owner number mode i s = (x : ℕ) × (s ≡ set_stage.Clear owner number mode i x) × IsOf owner x
 
--- the member of an addition that isn't refused is in, where the party holds the index, unless the recovery of the owner began
+-- After an addition that wasn't refused, the member is in the container and the party holds its index, unless the owner's recovery began.
 abbrev pub IsInStill : RobustSetState → List ℕ → ℕ → MemberCall → MemberAnswer → Type 0
 IsInStill indices cells party (call.Add number owner) (Added (Ok index)) =
     UnlessLost indices owner (HoldsFor indices party owner index × (is_shown (slice_index cells index) ≡ true))
@@ -80,7 +80,7 @@ IsInStill indices cells party (call.Remove owner index mode) answer = Unit {0}
 IsInStill indices cells party call.Update answer = Unit {0}
 IsInStill indices cells party (call.Recover owner number mode) answer = Unit {0}
 
--- so it was when the addition ended, after these steps
+-- When the addition finished, after these steps, its member was in the container, unless the owner's recovery began.
 abbrev pub WasIn : List ℕ → ℕ → List Event → MemberCall → MemberAnswer → Type 0
 WasIn lost party events (call.Add number owner) (Added (Ok index)) = is_lost owner lost ≡ false → IsInside party index events
 WasIn lost party events (call.Add number owner) (Added (Err why)) = Unit {0}
@@ -90,27 +90,28 @@ WasIn lost party events (call.Remove owner index mode) answer = Unit {0}
 WasIn lost party events call.Update answer = Unit {0}
 WasIn lost party events (call.Recover owner number mode) answer = Unit {0}
 
--- so of each of these calls
+-- When each of these additions finished, its member was in the container, unless the owner's recovery began.
 abbrev pub EachWasIn : List ℕ → List Event → List MemberFinished → Type 0
 EachWasIn lost events [] = Unit {0}
 EachWasIn lost events (f ∷ finished) = WasIn lost f.party (take f.last events) f.call f.answer × EachWasIn lost events finished
 
--- where a place's index is this owner's still, its count is the one that was seen, or shows no member
+-- If the place's index still is this owner's, its count is the one that was read, or shows no member.
 abbrev pub IsSeenOrOut : ℕ → ℕ → ℕ → ℕ → Type 0
 IsSeenOrOut owner cell count seen = IsOf owner cell → (count ≡ seen) ⊎ (is_shown count ≡ false)
 
--- where an index is this owner's still, or shows that it is about to take it, a member is in at the place, or a recovery took one out by
--- a step since `first`
+-- If the index still is this owner's, or the owner is about to take it, a member is at the place, or a recovery removed one since the step
+-- `first`.
 abbrev pub HasShown : RobustSetState → List ℕ → ℕ → List Event → ℕ → ℕ → Type 0
 HasShown indices cells first events owner i = IsOf owner (slice_index indices.words.cells i)
     → (is_shown (slice_index cells i) ≡ true) ⊎ IsExpelledIn i (drop first events)
 
--- so of the first m indices, and the recovery of the owner began
+-- The recovery of the owner began, and each of the first `m` indices that is this owner's has a member, or a recovery removed one since the
+-- step `first`.
 abbrev pub HaveShown : RobustSetState → List ℕ → ℕ → List Event → ℕ → ℕ → Type 0
 HaveShown indices cells first events owner m =
     IsLostOwner indices owner × ((i : ℕ) → i < m → HasShown indices cells first events owner i)
 
--- so a recovery leaves each index of its owner
+-- If the call is a recovery, each index that still is its owner's has a member, or a recovery removed one since the call began.
 abbrev pub LeavesShown : RobustSetState → List ℕ → ℕ → List Event → MemberCall → Type 0
 LeavesShown indices cells first events (call.Add number owner) = Unit {0}
 LeavesShown indices cells first events (call.Remove owner index mode) = Unit {0}
@@ -118,13 +119,13 @@ LeavesShown indices cells first events call.Update = Unit {0}
 LeavesShown indices cells first events (call.Recover owner number mode) =
     HaveShown indices cells first events owner indices.capacity
 
--- so does each of these calls
+-- Each of these recoveries leaves the indices of its owner so.
 abbrev pub LeaveShown : RobustSetState → List ℕ → List Event → List MemberFinished → Type 0
 LeaveShown indices cells events [] = Unit {0}
 LeaveShown indices cells events (f ∷ finished) =
     LeavesShown indices cells f.first events f.call × LeaveShown indices cells events finished
 
--- so far as a call in hand is; a recovery that saw a member at its place has that one, too
+-- If the call in progress is a recovery, the indices that it has visited are left so, and also the one at whose place it read a member.
 abbrev pub ShownSoFar : RobustSetState → List ℕ → ℕ → List Event → ContainerCall → Type 0
 ShownSoFar indices cells first events stage.Idle = Unit {0}
 ShownSoFar indices cells first events (stage.Enter number owner) = Unit {0}
@@ -149,16 +150,16 @@ ShownSoFar indices cells first events (stage.Close owner number mode) =
     HaveShown indices cells first events owner indices.capacity
 ShownSoFar indices cells first events (stage.Done c answer) = LeavesShown indices cells first events c
 
--- what a copy has of each place before this one was so at a moment
+-- For each place below `k`, what a copy shows of the place was so at one moment since the step `first`.
 abbrev pub SawBelow : ℕ → ℕ → RingWords → ℕ → List Event → List Event → ℕ → Type 0
 SawBelow n width start first events own k = (i : ℕ) → i < k → WasSo n width start first events i (shown_at n i own)
 
--- what a copy found of the value at a place since it saw this count is there still, as long as the count is
+-- The words that a copy has loaded at a place since it read this count are still there, as long as the count hasn't changed.
 abbrev pub HasGathered : ℕ → ℕ → List ℕ → ℕ → ℕ → List ℕ → Type 0
 HasGathered n width cells place seen found =
     slice_index cells place ≡ seen → (j : ℕ) → j < length found → slice_index found j ≡ slice_index cells (value_cell n width place j)
 
--- what a call of the party knows where it stands: `own` are its steps since `first`, and s is the stage of its call on the set
+-- What is known of a party's call at its stage; `own` are its steps since `first`, and `s` is the stage of its call on the set.
 abbrev pub KnowsMember : ℕ → ℕ → List (Vec ℕ) → RingWords → List ℕ → RobustSetState → ℕ → RobustCall → ℕ → List Event → List Event
     → ContainerCall → Type 0
 KnowsMember n width values start cells indices party s first events own stage.Idle = Unit {0}
@@ -219,18 +220,19 @@ KnowsMember n width values start cells indices party s first events own (stage.C
 KnowsMember n width values start cells indices party s first events own (stage.Done c answer) =
     MemberTells n width values start 1 party first events own c answer × IsInStill indices cells party c answer
 
--- nobody holds the index
+-- Nobody holds the index.
 abbrev pub IsUnheld : List Place → ℕ → Type 0
 IsUnheld places i = (p : ℕ) → place_of places i ≡ place.Held p → ⊥
 
--- no member is in, or one of the party that holds the index
+-- No member is at the place, or one of the party that holds the index.
 abbrev pub FitsWhose : Option ℕ → ℕ → Place → Type 0
 FitsWhose None count x = is_shown count ≡ false
 FitsWhose (Some party) count x = (is_shown count ≡ true) × (x ≡ place.Held party)
 
--- where the premise holds, in a container of n places: the counts count the steps, no member is in where nobody holds the index, each
--- call in hand knows its steps, each that ended is told, and the copies saw the count of changes that was; the set's calls are those of
--- the container's; a member stays till it is taken out; each call lets pass what it answers; and that of an addition was in when it ended
+-- If fewer than 2^64 - 1 steps were made, in a container of `n` places: the counts count the steps, a place whose index nobody holds has no
+-- member, each call in progress did what its stage says, each finished call did what its result says, copies read the count of changes of
+-- their time, the set's calls are those of the container's calls, a member stays until it is removed, each call adds and removes what its
+-- result says, and the member of an addition was there when the call finished.
 pub record MembersAreSound (n : ℕ) (m : ContainerParts) : Type 0 where
   pub write : m.words.write ≡ times_counted m.events
   pub low : (i : ℕ) → i < n → slice_index m.words.cells i ≤ length m.events
@@ -249,11 +251,11 @@ pub record MembersAreSound (n : ℕ) (m : ContainerParts) : Type 0 where
   pub shown : (q : ℕ) → ShownSoFar m.indices m.words.cells (member_seat m.seats q).first m.events (member_stage m.seats q)
   pub showed : LeaveShown m.indices m.words.cells m.events m.finished
 
--- no recovery began
+-- No recovery began.
 abbrev pub HasNoneLost : ContainerParts → Type 0
 HasNoneLost m = m.indices.lost ≡ []
 
--- what stands however many steps were made, and what stands where the premise holds
+-- The invariant: what holds after any number of steps, and what holds after fewer than 2^64 - 1 of them.
 pub record MembersAreKept (m : ContainerParts) : Type 0 where
   pub indices : IsKept m.indices
   pub few : length m.indices.events ≤ length m.events
@@ -266,26 +268,23 @@ pub record MembersAreKept (m : ContainerParts) : Type 0 where
   pub sound : HasFewMoves m → MembersAreSound m.indices.capacity m
   pub calm : HasFewMoves m → HasNoneLost m → IsCalm m.events
 
--- what every list of steps keeps where no recovery began: a member stays, with its value, till the party that put it in takes it out; the
--- count of a place says whose member is in, and that party holds the index; and a copy shows each member that is in at each moment of it,
--- with the value that it has then
+-- If no recovery began, a member stays, with its value, until the party that added it removes it; the count of a place says whose member is
+-- there, and that party holds the index; and a copy shows each member that is there at each moment of the copy, with its value.
 pub record MembersStay (m : ContainerParts) : Type 0 where
   pub stays : (i : ℕ) → i < m.indices.capacity → StaysTillTakenOut m.indices.capacity (width_of m) i None m.events
   pub whose : (i : ℕ) → i < m.indices.capacity
       → ShowsWhose i (whose_after i None m.events) (slice_index m.words.cells i) m.indices.events
   pub shows : EachShowsWhoStays m.indices.capacity (width_of m) (empty_words m.indices.capacity (width_of m)) m.events m.finished
 
--- what every list of steps keeps, whoever is recovered: of the set of indices all that its own machine keeps; what its answer says of each
--- call that ended; a party's calls on the set are those of its additions, removals and recoveries, whose answers they are; a member is in
--- only where a party holds the index, so none is in where the set is locked; a member stays, with its value, till the party that put it in
--- takes it out, or a recovery does, and the count of a place says whose member is in; a copy shows each member that is in at each moment
--- of it, with the value that it has then; each call lets pass by its own steps just what it answers; an addition and a removal have a step
--- of their own up to which the member isn't in, or is, at each moment of the call, and is, or isn't, from then on, but for what a recovery
--- takes out; a recovery in hand stands beside that of the set, so that it goes on as the set found; after a whole recovery none of the
--- members is in that it was to take out of its owner, for good, and no index of the owner is held at which no member is in, but where a
--- recovery took one out since; and a change that began and ended since a party's last copy moved the
--- count of changes on from what that copy saw, so that the next copy doesn't answer that there was none. Where no recovery began, more
--- stands
+-- The theorem, whoever is recovered. The index set has all theorems of its own machine. Each finished call did what its result says. A
+-- party's calls on the set are those of its additions, removals and recoveries, which have their results. A member is at a place only if a
+-- party holds the index, so a locked set has no member. A member stays, with its value, until the party that added it removes it or a
+-- recovery does, and the count of a place says whose member is there. A copy shows each member that is there at each moment of the copy,
+-- with its value. By its own steps, each call adds and removes exactly what its result says. An addition and a removal take effect at one
+-- step of their own, except for what a recovery removes. A recovery in progress is at the same index as that of the set. After a finished
+-- recovery none of its selected members is there, for good, and its owner holds no index without a member, except where a recovery removed
+-- one since. A change that began and finished since a party's last copy raised the count of changes, so the party's next copy doesn't
+-- report that nothing changed. If no recovery began, more holds.
 pub record MembersAreOrderly (m : ContainerParts) : Type 0 where
   pub indices : IsOrderly m.indices
   pub told : AreMembersTold m.indices.capacity (width_of m) m.values (empty_words m.indices.capacity (width_of m)) m.events m.finished

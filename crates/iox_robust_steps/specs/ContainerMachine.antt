@@ -1,4 +1,4 @@
--- A container of members as a machine: its steps, over a set of indices that knows their holders.
+-- A container of members as a machine: its steps, over a set that knows the owner of each held index.
 use Rattle.std.specs.Prelude.{ℕ, ◌≡◌, ◌+◌, ◌-◌, ◌*◌, ◌^◌, ◌<◌, Bool, true, false, not, if◌then◌else◌, ◌==◌, ◌&&◌, nat_lt, Option, Some}
 use Rattle.std.specs.Prelude.{None}
 use Rattle.std.specs.Prelude.{List, [], ◌∷◌, ◌++◌, length, set, slice_get, replicate, drop}
@@ -32,8 +32,8 @@ use Rattle.iox_robust_steps.specs.declared.container.MemberMove.{MemberMove}
 use Rattle.iox_robust_steps.specs.declared.container.MemberMove.TheVariants.{Begin, GoOn}
 use Rattle.iox_robust_steps.specs.declared.container.state.MemberSeat.{MemberSeat}
 
--- the set of indices, the values that may be added, the shared words, where each party stands, the steps made, and the calls that
--- ended. The count of changes lies in the write position; the cells are a count for each place, the values of the places, and a spare one
+-- The state: the index set, the values that may be added, the shared words, the stage of each party, the steps made, and the finished
+-- calls. The write position stores the count of changes; the cells are a count for each place, the values of the places, and a spare one.
 pub record ContainerParts : Type 0 where
   pub indices : RobustSetState
   pub values : List (Vec ℕ)
@@ -42,29 +42,29 @@ pub record ContainerParts : Type 0 where
   pub events : List Event
   pub finished : List MemberFinished
 
--- a party between calls, whose copy is that of an empty container
+-- A party without a call in progress, whose last copy is that of an empty container.
 abbrev pub resting : MemberSeat
 resting = record { stage = stage.Idle; first = 0; saw = 0; since = 0 }
 
--- the seat of a party; where there is none, one between calls
+-- The seat of a party; a missing party is idle.
 abbrev pub member_seat_of : Option MemberSeat → MemberSeat
 member_seat_of None = resting
 member_seat_of (Some seat) = seat
 
--- where a party stands; one that is not there is between calls
+-- The seat of the party with this number; a party that doesn't exist is idle.
 abbrev pub member_seat : List MemberSeat → ℕ → MemberSeat
 member_seat seats party = member_seat_of (slice_get seats party)
 
--- the stage of a party's call
+-- The stage of the party with this number.
 abbrev pub member_stage : List MemberSeat → ℕ → ContainerCall
 member_stage seats party = (member_seat seats party).stage
 
--- how many words each value has
+-- How many words each value has.
 abbrev pub width_of : ContainerParts → ℕ
 width_of m = length (table_value m.values 0)
 
--- a member that is added has a value of as many words as the first, and an owner; one that is removed is in, and the party holds its
--- index; a recovery may begin at any time
+-- Whether a call may begin: an addition if its owner may act and its value has as many words as the first; a removal if its member is there
+-- and the party holds the index for the owner; a copy always; a recovery of any valid owner.
 abbrev pub may_call : ContainerParts → ℕ → MemberCall → Bool
 may_call m party (call.Add number owner) =
     robust.fits m.indices (set_move.Begin party (set_call.Acquire owner)) && (length (table_value m.values number) == width_of m)
@@ -73,12 +73,12 @@ may_call m party (call.Remove owner index mode) =
 may_call m party call.Update = true
 may_call m party (call.Recover owner number mode) = robust.fits m.indices (set_move.Begin party (set_call.Recover owner number mode))
 
--- a recovery that saw no member at a place insists that its index is freed
+-- The step that a recovery asks of the set: it insists on freeing the index if it saw no member at the place.
 abbrev pub asks_with : ℕ → ℕ → Move
 asks_with party seen = if is_shown seen then set_move.GoOn party else set_move.Insist party
 
--- the step that a call at this stage asks of the set fits there, if it asks one; and no member is put in or taken out for an owner whose
--- recovery began
+-- Whether the step that a call at this stage asks of the set is possible there, if it asks one; nobody adds or removes a member for an
+-- owner whose recovery began.
 abbrev pub may_ask : RobustSetState → ℕ → ContainerCall → Bool
 may_ask indices party stage.Idle = false
 may_ask indices party (stage.Enter number owner) = robust.fits indices (set_move.GoOn party)
@@ -101,24 +101,25 @@ may_ask indices party (stage.Clear owner number mode i) = robust.fits indices (s
 may_ask indices party (stage.Close owner number mode) = robust.fits indices (set_move.GoOn party)
 may_ask indices party (stage.Done c answer) = true
 
--- a begin fits a party that is there and between calls, a go on one inside a call
+-- Whether a step is possible: a begin if the party exists, is idle, and the call may begin; a next step if the party exists and the set
+-- permits its step.
 abbrev pub member_fits : ContainerParts → MemberMove → Bool
 member_fits m (Begin party c) = nat_lt party (length m.seats) && (member_is_idle (member_stage m.seats party) && may_call m party c)
 member_fits m (GoOn party) = nat_lt party (length m.seats) && may_ask m.indices party (member_stage m.seats party)
 
--- the step is the last of its call
+-- Whether the step is the last one of its call.
 abbrev pub member_ends : ContainerParts → MemberMove → Bool
 member_ends m (Begin party c) = false
 member_ends m (GoOn party) = member_is_over (member_stage m.seats party)
 
--- the set after a party began a call: an addition asks it for an index
+-- The set after a party began a call: an addition begins to acquire an index.
 abbrev pub asked_by : RobustSetState → ℕ → MemberCall → RobustSetState
 asked_by indices party (call.Add number owner) = robust.begun indices party (set_call.Acquire owner)
 asked_by indices party (call.Remove owner index mode) = indices
 asked_by indices party call.Update = indices
 asked_by indices party (call.Recover owner number mode) = indices
 
--- the set after a party at this stage went on; a recovery that saw no member at a place insists that its index is freed
+-- The set after a party at this stage made its next step; a recovery that saw no member at a place insists on freeing its index.
 abbrev pub asked_at : RobustSetState → ℕ → ContainerCall → RobustSetState
 asked_at indices party stage.Idle = indices
 asked_at indices party (stage.Enter number owner) = robust.went indices party false
@@ -141,7 +142,7 @@ asked_at indices party (stage.Clear owner number mode i) = robust.went indices p
 asked_at indices party (stage.Close owner number mode) = robust.went indices party false
 asked_at indices party (stage.Done c answer) = indices
 
--- the machine after a begin
+-- The machine after a party begins a call.
 abbrev pub member_begins : ContainerParts → ℕ → MemberCall → ContainerParts
 member_begins m party c = record m {
   indices = asked_by m.indices party c;
@@ -149,7 +150,7 @@ member_begins m party c = record m {
   events = m.events ++ record { party = party; access = Local; answer = 0 } ∷ [];
 }
 
--- the call of a party, if its next step is its last
+-- The finished call of a party, if its next step is the last one.
 abbrev pub member_ended : ℕ → ℕ → ℕ → ContainerCall → List MemberFinished
 member_ended party first last stage.Idle = []
 member_ended party first last (stage.Enter number owner) = []
@@ -173,7 +174,7 @@ member_ended party first last (stage.Close owner number mode) = []
 member_ended party first last (stage.Done c answer) =
     record { party = party; call = c; answer = answer; first = first; last = last } ∷ []
 
--- a party at this stage looks at the count of changes, to copy
+-- Whether a party at this stage reads the count of changes in order to copy.
 abbrev pub is_look : ContainerCall → Bool
 is_look stage.Idle = false
 is_look (stage.Enter number owner) = false
@@ -196,14 +197,14 @@ is_look (stage.Clear owner number mode i) = false
 is_look (stage.Close owner number mode) = false
 is_look (stage.Done c answer) = false
 
--- a party's seat after its stage: one that copies anew knows the count of changes that it found, and the number of the step that found it
+-- A party's seat after its stage: a party that copies keeps the count of changes that it read, and the number of the step that read it.
 abbrev pub seat_after : MemberSeat → ContainerCall → ℕ → ℕ → MemberSeat
 seat_after seat next answer number =
     if is_look seat.stage && not (answer == seat.saw)
     then record { stage = next; first = seat.first; saw = answer; since = number }
     else record seat { stage = next }
 
--- the machine after a party went on
+-- The machine after a party made its next step.
 abbrev pub member_went : ContainerParts → ℕ → ContainerParts
 member_went m party = record m {
   indices = asked_at m.indices party (member_stage m.seats party);
@@ -223,28 +224,28 @@ member_went m party = record m {
   finished = m.finished ++ member_ended party (member_seat m.seats party).first (length m.events) (member_stage m.seats party);
 }
 
--- the machine after a step that fits
+-- The machine after a step that is possible.
 abbrev pub member_happens : ContainerParts → MemberMove → ContainerParts
 member_happens m (Begin party c) = member_begins m party c
 member_happens m (GoOn party) = member_went m party
 
--- what a step answers, and what it leaves
+-- The outcome of a step, and the machine after it.
 abbrev pub MemberStepsTo : ContainerParts → MemberMove → Stepped → ContainerParts → Type 0
 MemberStepsTo m step r n = StepsBy member_fits member_ends member_happens m step r n
 
--- a list of steps, of which `made` were made
+-- A list of steps of which `made` were made and the others were skipped; it may stop where memory for a possible step runs out.
 abbrev pub MemberRunsTo : ContainerParts → List MemberMove → ℕ → ContainerParts → Type 0
 MemberRunsTo m steps made n = RunsBy member_fits member_happens m steps made n
 
--- the premise of the laws: no count comes to its end, since fewer steps were made
+-- The condition of the theorems: fewer than 2^64 - 1 steps were made, so that no count reaches its end.
 abbrev pub HasFewMoves : ContainerParts → Type 0
 HasFewMoves m = length m.events < 2 ^ 64 - 1
 
--- the words of an empty container
+-- The words of an empty container.
 abbrev pub empty_words : ℕ → ℕ → RingWords
 empty_words capacity width = record { cells = replicate (capacity + (capacity * width + 1)) 0; write = 0; read = 0 }
 
--- an empty container of these values, with so many parties, and with the decisions of recoveries
+-- The machine of an empty container with these values, this many parties, and the decisions of recoveries.
 abbrev pub empty_parts : ℕ → ℕ → List (Vec ℕ) → List (Vec Bool) → ContainerParts
 empty_parts capacity parties values decisions = record {
   indices = robust.start capacity parties decisions true;
@@ -255,21 +256,21 @@ empty_parts capacity parties values decisions = record {
   finished = [];
 }
 
--- the party that a step asks
+-- The party that makes this step.
 abbrev pub asks_of : MemberMove → ℕ
 asks_of (Begin party c) = party
 asks_of (GoOn party) = party
 
--- the call that each party is in
+-- The call that each party has in progress, if any.
 abbrev pub member_hands : ContainerParts → ℕ → Option MemberCall
 member_hands m party = member_in_hand (member_stage m.seats party)
 
--- the call that a step is of: the one that it begins, or the one that was begun
+-- The call of a step: the one that it begins, or the one in progress.
 abbrev pub member_call : ContainerParts → MemberMove → Option MemberCall
 member_call m (Begin party c) = Some c
 member_call m (GoOn party) = member_hands m party
 
--- where this machine has its steps and its calls
+-- Where this machine records its steps and its calls.
 abbrev pub member_calls : CallsOf ContainerParts MemberCall MemberFinished
 member_calls = record {
   events = λ (m : ContainerParts). m.events;
@@ -279,20 +280,20 @@ member_calls = record {
   hands = member_hands;
 }
 
--- a step that was made is one event of the party that was asked, and leaves it in the call that the step is of. The last one of that
--- call leaves it in none, and ends just that call; each other party stays in its own
+-- A step that was made is one event of the requested party, and leaves this party in the step's call; the last step of the call finishes
+-- exactly that call and leaves the party in none. All other parties keep their calls.
 abbrev pub MemberTellsStep : ContainerParts → MemberMove → Stepped → ContainerParts → Type 0
 MemberTellsStep m step r n = TellsCalls ContainerParts MemberCall MemberFinished member_calls m (asks_of step) (member_call m step) r n
 
--- each step got what its word held, and they left the words as they are; the steps of each call, ended or in hand, are those that its
--- value asked for
+-- What the recorded steps say: each has the result that its word held, and they leave the words as they are now; the steps of each call,
+-- finished or in progress, are those that the call requested.
 pub record MembersAreRecorded (m : ContainerParts) : Type 0 where
   pub answered : Answered (empty_words m.indices.capacity (width_of m)) m.events m.words
   pub ended : AreMembersAsked m.indices.capacity (width_of m) m.values m.events m.finished
   pub going : (party : ℕ) → IsMemberAskedSoFar m.indices.capacity (width_of m) m.values party (member_in_hand (member_stage m.seats party))
       (member_stage m.seats party) (own party (drop (member_seat m.seats party).first m.events))
 
--- a call copies, or did
+-- Whether the call is copying, or has copied.
 abbrev pub is_copy : ContainerCall → Bool
 is_copy stage.Idle = false
 is_copy (stage.Enter number owner) = false
@@ -317,20 +318,20 @@ is_copy (stage.Done c (Added got)) = false
 is_copy (stage.Done c (Removed state)) = false
 is_copy (stage.Done c (Updated copied)) = copied
 
--- a party's last copy stays the last one: what it saw of the count of changes, and the number of the step that saw it
+-- A party's last copy stays the same: the count of changes that it read, and the number of the step that read it.
 abbrev pub KeepsCopy : ContainerParts → ContainerParts → ℕ → Type 0
 KeepsCopy m n q =
     ((member_seat n.seats q).saw ≡ (member_seat m.seats q).saw) × ((member_seat n.seats q).since ≡ (member_seat m.seats q).since)
 
--- a party looked at the count of changes: where that isn't what its last copy saw, it copies, and this copy is its last one from then
--- on; else it answers that nothing changed
+-- A party read the count of changes: if it differs from what its last copy read, the party copies, and this copy is its last one from now
+-- on; else the call reports that nothing changed.
 pub record LooksForNews (m n : ContainerParts) (party : ℕ) : Type 0 where
   pub news : (m.words.write ≡ (member_seat m.seats party).saw → ⊥) → (is_copy (member_stage n.seats party) ≡ true)
       × ((member_seat n.seats party).saw ≡ m.words.write) × ((member_seat n.seats party).since ≡ length m.events)
   pub none : m.words.write ≡ (member_seat m.seats party).saw
       → (member_stage n.seats party ≡ stage.Done call.Update (Updated false)) × KeepsCopy m n party
 
--- a step that looks so does that, and any other one leaves each party its last copy
+-- A step that reads the count of changes in order to copy does that, and any other step leaves each party its last copy.
 abbrev pub MindsCopies : ContainerParts → MemberMove → Stepped → ContainerParts → Type 0
 MindsCopies m (Begin party c) r n = (q : ℕ) → KeepsCopy m n q
 MindsCopies m (GoOn party) stepped.Went n =

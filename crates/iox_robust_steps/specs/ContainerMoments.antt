@@ -1,4 +1,4 @@
--- The moment at which a member comes in or goes out: a step of its party's own, inside its call, whoever is recovered.
+-- The moment at which a member is added or removed: a step of its party within its call, whoever is recovered.
 use Rattle.std.specs.Prelude.{ℕ, ◌≡◌, ◌<◌, ◌≤◌, ◌⊎◌, Bool, true, false, ◌==◌, ◌&&◌, Ok, Err, None, List, [], ◌∷◌, ◌++◌}
 use Rattle.std.specs.Prelude.{length, slice_index, take}
 use Rattle.std.specs.Global.{Vec}
@@ -19,26 +19,26 @@ use Rattle.iox_robust_steps.specs.declared.container.call.MemberCall.{MemberCall
 use Rattle.iox_robust_steps.specs.declared.container.call.MemberCall.TheVariants as call
 use Rattle.iox_robust_steps.specs.declared.container.MemberFinished.{MemberFinished}
 
--- after these steps a member of the party is in at the place, and the count of the place shows it
+-- After these steps a member of the party is at the place, and the count of the place shows it.
 pub record IsIn (start : RingWords) (party place : ℕ) (events : List Event) : Type 0 where
   pub its : IsInside party place events
   pub shown : is_shown (slice_index (words_after start events).cells place) ≡ true
 
--- so with just this value
+-- After these steps a member of the party is at the place, with exactly this value.
 pub record IsInWith (n width : ℕ) (start : RingWords) (party place : ℕ) (value : List ℕ) (events : List Event) : Type 0 where
   pub is_in : IsIn start party place events
   pub has : (j : ℕ) → j < width
       → slice_index (words_after start events).cells (value_cell n width place j) ≡ slice_index value j
 
--- after these steps no member of the party is in at the place
+-- After these steps no member of the party is at the place.
 abbrev pub IsNotIn : ℕ → ℕ → List Event → Type 0
 IsNotIn party place events = IsInside party place events → ⊥
 
--- it is so after some steps, and at each moment of those behind them
+-- The fact holds after the steps `earlier`, and at each moment of the steps behind them.
 abbrev pub IsSoFrom : (List Event → Type 0) → List Event → List Event → Type 0
 IsSoFrom IsSo earlier later = (steps rest : List Event) → later ≡ steps ++ rest → IsSo (earlier ++ steps)
 
--- a step with its answer takes the member out that is in at the place, as recoveries alone do: its exchange of the count is won
+-- Whether a step removes the member at the place as only recoveries do: its exchange of the count succeeds.
 abbrev pub expels : ℕ → Access → ℕ → Bool
 expels place (Load word) answer = false
 expels place (Store word value) answer = false
@@ -47,14 +47,15 @@ expels place (Exchange Read old new) answer = false
 expels place (Exchange (Cell cell) old new) answer = (cell == place) && (answer == old)
 expels place Local answer = false
 
--- by one of these steps a recovery takes the member out that is in at the place
+-- By one of these steps a recovery removes the member at the place.
 abbrev pub IsExpelledIn : ℕ → List Event → Type 0
 IsExpelledIn place [] = ⊥
 IsExpelledIn place (event ∷ events) = (expels place event.access event.answer ≡ true) ⊎ IsExpelledIn place events
 
--- the moment of an addition, which the party began with the step `first`, is a step of its own: nobody's member is in at the place before
--- it, and none of the party is at any moment of the call up to it, but one that a recovery takes out in time; from then on its member is
--- in at each one, with just this value, till a recovery takes it out; and till these steps end none does, unless the owner is lost
+-- An addition, which the party began with the step `first`, takes effect at one step of its party. Before this step nobody's member is at
+-- the place, and at no moment of the call is one of the party there, except one that a recovery removes before this step. After this step
+-- its member is there at each moment, with exactly this value, until a recovery removes it; and no recovery does until these steps end,
+-- unless the owner's recovery began.
 pub record AddsAt (n width : ℕ) (start : RingWords) (gone : Bool) (party first : ℕ) (events : List Event) (place : ℕ) (value : List ℕ)
     : Type 0 where
   pub earlier : List Event
@@ -70,8 +71,8 @@ pub record AddsAt (n width : ℕ) (start : RingWords) (gone : Bool) (party first
       → IsInWith n width start party place value ((earlier ++ moment ∷ []) ++ steps) ⊎ IsExpelledIn place steps
   pub till_end : gone ≡ false → IsExpelledIn place later → ⊥
 
--- the moment of a removal is a step of the party's own, too: up to it the party's member is in at each moment of the call, and from then on
--- none of the party is in at the place at any one
+-- A removal takes effect at one step of its party. Before this step the party's member is at the place at each moment of the call, and
+-- after it no member of the party is there at any moment.
 pub record RemovesAt (start : RingWords) (party first : ℕ) (events : List Event) (place : ℕ) : Type 0 where
   pub earlier : List Event
   pub moment : Event
@@ -82,7 +83,7 @@ pub record RemovesAt (start : RingWords) (party first : ℕ) (events : List Even
   pub till_then : IsSoUpTo (IsIn start party place) first earlier
   pub no_more : IsSoFrom (IsNotIn party place) (earlier ++ moment ∷ []) later
 
--- the moment of a call with this answer, if it has one: an addition that isn't refused has, and a removal
+-- The moment of a call with this result: an addition that isn't refused has one, and a removal has one.
 abbrev pub MomentOf : ℕ → ℕ → List (Vec ℕ) → RingWords → List ℕ → ℕ → ℕ → List Event → MemberCall → MemberAnswer → Type 0
 MomentOf n width values start lost party first events (call.Add number owner) (Added (Ok index)) =
     AddsAt n width start (is_lost owner lost) party first events index (table_value values number)
@@ -96,7 +97,7 @@ MomentOf n width values start lost party first events (call.Remove owner index m
 MomentOf n width values start lost party first events call.Update answer = Unit {0}
 MomentOf n width values start lost party first events (call.Recover owner number mode) answer = Unit {0}
 
--- so of each call that ended, among the steps before its last one
+-- Each finished call has its moment, among the steps before its last one.
 abbrev pub EachHasItsMoment : ℕ → ℕ → List (Vec ℕ) → RingWords → List ℕ → List Event → List MemberFinished → Type 0
 EachHasItsMoment n width values start lost events [] = Unit {0}
 EachHasItsMoment n width values start lost events (f ∷ finished) =

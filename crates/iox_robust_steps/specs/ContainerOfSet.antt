@@ -1,4 +1,4 @@
--- How the calls on a container and those on its set of indices belong together.
+-- How the calls on a container and those on its index set belong together.
 use Rattle.std.specs.Prelude.{ℕ, ◌≡◌, Bool, if◌then◌else◌, ◌==◌, Ok, List, [], ◌∷◌, ◌++◌, take, drop}
 use Rattle.iox_queues.specs.Told.{own}
 use Rattle.iox_queues.specs.declared.bits.machine.Event.{Event}
@@ -18,13 +18,13 @@ use Rattle.iox_robust_steps.specs.declared.container.call.MemberCall.TheVariants
 use Rattle.iox_robust_steps.specs.declared.container.MemberFinished.{MemberFinished}
 use Rattle.iox_robust_steps.specs.declared.machine.Finished.{Finished}
 
--- a call on the set of indices, and what it answered
+-- A call on the index set, with its result.
 pub record AnsweredCall : Type 0 where
   pub call : Call
   pub answer : Answer
 
--- the call on the set that gave a call on the container its answer: an addition acquires an index for its owner, a removal releases that
--- of its member in its mode, and a recovery recovers the indices of its owner; a copy asks the set for nothing
+-- The call on the set that gave a call on the container its result: an addition acquires an index for its owner, a removal releases its
+-- member's index in its mode, and a recovery recovers the indices of its owner; a copy makes no call on the set.
 abbrev pub asks_set : MemberCall → MemberAnswer → List AnsweredCall
 asks_set (call.Add number owner) (Added got) = record { call = set_call.Acquire owner; answer = Acquired got } ∷ []
 asks_set (call.Add number owner) (Removed state) = []
@@ -39,7 +39,7 @@ asks_set (call.Recover owner number mode) (Removed state) =
     record { call = set_call.Recover owner number mode; answer = Settled state } ∷ []
 asks_set (call.Recover owner number mode) (Updated copied) = []
 
--- the call on the set that gave a call in hand its answer, as soon as it did
+-- The call on the set that gave a call in progress its result, once the set has returned it.
 abbrev pub asked_so_far : ContainerCall → List AnsweredCall
 asked_so_far stage.Idle = []
 asked_so_far (stage.Enter number owner) = []
@@ -62,23 +62,24 @@ asked_so_far (stage.Clear owner number mode i) = []
 asked_so_far (stage.Close owner number mode) = []
 asked_so_far (stage.Done c answer) = asks_set c answer
 
--- the calls on the set that gave those of a party's calls on the container their answers that ended, in their order
+-- The calls on the set that gave a party's finished calls on the container their results, in their order.
 abbrev pub asked_for : ℕ → List MemberFinished → List AnsweredCall
 asked_for party [] = []
 asked_for party (f ∷ finished) = (if f.party == party then asks_set f.call f.answer else []) ++ asked_for party finished
 
--- a party's calls on the set that ended, in their order
+-- A party's finished calls on the set, in their order.
 abbrev pub answered_to : ℕ → List Finished → List AnsweredCall
 answered_to party [] = []
 answered_to party (f ∷ finished) =
     (if f.party == party then record { call = f.call; answer = f.answer } ∷ [] else []) ++ answered_to party finished
 
--- a party's calls on the set that ended are just those of its additions, removals and recoveries, in their order and with their answers:
--- of those that ended, and of the one in hand, as soon as the set answered it
+-- A party's finished calls on the set are exactly those of its additions, removals and recoveries, in their order and with their results:
+-- of the finished ones, and of the one in progress once the set has returned its result.
 abbrev pub AsksSet : ContainerParts → ℕ → Type 0
 AsksSet m party = answered_to party m.indices.finished ≡ asked_for party m.finished ++ asked_so_far (member_stage m.seats party)
 
--- among these calls on the set of n indices, which ended by these steps, is this one of the party, so answered: its own steps say so
+-- Among these finished calls on the set of `n` indices is this call of the party with this result, and its own steps did what the result
+-- says.
 pub record IsAnswered (n : ℕ) (locked : Bool) (events : List Event) (finished : List Finished) (party : ℕ) (c : Call) (a : Answer) : Type 0
   where
     pub before : List Finished
@@ -90,13 +91,13 @@ pub record IsAnswered (n : ℕ) (locked : Bool) (events : List Event) (finished 
     pub so : ended.answer ≡ a
     pub tells : Tells n locked (own party (drop ended.first (take ended.last events))) c a
 
--- so of this call on the set of indices
+-- Among the set's finished calls is this call of the party with this result, and its own steps did what the result says.
 abbrev pub SetAnswered : RobustSetState → ℕ → Call → Answer → Type 0
 SetAnswered m party c a = IsAnswered m.capacity (is_locked m) m.events m.finished party c a
 
--- why a call on a container was answered so: its call on the set was, whose steps say why. So an addition is out of indices only where
--- it saw the cell of each index filled, and refused as locked only where the set is locked; a removal in the default mode answers that
--- the set isn't locked, and one that is to lock it that it is, where it is, or that it isn't, where it saw another index
+-- The reason of a call's result: its call on the set has that result, and did what it says. So an addition is out of indices only if it saw
+-- the cell of each index filled, and is refused as locked only if the set is locked. A removal in the default mode returns that the set
+-- isn't locked; a removal that is to lock returns that it is locked, which is so, or that it isn't, if it saw another index held.
 abbrev pub HasReason : RobustSetState → ℕ → MemberCall → MemberAnswer → Type 0
 HasReason set party (call.Add number owner) (Added got) = SetAnswered set party (set_call.Acquire owner) (Acquired got)
 HasReason set party (call.Add number owner) (Removed state) = Unit {0}
@@ -111,7 +112,7 @@ HasReason set party (call.Recover owner number mode) (Removed state) =
     SetAnswered set party (set_call.Recover owner number mode) (Settled state)
 HasReason set party (call.Recover owner number mode) (Updated copied) = Unit {0}
 
--- so of each of these calls
+-- Each of these calls has such a reason.
 abbrev pub HaveReasons : RobustSetState → List MemberFinished → Type 0
 HaveReasons set [] = Unit {0}
 HaveReasons set (f ∷ finished) = HasReason set f.party f.call f.answer × HaveReasons set finished

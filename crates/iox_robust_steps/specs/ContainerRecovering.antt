@@ -18,7 +18,7 @@ use Rattle.iox_robust_steps.specs.declared.container.call.MemberCall.TheVariants
 use Rattle.iox_robust_steps.specs.declared.container.MemberFinished.{MemberFinished}
 use Rattle.iox_robust_steps.specs.declared.container.MemberMove.{MemberMove}
 
--- a step that exchanges no count
+-- The step doesn't exchange a cell.
 abbrev pub IsCalmAccess : Access → Type 0
 IsCalmAccess (Load word) = Unit {0}
 IsCalmAccess (Store word value) = Unit {0}
@@ -27,26 +27,26 @@ IsCalmAccess (Exchange Read old new) = Unit {0}
 IsCalmAccess (Exchange (Cell cell) old new) = ⊥
 IsCalmAccess Local = Unit {0}
 
--- so of each of these steps
+-- None of these steps exchanges a cell.
 abbrev pub IsCalm : List Event → Type 0
 IsCalm [] = Unit {0}
 IsCalm (event ∷ events) = IsCalmAccess event.access × IsCalm events
 
--- a recovery takes the member at a place out: that was decided, a member was in, the set's cell of its index named its owner, and none is
--- in now
+-- A recovery removes the member at a place: the decisions select it, a member was there, the set's cell of its index named the owner, and
+-- no member is there now.
 pub record TakesOut (indices : RobustSetState) (cells cells' : List ℕ) (owner number i : ℕ) : Type 0 where
   pub wanted : decided indices.decisions number i ≡ true
   pub in_before : is_shown (slice_index cells i) ≡ true
   pub owned : slice_index indices.words.cells i ≡ owner
   pub out : is_shown (slice_index cells' i) ≡ false
 
--- a step of a recovery leaves the count of each of n places, or takes its member out, and leaves each word of a value
+-- A step of a recovery leaves the count of each of `n` places unchanged or removes its member, and leaves each word of a value unchanged.
 pub record RecoversMembersSo (n width : ℕ) (indices : RobustSetState) (cells cells' : List ℕ) (owner number : ℕ) : Type 0 where
   pub each : (i : ℕ) → i < n → (slice_index cells' i ≡ slice_index cells i) ⊎ TakesOut indices cells cells' owner number i
   pub values : (i j : ℕ) → i < n → j < width
       → slice_index cells' (value_cell n width i j) ≡ slice_index cells (value_cell n width i j)
 
--- so does a step of this call, if it is a recovery; the steps of any other call that were added exchange no count
+-- If the call is a recovery, its step does that; the steps of any other call exchange no count.
 abbrev pub IfRecoversMembers : ℕ → ℕ → RobustSetState → List ℕ → List ℕ → List Event → Option MemberCall → Type 0
 IfRecoversMembers n width indices cells cells' added None = IsCalm added
 IfRecoversMembers n width indices cells cells' added (Some (call.Add number owner)) = IsCalm added
@@ -55,13 +55,13 @@ IfRecoversMembers n width indices cells cells' added (Some call.Update) = IsCalm
 IfRecoversMembers n width indices cells cells' added (Some (call.Recover owner number mode)) =
     RecoversMembersSo n width indices cells cells' owner number
 
--- each step of a recovery takes out a member that it was to take out of its owner, or none, and changes no other one; and only a recovery
--- exchanges the count of a place
+-- Each step of a recovery removes one selected member of its owner, or none, and changes no other member; and only a recovery exchanges the
+-- count of a place.
 abbrev pub TakesOutOnlyItsOwn : ContainerParts → MemberMove → ContainerParts → Type 0
 TakesOutOnlyItsOwn m step n = IfRecoversMembers m.indices.capacity (width_of m) m.indices m.words.cells n.words.cells
     (drop (length m.events) n.events) (member_call m step)
 
--- a call on the set that frees nothing any more
+-- Whether a call on the set has no more indices to free.
 abbrev pub is_settling : RobustCall → Bool
 is_settling set_stage.Idle = false
 is_settling (set_stage.Acquire owner) = false
@@ -77,8 +77,8 @@ is_settling (set_stage.Scan c i count) = true
 is_settling (set_stage.Lock c count) = true
 is_settling (set_stage.Done c answer) = true
 
--- a recovery that looks at a place, or is to take its member out or to free its index, stands beside that of the set, which looks whose
--- that index is, or is to free it; and one that went over each place stands beside one that frees nothing any more
+-- A recovery that visits a place is beside the set's recovery, which reads the owner of the place's index or is about to free it; a
+-- recovery that has visited each place is beside one that has no more indices to free.
 abbrev pub StandsBeside : ContainerCall → RobustCall → Type 0
 StandsBeside stage.Idle s = Unit {0}
 StandsBeside (stage.Enter number owner) s = Unit {0}
@@ -101,7 +101,7 @@ StandsBeside (stage.Clear owner number mode i) s = (x : ℕ) × (s ≡ set_stage
 StandsBeside (stage.Close owner number mode) s = (call_in_hand s ≡ Some (set_call.Recover owner number mode)) × (is_settling s ≡ true)
 StandsBeside (stage.Done c answer) s = Unit {0}
 
--- after a recovery none of the members is in that it was to take out: where one is in, the set's cell doesn't name that owner
+-- After a recovery none of its selected members is there: where a selected place has a member, the set's cell doesn't name the owner.
 abbrev pub LeavesNone : RobustSetState → List ℕ → MemberCall → Type 0
 LeavesNone indices cells (call.Add number owner) = Unit {0}
 LeavesNone indices cells (call.Remove owner index mode) = Unit {0}
@@ -110,7 +110,7 @@ LeavesNone indices cells (call.Recover owner number mode) =
     (i : ℕ) → i < indices.capacity → decided indices.decisions number i ≡ true → is_shown (slice_index cells i) ≡ true
     → slice_index indices.words.cells i ≡ owner → ⊥
 
--- so of each of these calls
+-- Each of these recoveries leaves none of its selected members.
 abbrev pub LeaveNone : RobustSetState → List ℕ → List MemberFinished → Type 0
 LeaveNone indices cells [] = Unit {0}
 LeaveNone indices cells (f ∷ finished) = LeavesNone indices cells f.call × LeaveNone indices cells finished

@@ -1,4 +1,4 @@
--- How long a member stays in a container: till the party that put it in takes it out, by a removal.
+-- How long a member stays in a container without recoveries: until the party that added it removes it.
 use Rattle.std.specs.Prelude.{ℕ, ◌≡◌, ◌+◌, ◌*◌, ◌<◌, Bool, true, false, if◌then◌else◌, ◌==◌, nat_lt, Ok, Err, Option, Some, None, List, []}
 use Rattle.std.specs.Prelude.{◌∷◌, ◌++◌, take, drop}
 use Rattle.iox_queues_steps.specs.declared.access.Word.TheVariants.{Write, Read, Cell}
@@ -19,7 +19,7 @@ use Rattle.iox_robust_steps.specs.declared.container.call.MemberCall.TheVariants
 use Rattle.iox_robust_steps.specs.declared.container.MemberFinished.{MemberFinished}
 use Rattle.iox_robust_steps.specs.declared.container.state.MemberSeat.{MemberSeat}
 
--- whose member is in at a place, after a step: one that stores the count of the place puts a member of its party in, or takes one out
+-- The party whose member is at a place, after this access: a store of the place's count adds a member of its own party, or removes one.
 abbrev pub stored_by : ℕ → ℕ → Access → Option ℕ → Option ℕ
 stored_by place party (Load word) now = now
 stored_by place party (Store Write value) now = now
@@ -29,20 +29,20 @@ stored_by place party (Store (Cell cell) value) now =
 stored_by place party (Exchange word old new) now = now
 stored_by place party Local now = now
 
--- the same after some more steps
+-- The party whose member is at a place, after these further steps.
 abbrev pub whose_after : ℕ → Option ℕ → List Event → Option ℕ
 whose_after place now [] = now
 whose_after place now (event ∷ events) = whose_after place (stored_by place event.party event.access now) events
 
--- a number may be stored in a cell, where no member is in at a place, or one of a party: none is taken out where none is in, only its
--- own party takes a member out, none comes in over another one, and no word of the value of a member that is in is stored
+-- A store is permitted while no member, or one of a party, is at the place: it doesn't remove a member where none is, only the member's own
+-- party removes it, no member is added over another one, and no word of the value of a member that is there is stored.
 abbrev pub MayBeStored : ℕ → ℕ → ℕ → Option ℕ → ℕ → ℕ → ℕ → Type 0
 MayBeStored n width place None party cell value = cell ≡ place → is_shown value ≡ true
 MayBeStored n width place (Some owner) party cell value =
     (cell ≡ place → (party ≡ owner) × (is_shown value ≡ false))
     × ((j : ℕ) → j < width → cell ≡ value_cell n width place j → ⊥)
 
--- so of a step of a party, which stores the count of a place or a word of the value of one; no step exchanges a cell
+-- A step of a party is permitted: it stores the count of a place or a word of a value as permitted, and it doesn't exchange a cell.
 abbrev pub MayBeMade : ℕ → ℕ → ℕ → Option ℕ → ℕ → Access → Type 0
 MayBeMade n width place now party (Load word) = Unit {0}
 MayBeMade n width place now party (Store Write value) = Unit {0}
@@ -53,25 +53,25 @@ MayBeMade n width place now party (Exchange Read old new) = Unit {0}
 MayBeMade n width place now party (Exchange (Cell cell) old new) = ⊥
 MayBeMade n width place now party Local = Unit {0}
 
--- a member stays at a place, with the words of its value, till the party that put it in takes it out; and none comes in over it
+-- A member stays at a place, with the words of its value, until the party that added it removes it, and no member is added over it.
 abbrev pub StaysTillTakenOut : ℕ → ℕ → ℕ → Option ℕ → List Event → Type 0
 StaysTillTakenOut n width place now [] = Unit {0}
 StaysTillTakenOut n width place now (event ∷ events) =
     MayBeMade n width place now event.party event.access
     × StaysTillTakenOut n width place (stored_by place event.party event.access now) events
 
--- what the count of a place shows: that no member is in, or the one of this party, which holds the index by these steps of the set
+-- What the count of a place shows: no member is there, or the one of this party, which holds the index according to these steps of the set.
 abbrev pub ShowsWhose : ℕ → Option ℕ → ℕ → List Event → Type 0
 ShowsWhose place None count events = is_shown count ≡ false
 ShowsWhose place (Some party) count events = (is_shown count ≡ true) × Holds party place events
 
--- a member passes at a place: it comes in, or goes out
+-- A member is added or removed at a place.
 pub record Passing : Type 0 where
   pub place : ℕ
   pub comes_in : Bool
 
--- what a step lets pass at one of n places by storing the count of the place: a member is in then or none is. What a recovery takes out,
--- by an exchange, isn't told here
+-- What a step adds or removes at one of `n` places by storing the place's count; what a recovery removes, by an exchange, isn't listed
+-- here.
 abbrev pub passed_by : ℕ → Access → List Passing
 passed_by n (Load word) = []
 passed_by n (Store Write value) = []
@@ -81,13 +81,13 @@ passed_by n (Store (Cell cell) value) =
 passed_by n (Exchange word old new) = []
 passed_by n Local = []
 
--- what some steps let pass, one after the other
+-- What these steps add and remove, one after another.
 abbrev pub passed_in : ℕ → List Event → List Passing
 passed_in n [] = []
 passed_in n (event ∷ events) = passed_by n event.access ++ passed_in n events
 
--- what a call lets pass, by its answer: an addition that isn't refused its member, which comes in at the index that it answers; a
--- removal its member, which goes out at its index; any other call stores no count
+-- What a call adds or removes, by its result: an addition that isn't refused adds its member at the index that it returns, a removal
+-- removes its member at its index, and any other call stores no count.
 abbrev pub passed_with : MemberCall → MemberAnswer → List Passing
 passed_with (call.Add number owner) (Added (Ok index)) = record { place = index; comes_in = true } ∷ []
 passed_with (call.Add number owner) (Added (Err why)) = []
@@ -99,7 +99,7 @@ passed_with (call.Remove owner index mode) (Updated copied) = []
 passed_with call.Update answer = []
 passed_with (call.Recover owner number mode) answer = []
 
--- what a call in hand let pass so far
+-- What a call in progress has added or removed so far.
 abbrev pub passed_so_far : ContainerCall → List Passing
 passed_so_far stage.Idle = []
 passed_so_far (stage.Enter number owner) = []
@@ -122,29 +122,29 @@ passed_so_far (stage.Clear owner number mode i) = []
 passed_so_far (stage.Close owner number mode) = []
 passed_so_far (stage.Done c answer) = passed_with c answer
 
--- the own steps of each call that ended let pass just what its answer says
+-- By its own steps, each finished call adds and removes exactly what its result says.
 abbrev pub EachLetsPass : ℕ → List Event → List MemberFinished → Type 0
 EachLetsPass n events [] = Unit {0}
 EachLetsPass n events (f ∷ finished) =
     (passed_in n (own f.party (drop f.first (take f.last events))) ≡ passed_with f.call f.answer) × EachLetsPass n events finished
 
--- so of the call that a party is in, as far as it is
+-- By its own steps, a party's call in progress has added and removed exactly what its stage says.
 abbrev pub LetsPassSoFar : ℕ → ContainerCall → List Event → Type 0
 LetsPassSoFar n stage events = member_is_idle stage ≡ false → passed_in n events ≡ passed_so_far stage
 
--- the first and the last step of a call that ended
+-- The first and the last step of a finished call.
 abbrev pub member_span : MemberFinished → Span
 member_span f = record { party = f.party; first = f.first; last = f.last }
 
--- so of each of these calls
+-- The first and the last step of each of these calls.
 abbrev pub member_spans : List MemberFinished → List Span
 member_spans [] = []
 member_spans (f ∷ finished) = member_span f ∷ member_spans finished
 
--- the number of the first step of the call that a party is in, if it is in one
+-- The number of the first step of a party's call in progress, if any.
 abbrev pub member_begun_at : MemberSeat → Option ℕ
 member_begun_at seat = if member_is_idle seat.stage then None else Some seat.first
 
--- each step is one of one call
+-- Each step belongs to exactly one call.
 abbrev pub MembersAreOfCalls : ContainerParts → Type 0
 MembersAreOfCalls m = EachIsOfCall m.events (member_spans m.finished) (λ (party : ℕ). member_begun_at (member_seat m.seats party))

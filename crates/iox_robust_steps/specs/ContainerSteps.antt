@@ -1,4 +1,4 @@
--- The steps of calls on a container of members, by the stage where each stands.
+-- The steps of calls on a container of members, by the stage of each.
 use Rattle.std.specs.Prelude.{ℕ, ◌+◌, ◌-◌, ◌*◌, ◌%◌, ◌^◌, min, Bool, true, false, not, if◌then◌else◌, ◌==◌, nat_lt, Ok, Err, Option, Some}
 use Rattle.std.specs.Prelude.{None, List}
 use Rattle.std.specs.Prelude.{slice_index}
@@ -19,20 +19,20 @@ use Rattle.iox_robust_steps.specs.declared.container.call.MemberCall.TheVariants
 use Rattle.iox_robust_steps.specs.declared.container.call.ContainerCall.{ContainerCall}
 use Rattle.iox_robust_steps.specs.declared.container.call.ContainerCall.TheVariants as stage
 
--- a member is in at a place whose count is odd
+-- Whether a place with this count has a member: its count is odd.
 abbrev pub is_shown : ℕ → Bool
 is_shown count = count % 2 == 1
 
--- a number that stops at the largest one
+-- The number, or the largest 64-bit number if it is larger.
 abbrev pub bounded : ℕ → ℕ
 bounded number = min number (2 ^ 64 - 1)
 
--- the cell of word j of the value at a place, where n places have values of `width` words: behind the counts of all places lie the
--- values, one after the other
+-- The cell of word `j` of the value at a place, where `n` places have values of `width` words: behind the counts of all places are the
+-- values, one after another.
 abbrev pub value_cell : ℕ → ℕ → ℕ → ℕ → ℕ
 value_cell n width place j = bounded (n + bounded (bounded (place * width) + j))
 
--- the access of a call at each stage; while the set of indices is asked, the access is the set's own
+-- The next access of a call; while the index set makes a step, the access is a local one.
 abbrev pub member_next : ℕ → ℕ → List (Vec ℕ) → ContainerCall → Access
 member_next n width values stage.Idle = Local
 member_next n width values (stage.Enter number owner) = Local
@@ -59,46 +59,47 @@ member_next n width values (stage.Clear owner number mode place) = Local
 member_next n width values (stage.Close owner number mode) = Local
 member_next n width values (stage.Done c answer) = Local
 
--- a copy goes on to the next place, if one is left
+-- The stage of a copy at the next place, if one is left.
 abbrev pub visits_from : ℕ → ℕ → ContainerCall
 visits_from n place = if nat_lt place n then stage.Visit place else stage.Done call.Update (Updated true)
 
--- a copy that found this count at a place gathers the value of the member there, or goes on
+-- The stage of a copy after it read this count at a place: it loads the value of the member there, or goes on.
 abbrev pub visited : ℕ → ℕ → ℕ → ContainerCall
 visited n place count = if is_shown count then stage.Gather place count 0 else visits_from n (successor place)
 
--- an addition has the answer of the set, if that has one
+-- The stage of an addition after a step of the set.
 abbrev pub entered : ℕ → ℕ → Option Answer → ContainerCall
 entered number owner None = stage.Enter number owner
 entered number owner (Some (set_answer.Acquired (Ok index))) = stage.Fill number owner index 0
 entered number owner (Some (set_answer.Acquired (Err why))) = stage.Done (call.Add number owner) (Added (Err why))
 entered number owner (Some (set_answer.Settled state)) = stage.Enter number owner
 
--- a removal has the answer of the set, if that has one
+-- The stage of a removal after a step of the set.
 abbrev pub dropped : ℕ → ℕ → ReleaseMode → Option Answer → ContainerCall
 dropped owner index mode None = stage.Drop owner index mode
 dropped owner index mode (Some (set_answer.Acquired got)) = stage.Drop owner index mode
 dropped owner index mode (Some (set_answer.Settled state)) = stage.Count (call.Remove owner index mode) (Removed state)
 
--- a recovery goes on to the next place, if one is left
+-- The stage of a recovery at the next place, if one is left.
 abbrev pub watches_from : ℕ → ℕ → ℕ → ReleaseMode → ℕ → ContainerCall
 watches_from n owner number mode place =
     if nat_lt place n then stage.Watch owner number mode place else stage.Close owner number mode
 
--- the set looked whose the index of a place is: where it is to free it, a member that is in goes out before; else the recovery goes on
+-- The stage of a recovery after the set read which owner has the index: if the index is to be freed, a member at the place is removed
+-- first; else the recovery goes on.
 abbrev pub asked_for_place : ℕ → ℕ → ℕ → ReleaseMode → ℕ → ℕ → Bool → ContainerCall
 asked_for_place n owner number mode place seen finds =
     if not finds
     then watches_from n owner number mode (successor place)
     else if is_shown seen then stage.Expel owner number mode place seen else stage.Clear owner number mode place
 
--- a recovery has the answer of the set, if that has one
+-- The stage of a recovery after a step of the set.
 abbrev pub closed : ℕ → ℕ → ReleaseMode → Option Answer → ContainerCall
 closed owner number mode None = stage.Close owner number mode
 closed owner number mode (Some (set_answer.Acquired got)) = stage.Close owner number mode
 closed owner number mode (Some (set_answer.Settled state)) = stage.Count (call.Recover owner number mode) (Removed state)
 
--- a call on the set is about to free an index
+-- Whether a call on the set is about to free an index.
 abbrev pub is_clearing : RobustCall → Bool
 is_clearing set_stage.Idle = false
 is_clearing (set_stage.Acquire owner) = false
@@ -114,7 +115,7 @@ is_clearing (set_stage.Scan c place count) = false
 is_clearing (set_stage.Lock c count) = false
 is_clearing (set_stage.Done c answer) = false
 
--- the answer that a call on the set has, if it has one
+-- The result of a call on the set, if it has one.
 abbrev pub answer_at : RobustCall → Option Answer
 answer_at set_stage.Idle = None
 answer_at (set_stage.Acquire owner) = None
@@ -130,8 +131,8 @@ answer_at (set_stage.Scan c place count) = None
 answer_at (set_stage.Lock c count) = None
 answer_at (set_stage.Done c answer) = Some answer
 
--- the stage after the answer of that access, or of the set, which is about to free an index or isn't; a party whose last copy saw `saw`
--- changes
+-- The stage of a call after the result of its access, or after the set's result; `saw` is the count of changes that the party's last copy
+-- read, and `finds` says whether the set is about to free an index.
 abbrev pub member_take : ℕ → ℕ → ℕ → Option Answer → Bool → ContainerCall → ℕ → ContainerCall
 member_take n width saw got finds stage.Idle answer = stage.Idle
 member_take n width saw got finds (stage.Enter number owner) answer = entered number owner got
@@ -159,14 +160,14 @@ member_take n width saw got finds (stage.Clear owner number mode place) answer =
 member_take n width saw got finds (stage.Close owner number mode) answer = closed owner number mode got
 member_take n width saw got finds (stage.Done c a) answer = stage.Idle
 
--- the first stage of a call
+-- The first stage of a call.
 abbrev pub member_begun : MemberCall → ContainerCall
 member_begun (call.Add number owner) = stage.Enter number owner
 member_begun (call.Remove owner index mode) = stage.Sink owner index mode
 member_begun call.Update = stage.Look
 member_begun (call.Recover owner number mode) = stage.Search owner number mode
 
--- no call is under way
+-- Whether no call is in progress.
 abbrev pub member_is_idle : ContainerCall → Bool
 member_is_idle stage.Idle = true
 member_is_idle (stage.Enter number owner) = false
@@ -189,7 +190,7 @@ member_is_idle (stage.Clear owner number mode place) = false
 member_is_idle (stage.Close owner number mode) = false
 member_is_idle (stage.Done c answer) = false
 
--- the next step is the last of its call
+-- Whether the next step is the last one of its call.
 abbrev pub member_is_over : ContainerCall → Bool
 member_is_over stage.Idle = false
 member_is_over (stage.Enter number owner) = false
@@ -212,7 +213,7 @@ member_is_over (stage.Clear owner number mode place) = false
 member_is_over (stage.Close owner number mode) = false
 member_is_over (stage.Done c answer) = true
 
--- the call that a party is in
+-- The call that a party has in progress, if any.
 abbrev pub member_in_hand : ContainerCall → Option MemberCall
 member_in_hand stage.Idle = None
 member_in_hand (stage.Enter number owner) = Some (call.Add number owner)

@@ -1,4 +1,4 @@
--- What a copy shows of a member that is in throughout.
+-- What a copy shows of a member that is in the container throughout the copy.
 use Rattle.std.specs.Prelude.{ℕ, ◌≡◌, ◌<◌, ◌≤◌, true, false, Some, None, List, [], ◌∷◌, ◌++◌, length, slice_index, take, drop}
 use Rattle.iox_queues_steps.specs.Access.{RingWords}
 use Rattle.iox_queues.specs.Moments.{words_after}
@@ -13,31 +13,32 @@ use Rattle.iox_robust_steps.specs.declared.container.call.MemberCall.{MemberCall
 use Rattle.iox_robust_steps.specs.declared.container.call.MemberCall.TheVariants as call
 use Rattle.iox_robust_steps.specs.declared.container.MemberFinished.{MemberFinished}
 
--- it is so at each moment from the step `first` on, up to the end of these steps
+-- The fact holds at each moment from the step `first` on, up to the end of these steps.
 abbrev pub IsSoUpTo : (List Event → Type 0) → ℕ → List Event → Type 0
 IsSoUpTo IsSo first events = (steps rest : List Event) → events ≡ steps ++ rest → first ≤ length steps → IsSo steps
 
--- after these steps a member of this party is in at the place
+-- After these steps a member of this party is at the place.
 abbrev pub IsTheirs : ℕ → ℕ → List Event → Type 0
 IsTheirs owner place events = whose_after place None events ≡ Some owner
 
--- after these steps the words of the value at the place are just these
+-- After these steps the words of the value at the place are exactly these.
 abbrev pub HasValue : ℕ → ℕ → RingWords → ℕ → List ℕ → List Event → Type 0
 HasValue n width start place value events =
     (j : ℕ) → j < width → slice_index (words_after start events).cells (value_cell n width place j) ≡ slice_index value j
 
--- the copy has the member there, with the value that it has at each moment of the copy
+-- The copy shows the member there, with the value that it has at each moment of the copy.
 pub record ShowsStaying (n width : ℕ) (start : RingWords) (first : ℕ) (events : List Event) (place : ℕ) (shown : Shown) : Type 0 where
   pub is_in : is_shown shown.count ≡ true
   pub value : IsSoUpTo (HasValue n width start place shown.value) first events
 
--- a copy, which began with the step `first` and made the steps `own`, shows each member that is in at each moment of the copy
+-- A copy, which began with the step `first` and made the steps `own`, shows each member that is in the container at each moment of the
+-- copy.
 abbrev pub ShowsWhoStays : ℕ → ℕ → RingWords → ℕ → List Event → List Event → Type 0
 ShowsWhoStays n width start first events own =
     (owner place : ℕ) → place < n → IsSoUpTo (IsTheirs owner place) first events
     → ShowsStaying n width start first events place (shown_at n place own)
 
--- so does a call with this answer, if it copied
+-- `shows` holds, if the call with this result copied.
 abbrev pub IfCopied : MemberCall → MemberAnswer → Type 0 → Type 0
 IfCopied (call.Add number owner) answer shows = Unit {0}
 IfCopied (call.Remove owner index mode) answer shows = Unit {0}
@@ -47,7 +48,7 @@ IfCopied call.Update (Updated true) shows = shows
 IfCopied call.Update (Updated false) shows = Unit {0}
 IfCopied (call.Recover owner number mode) answer shows = Unit {0}
 
--- so of each call that ended, among the steps before its last one
+-- Each finished call that copied shows each member that was in the container at each moment of the copy.
 abbrev pub EachShowsWhoStays : ℕ → ℕ → RingWords → List Event → List MemberFinished → Type 0
 EachShowsWhoStays n width start events [] = Unit {0}
 EachShowsWhoStays n width start events (f ∷ finished) =

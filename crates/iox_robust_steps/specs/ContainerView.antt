@@ -1,7 +1,8 @@
--- The fields of a container's machine, as lists and numbers.
+-- The state of a container's machine, as lists and numbers.
 use Rattle.iox_robust_steps.specs.ContainerMachine.{ContainerParts}
 use Rattle.iox_robust_steps.specs.declared.container.state.MemberState.{MemberState}
 
+-- The state of a container's machine, with its vectors as lists.
 abbrev pub parts_of : MemberState → ContainerParts
 parts_of s = record {
   indices = s.set;

@@ -1,4 +1,4 @@
--- What every step of the machine of a set that knows its holders keeps.
+-- The invariant of each step of the machine of a set that knows the owner of each held index.
 use Rattle.std.specs.Prelude.{ℕ, ◌≡◌, ◌+◌, ◌^◌, ◌<◌, ◌≤◌, ◌⊎◌, ◌==◌, Bool, true, false, List, length, slice_index, take, drop}
 use Rattle.std.specs.List.{list_any}
 use Rattle.std.specs.Global.{Vec}
@@ -22,15 +22,15 @@ use Rattle.iox_robust_steps.specs.declared.call.RobustCall.TheVariants as stage
 use Rattle.iox_robust_steps.specs.declared.state.Place.{Place}
 use Rattle.iox_robust_steps.specs.declared.state.Place.TheVariants as place
 
--- the index isn't taken, and nobody who counted is about to take it
+-- The index isn't held, and no party that raised the count is about to take it.
 abbrev pub IsQuiet : Place → Type 0
 IsQuiet place.Empty = Unit {0}
 IsQuiet (place.Claimed p) = Unit {0}
 IsQuiet (place.Counted p) = ⊥
 IsQuiet (place.Held p) = ⊥
 
--- the words and the steps fit how far each index is taken, and who holds it took it; of a locked set none is, nor about to be; the count
--- is that of steps at most
+-- The words and the steps are consistent with the state of each index, and the holder of an index took it; in a locked set no index is held
+-- or about to be; and the count of a set that isn't locked is at most the number of steps.
 pub record WordsFit (n : ℕ) (words : RingWords) (places : List Place) (events : List Event) : Type 0 where
   pub cells : (i : ℕ) → i < n → CellFits (place_of places i) (slice_index words.cells i)
   pub quiet : words.read ≡ lock_mark → (i : ℕ) → i < n → IsQuiet (place_of places i)
@@ -39,16 +39,16 @@ pub record WordsFit (n : ℕ) (words : RingWords) (places : List Place) (events 
   pub turns : (i k : ℕ) → TakesTurns i (take k events)
   pub holders : (i p : ℕ) → place_of places i ≡ place.Held p → Holds p i events
 
--- the number names an owner
+-- The number is a valid owner.
 abbrev pub IsOwner : ℕ → Type 0
 IsOwner owner = (0 < owner) × (owner < 2 ^ 63)
 
--- an index is taken so far, and its cell holds this number, unless the recovery of the owner began
+-- The index has this state and its cell this content, unless the recovery of the owner began.
 abbrev pub StandsSo : RingWords → List Place → List ℕ → ℕ → ℕ → Place → ℕ → Type 0
 StandsSo words places lost owner i stand cell =
     is_lost owner lost ≡ false → (place_of places i ≡ stand) × (slice_index words.cells i ≡ cell)
 
--- the steps of a call that is to lock, and freed what it was to free
+-- The own steps of a call that may lock the set, after it freed what it was to free.
 abbrev pub Settles : Call → List Event → Type 0
 Settles (call.Acquire owner) events = ⊥
 Settles (call.Release owner i LockIfLastIndex) events = GiveOnly i events
@@ -56,12 +56,12 @@ Settles (call.Release owner i Default) events = ⊥
 Settles (call.Recover owner number LockIfLastIndex) events = TakeNone events
 Settles (call.Recover owner number Default) events = ⊥
 
--- while the count is what a call saw, none of the first m indices is taken, nor about to be
+-- While the count is what the call read, none of the first `m` indices is held or about to be.
 abbrev pub QuietBelow : RingWords → List Place → ℕ → ℕ → Type 0
 QuietBelow words places count m =
     (count < lock_mark) × (count ≤ words.read) × (words.read ≡ count → (j : ℕ) → j < m → IsQuiet (place_of places j))
 
--- what a call of the party knows by its own steps, where it stands
+-- What is known of a party's call at its stage, by its own steps.
 abbrev pub Knows : ℕ → RingWords → List Place → List ℕ → ℕ → List Event → RobustCall → Type 0
 Knows n words places lost party events stage.Idle = Unit {0}
 Knows n words places lost party events (stage.Acquire owner) = IsOwner owner × MoveNone events
@@ -86,7 +86,8 @@ Knows n words places lost party events (stage.Scan c i count) = Settles c events
 Knows n words places lost party events (stage.Lock c count) = Settles c events × QuietBelow words places count n
 Knows n words places lost party events (stage.Done c answer) = Tells n (words.read == lock_mark) events c answer
 
--- what a recovery in hand freed so far; one that is to free a cell saw its owner there, and it is there still, or gone for good
+-- What a recovery in progress has freed so far; if it is to free a cell, the cell still is as it was read, or doesn't belong to the owner
+-- any more.
 abbrev pub FreesSoFar : ℕ → List (Vec Bool) → List ℕ → List ℕ → RobustCall → Type 0
 FreesSoFar n decisions lost cells stage.Idle = Unit {0}
 FreesSoFar n decisions lost cells (stage.Acquire owner) = Unit {0}
@@ -104,8 +105,8 @@ FreesSoFar n decisions lost cells (stage.Scan c i count) = FreedBy decisions los
 FreesSoFar n decisions lost cells (stage.Lock c count) = FreedBy decisions lost cells n c
 FreesSoFar n decisions lost cells (stage.Done c answer) = FreedBy decisions lost cells n c
 
--- where the premise holds, the words fit, each call in hand knows its steps, each that ended is told, and what is held stands under the
--- owner of the acquire that took it
+-- If fewer than 2^64 - 1 steps were made: the words are consistent, each call in progress did what its stage says, each finished call did
+-- what its result says, and each held index has the owner of the acquire that took it.
 pub record IsConsistent (m : RobustSetState) : Type 0 where
   pub whole : WordsFit m.capacity m.words m.places m.events
   pub knows : (party : ℕ) → Knows m.capacity m.words m.places m.lost party (own party (drop (seat_at m.seats party).first m.events))
@@ -117,7 +118,7 @@ pub record IsConsistent (m : RobustSetState) : Type 0 where
   pub frees : (party : ℕ) → FreesSoFar m.capacity m.decisions m.lost m.words.cells (stage_at m.seats party)
   pub freed : AreFreed m.decisions m.lost m.words.cells m.capacity m.finished
 
--- what stands however many steps were made, and what stands where the premise holds
+-- The invariant: what holds after any number of steps, and what holds after fewer than 2^64 - 1 of them.
 pub record IsKept (m : RobustSetState) : Type 0 where
   pub small : m.capacity < 2 ^ 62
   pub cells : length m.words.cells ≡ m.capacity + 1

@@ -1,4 +1,4 @@
--- The definitions that contracts about sets that know their holders, by steps, cite.
+-- The definitions that the contracts of sets that know the owner of each held index use, by steps.
 pub mod Steps
 pub mod Changes
 pub mod Told

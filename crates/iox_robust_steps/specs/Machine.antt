@@ -1,4 +1,4 @@
--- A set that knows its holders, as a machine: its steps, and what every list of them keeps.
+-- A set that knows the owner of each held index as a machine: its steps, and their invariants.
 use Rattle.std.specs.Prelude.{ℕ, ◌≡◌, ◌+◌, ◌-◌, ◌^◌, ◌<◌, ◌⊎◌, Bool, true, false, not, if◌then◌else◌, ◌==◌, ◌&&◌, nat_lt, Option}
 use Rattle.std.specs.Prelude.{Some, None, List, [], ◌∷◌, ◌++◌, length, set, slice_get, slice_index, slice_index_or, take, drop, replicate}
 use Rattle.std.specs.List.{list_any}
@@ -29,9 +29,9 @@ use Rattle.iox_robust_steps.specs.declared.state.Place.{Place}
 use Rattle.iox_robust_steps.specs.declared.state.Place.TheVariants as place
 use Rattle.iox_robust_steps.specs.declared.state.Seat.{Seat}
 
--- how many indices there are, the decisions of recoveries, whether a step may insist against them, the words, where each party stands,
--- how far each index is taken and by which party, the owners whose recovery began, the steps made, and the calls that ended. The count
--- lies in the read position; the cell of an index names its owner; behind them is a spare cell
+-- The state: how many indices there are, the decisions of recoveries, whether a step may insist against them, the words, the stage of each
+-- party, the state of each index, the owners whose recovery began, the steps made, and the finished calls. The read position stores the
+-- count; the cell of an index names its owner; behind the cells is a spare one.
 pub record RobustSetState : Type 0 where
   pub capacity : ℕ
   pub decisions : List (Vec Bool)
@@ -43,53 +43,54 @@ pub record RobustSetState : Type 0 where
   pub events : List Event
   pub finished : List Finished
 
--- a party between calls
+-- A party without a call in progress.
 abbrev pub idle_seat : Seat
 idle_seat = record { stage = stage.Idle; first = 0 }
 
--- the seat of a party; where there is none, an idle one
+-- The seat of a party; a missing party is idle.
 abbrev pub seat_of : Option Seat → Seat
 seat_of None = idle_seat
 seat_of (Some seat) = seat
 
--- where a party stands; one that is not there is idle
+-- The seat of the party with this number; a party that doesn't exist is idle.
 abbrev pub seat_at : List Seat → ℕ → Seat
 seat_at seats party = seat_of (slice_get seats party)
 
--- the stage of a party's call
+-- The stage of the party with this number.
 abbrev pub stage_at : List Seat → ℕ → RobustCall
 stage_at seats party = (seat_at seats party).stage
 
--- how far an index is taken, and by which party
+-- The state of an index: how far an acquire has come, and of which party.
 abbrev pub place_of : List Place → ℕ → Place
 place_of places index = slice_index_or places index place.Empty
 
--- the index is taken, by this party
+-- Whether this party holds the index.
 abbrev pub is_holder : ℕ → Place → Bool
 is_holder party place.Empty = false
 is_holder party (place.Claimed p) = false
 is_holder party (place.Counted p) = false
 is_holder party (place.Held p) = p == party
 
--- 1 for an index that is taken
+-- 1 if the index is held, else 0.
 abbrev pub one_if_held : Place → ℕ
 one_if_held place.Empty = 0
 one_if_held (place.Claimed p) = 0
 one_if_held (place.Counted p) = 0
 one_if_held (place.Held p) = 1
 
--- what the cell of an index holds that is taken so far: nothing, an owner that is about to take it, or the owner that did
+-- The cell of an index is consistent with its state: it is empty, or shows an owner that is about to take the index, or names the owner
+-- that took it.
 abbrev pub CellFits : Place → ℕ → Type 0
 CellFits place.Empty cell = cell ≡ 0
 CellFits (place.Claimed p) cell = 2 ^ 63 < cell
 CellFits (place.Counted p) cell = 2 ^ 63 < cell
 CellFits (place.Held p) cell = (0 < cell) × (cell < 2 ^ 63)
 
--- the recovery of this owner began
+-- Whether the recovery of this owner began.
 abbrev pub is_lost : ℕ → List ℕ → Bool
 is_lost owner lost = list_any (λ (other : ℕ). other == owner) lost
 
--- the call acts for an owner whose recovery began
+-- Whether the call acts for an owner whose recovery began.
 abbrev pub is_halted : List ℕ → RobustCall → Bool
 is_halted lost stage.Idle = false
 is_halted lost (stage.Acquire owner) = is_lost owner lost
@@ -105,7 +106,8 @@ is_halted lost (stage.Scan c place count) = false
 is_halted lost (stage.Lock c count) = false
 is_halted lost (stage.Done c answer) = false
 
--- a party acts for an owner whose recovery did not begin, and gives back what it holds, once; a recovery may begin at any time
+-- Whether a call may begin: an acquire if the owner is valid and its recovery hasn't begun; a release if the party also holds the index for
+-- this owner; a recovery of any valid owner.
 abbrev pub may_begin : RobustSetState → ℕ → Call → Bool
 may_begin m party (call.Acquire owner) = is_owner owner && not (is_lost owner m.lost)
 may_begin m party (call.Release owner index mode) =
@@ -113,7 +115,8 @@ may_begin m party (call.Release owner index mode) =
     && (nat_lt index m.capacity && (is_holder party (place_of m.places index) && (word_of m.words (Cell index) == owner)))
 may_begin m party (call.Recover owner number mode) = is_owner owner
 
--- a begin fits a party that is there and between calls, a go on one inside a call that isn't halted; and one that insists, where one may
+-- Whether a step is possible: a begin if the party exists, is idle, and the call may begin; a next step if the party has a call in progress
+-- that isn't halted; an insisting step if the machine also permits it.
 abbrev pub fits : RobustSetState → Move → Bool
 fits m (Begin party c) = nat_lt party (length m.seats) && (call_is_idle (stage_at m.seats party) && may_begin m party c)
 fits m (GoOn party) =
@@ -121,19 +124,19 @@ fits m (GoOn party) =
 fits m (Insist party) = m.may_insist
     && (nat_lt party (length m.seats) && (not (call_is_idle (stage_at m.seats party)) && not (is_halted m.lost (stage_at m.seats party))))
 
--- the step is the last of its call
+-- Whether the step is the last one of its call.
 abbrev pub ends : RobustSetState → Move → Bool
 ends m (Begin party c) = false
 ends m (GoOn party) = call_is_over (stage_at m.seats party)
 ends m (Insist party) = call_is_over (stage_at m.seats party)
 
--- the owners whose recovery began, after a begin of this call
+-- The owners whose recovery began, after this call begins.
 abbrev pub lost_begun : List ℕ → Call → List ℕ
 lost_begun lost (call.Acquire owner) = lost
 lost_begun lost (call.Release owner index mode) = lost
 lost_begun lost (call.Recover owner number mode) = lost ++ owner ∷ []
 
--- the machine after a begin
+-- The machine after a party begins a call.
 abbrev pub begun : RobustSetState → ℕ → Call → RobustSetState
 begun m party c = record m {
   seats = set m.seats party (record { stage = call_begun m.capacity c; first = length m.events });
@@ -141,7 +144,7 @@ begun m party c = record m {
   events = m.events ++ record { party = party; access = Local; answer = 0 } ∷ [];
 }
 
--- how far each index is taken, after an access of a party
+-- The state of each index after an access of a party.
 abbrev pub places_after : List Place → ℕ → RobustCall → ℕ → List Place
 places_after places party stage.Idle answer = places
 places_after places party (stage.Acquire owner) answer = places
@@ -157,7 +160,7 @@ places_after places party (stage.Scan c i count) answer = places
 places_after places party (stage.Lock c count) answer = places
 places_after places party (stage.Done c answered) answer = places
 
--- the call of a party, if its next step is its last
+-- The finished call of a party, if its next step is the last one.
 abbrev pub call_ended : ℕ → ℕ → ℕ → RobustCall → List Finished
 call_ended party first last stage.Idle = []
 call_ended party first last (stage.Acquire owner) = []
@@ -174,8 +177,8 @@ call_ended party first last (stage.Lock c count) = []
 call_ended party first last (stage.Done c answer) =
     record { party = party; call = c; answer = answer; first = first; last = last } ∷ []
 
--- the machine after one access of a party; a recovery that sees an index of its owner frees it where the step insists, whatever was
--- decided
+-- The machine after a party makes its next access; if the step insists, a recovery frees an index of its owner that it sees, whatever the
+-- decisions are.
 abbrev pub went : RobustSetState → ℕ → Bool → RobustSetState
 went m party insists = record m {
   words = after_access m.words (call_next (stage_at m.seats party));
@@ -192,38 +195,38 @@ went m party insists = record m {
   finished = m.finished ++ call_ended party (seat_at m.seats party).first (length m.events) (stage_at m.seats party);
 }
 
--- the machine after a step that fits
+-- The machine after a step that is possible.
 abbrev pub happens : RobustSetState → Move → RobustSetState
 happens m (Begin party c) = begun m party c
 happens m (GoOn party) = went m party false
 happens m (Insist party) = went m party true
 
--- what a step answers, and what it leaves
+-- The outcome of a step, and the machine after it.
 abbrev pub StepsTo : RobustSetState → Move → Stepped → RobustSetState → Type 0
 StepsTo m step r n = StepsBy fits ends happens m step r n
 
--- a list of steps, of which `made` were made; it may stop where a step that fits finds no memory
+-- A list of steps of which `made` were made and the others were skipped; it may stop where memory for a possible step runs out.
 abbrev pub RunsTo : RobustSetState → List Move → ℕ → RobustSetState → Type 0
 RunsTo m steps made n = RunsBy fits happens m steps made n
 
--- the set is locked
+-- Whether the set is locked.
 abbrev pub is_locked : RobustSetState → Bool
 is_locked m = m.words.read == lock_mark
 
--- the premise of the laws: the count doesn't come to its end, since fewer steps were made
+-- The condition of the theorems: fewer than 2^64 - 1 steps were made, so that the count doesn't reach its end.
 abbrev pub HasFewSteps : RobustSetState → Type 0
 HasFewSteps m = length m.events < 2 ^ 64 - 1
 
--- a call that was to lock the set did: one that ended, or one in hand that has its answer
+-- A call that was to lock the set has locked it; it is finished, or in progress with its result.
 abbrev pub IsLockedByRelease : RobustSetState → Type 0
 IsLockedByRelease m =
     (some_has_locked m.finished ≡ true) ⊎ ((party : ℕ) × (is_locking (stage_at m.seats party) ≡ true))
 
--- what every list of steps keeps: no index has two holders; the holder is the party that took it, and nobody gave it back; an index is
--- taken and given back by turns, so that between two takings lies its release or recovery; its cell holds what fits how far it is taken,
--- and while it is held names the owner of the acquire that took it last, which answered it;
--- of a locked set none is taken, and only a call that was to lock it locked it; the own steps of each call that ended say what it answered,
--- so of one in hand that has its answer; and a recovery left its owner no index that it was to free, for good
+-- The theorem. No index has two holders; the holder is the party that took it, and nobody released it. Acquires of an index alternate with
+-- its releases and recoveries. The cell of an index is consistent with its state, and while the index is held, names the owner of the
+-- acquire that took it last and returned it. A locked set has no held index, and only a call that was to lock it has locked it. The own
+-- steps of each finished call, and of each call in progress that has its result, did what the result says. A recovery left its owner no
+-- selected index, for good.
 pub record IsOrderly (m : RobustSetState) : Type 0 where
   pub one_holder : (i p q : ℕ) → Holds p i m.events → Holds q i m.events → p ≡ q
   pub holder : (i p : ℕ) → place_of m.places i ≡ place.Held p → Holds p i m.events
@@ -240,15 +243,15 @@ pub record IsOrderly (m : RobustSetState) : Type 0 where
       → Tells m.capacity (is_locked m) (own party (drop (seat_at m.seats party).first m.events)) c answer
   pub freed : AreFreed m.decisions m.lost m.words.cells m.capacity m.finished
 
--- a locked set stays locked
+-- A locked set stays locked.
 abbrev pub StaysLocked : RobustSetState → RobustSetState → Type 0
 StaysLocked m n = is_locked m ≡ true → is_locked n ≡ true
 
--- the words of a set of which no index is taken
+-- The words of a set without a held index.
 abbrev pub start_words : ℕ → RingWords
 start_words capacity = record { cells = replicate (capacity + 1) 0; write = 0; read = 0 }
 
--- a set of which no index is taken, with the decisions of recoveries, against which a step may insist or not
+-- The machine of a set without a held index, with the decisions of recoveries, against which a step may insist or not.
 abbrev pub start : ℕ → ℕ → List (Vec Bool) → Bool → RobustSetState
 start capacity parties decisions may_insist = record {
   capacity = capacity;
@@ -262,9 +265,9 @@ start capacity parties decisions may_insist = record {
   finished = [];
 }
 
--- what the steps that were made say, however many: each got what its word held, and they left the words as they are; each call that
--- ended lies among them; the steps of each call, ended or in hand, are those that its value asked for; a recovery
--- freed nothing but what it was to free of its owner
+-- What the recorded steps say, after any number of them: each has the result that its word held, and they leave the words as they are now;
+-- each finished call lies within them; the steps of each call, finished or in progress, are those that the call requested; and a recovery
+-- freed only what it was to free of its owner.
 pub record IsRecorded (m : RobustSetState) : Type 0 where
   pub answered : Answered (start_words m.capacity) m.events m.words
   pub among : LieWithin m.events m.finished

@@ -1,4 +1,4 @@
--- Under which owner an index that is held stands: that of the acquire that took it last.
+-- The owner for which an index is held: that of the acquire that took it last.
 use Rattle.std.specs.Prelude.{ℕ, ◌≡◌, ◌<◌, ◌≤◌, ◌⊎◌, Ok, List, ◌∷◌, ◌++◌, length}
 use Rattle.iox_queues.specs.declared.bits.machine.Event.{Event}
 use Rattle.iox_robust_steps.specs.Changes.{times_given, times_taken, took_by}
@@ -8,7 +8,7 @@ use Rattle.iox_robust_steps.specs.declared.call.RobustCall.TheVariants as stage
 use Rattle.iox_robust_steps.specs.declared.machine.Finished.{Finished}
 use Rattle.iox_robust_steps.specs.declared.state.Seat.{Seat}
 
--- among these calls is an acquire of the party for this owner, which answered index i, and lay around the step of this number
+-- Among these calls is an acquire of the party for this owner that returned index `i`, and the step with this number lies within it.
 pub record AcquireEnded (party owner i number : ℕ) (finished : List Finished) : Type 0 where
   pub before : List Finished
   pub ended : Finished
@@ -20,13 +20,13 @@ pub record AcquireEnded (party owner i number : ℕ) (finished : List Finished) 
   pub began : ended.first ≤ number
   pub until : number < ended.last
 
--- a party is in such an acquire, which has its answer
+-- The party has an acquire for this owner in progress that has the result `i`, and the step with this number lies within it.
 pub record AcquireInHand (owner i number : ℕ) (seat : Seat) : Type 0 where
   pub so : seat.stage ≡ stage.Done (call.Acquire owner) (Acquired (Ok i))
   pub began : seat.first ≤ number
 
--- index i stands under this owner: the step that took it last is the party's, and one of an acquire for this owner, which answered just
--- this index; and nobody gave the index back since
+-- The party holds index `i` for this owner: the step that took it last is the party's, within an acquire for this owner that returned this
+-- index, and nobody released the index since.
 pub record StandsUnder (party i owner : ℕ) (seat : Seat) (events : List Event) (finished : List Finished) : Type 0 where
   pub before : List Event
   pub taking : Event

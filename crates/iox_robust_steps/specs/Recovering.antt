@@ -1,4 +1,4 @@
--- What a step of a recovery does to a set that knows its holders.
+-- What a step of a recovery does to a set that knows the owner of each held index.
 use Rattle.std.specs.Prelude.{ℕ, ◌≡◌, ◌<◌, ◌⊎◌, Bool, true, Option, Some, None, List, slice_index}
 use Rattle.std.specs.Global.{Vec}
 use Rattle.iox_queues_steps.specs.Access.{RingWords}
@@ -11,13 +11,13 @@ use Rattle.iox_robust_steps.specs.declared.machine.Move.{Move}
 use Rattle.iox_robust_steps.specs.declared.state.Place.{Place}
 use Rattle.iox_robust_steps.specs.declared.state.Place.TheVariants as place
 
--- an index stays as far taken as it was, by the same party, and its cell holds what it held
+-- An index keeps its state, and its cell keeps its content.
 abbrev pub IndexStays : RingWords → RingWords → List Place → List Place → ℕ → Type 0
 IndexStays words words' places places' i =
     (place_of places' i ≡ place_of places i) × (slice_index words'.cells i ≡ slice_index words.cells i)
 
--- a recovery frees an index: that was decided, or a step may insist on it, the cell held its owner, or showed that the owner was about to
--- take it; and it is free now
+-- A recovery frees an index: the decisions select it or a step may insist on it, its cell named the owner or showed that the owner was
+-- about to take it, and it is free now.
 pub record FreesIndex (decisions : List (Vec Bool)) (may : Bool) (words words' : RingWords) (places places' : List Place)
     (owner number i : ℕ) : Type 0
   where
@@ -26,7 +26,7 @@ pub record FreesIndex (decisions : List (Vec Bool)) (may : Bool) (words words' :
     pub free : place_of places' i ≡ place.Empty
     pub empty : slice_index words'.cells i ≡ 0
 
--- a step of a recovery leaves each of n indices as it is, or frees it, and leaves the count, or locks the set
+-- A step of a recovery leaves each of `n` indices as it is or frees it, and leaves the count as it is or locks the set.
 pub record RecoversSo (n : ℕ) (decisions : List (Vec Bool)) (may : Bool) (words words' : RingWords) (places places' : List Place)
     (owner number : ℕ)
     : Type 0 where
@@ -34,7 +34,7 @@ pub record RecoversSo (n : ℕ) (decisions : List (Vec Bool)) (may : Bool) (word
       → IndexStays words words' places places' i ⊎ FreesIndex decisions may words words' places places' owner number i
   pub count : (words'.read ≡ words.read) ⊎ (words'.read ≡ lock_mark)
 
--- so does a step of this call, if it is a recovery
+-- If the call is a recovery, its step does that.
 abbrev pub IfRecovers : ℕ → List (Vec Bool) → Bool → RingWords → RingWords → List Place → List Place → Option Call → Type 0
 IfRecovers n decisions may words words' places places' None = Unit {0}
 IfRecovers n decisions may words words' places places' (Some (call.Acquire owner)) = Unit {0}
@@ -42,6 +42,7 @@ IfRecovers n decisions may words words' places places' (Some (call.Release owner
 IfRecovers n decisions may words words' places places' (Some (call.Recover owner number mode)) =
     RecoversSo n decisions may words words' places places' owner number
 
--- each step of a recovery frees an index that it was to free of its owner, or none, and changes nothing else but to lock the set
+-- Each step of a recovery frees one index that it may free of its owner, or none, and changes nothing else, except that it may lock the
+-- set.
 abbrev pub FreesOnlyItsOwn : RobustSetState → Move → RobustSetState → Type 0
 FreesOnlyItsOwn m step n = IfRecovers m.capacity m.decisions m.may_insist m.words n.words m.places n.places (call_of_step m step)

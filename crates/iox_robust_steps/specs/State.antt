@@ -1,7 +1,8 @@
--- The fields of a machine, as lists and numbers.
+-- The state of the machine, as lists and numbers.
 use Rattle.iox_robust_steps.specs.Machine.{RobustSetState}
 use Rattle.iox_robust_steps.specs.declared.state.State.{State}
 
+-- The state of the machine, with its vectors as lists.
 abbrev pub machine_of : State → RobustSetState
 machine_of s = record {
   capacity = s.capacity;

@@ -1,4 +1,4 @@
--- The steps of calls on a set that knows its holders, by the stage where each stands.
+-- The steps of calls on a set that knows the owner of each held index, by the stage of each.
 use Rattle.std.specs.Prelude.{ℕ, ◌-◌, ◌^◌, min, ◌+◌, Bool, true, false, if◌then◌else◌, ◌==◌, ◌&&◌, ◌||◌, nat_lt, Option, Some, None}
 use Rattle.std.specs.Prelude.{Ok, Err, List, slice_get, vec_items}
 use Rattle.std.specs.Global.{Vec}
@@ -16,15 +16,15 @@ use Rattle.iox_robust_steps.specs.declared.call.Call.TheVariants as call
 use Rattle.iox_robust_steps.specs.declared.call.RobustCall.{RobustCall}
 use Rattle.iox_robust_steps.specs.declared.call.RobustCall.TheVariants as stage
 
--- the count that locks a set
+-- The count that marks a locked set.
 abbrev pub lock_mark : ℕ
 lock_mark = 2 ^ 64 - 1
 
--- what a cell holds while this owner is about to take its index
+-- The content of a cell while this owner is about to take its index.
 abbrev pub reserved : ℕ → ℕ
 reserved owner = min (owner + 2 ^ 63) (2 ^ 64 - 1)
 
--- the access of a call at each stage
+-- The next access of a call.
 abbrev pub call_next : RobustCall → Access
 call_next stage.Idle = Local
 call_next (stage.Acquire owner) = Load Read
@@ -40,52 +40,53 @@ call_next (stage.Scan c place count) = Load (Cell place)
 call_next (stage.Lock c count) = Exchange Read count lock_mark
 call_next (stage.Done c answer) = Local
 
--- an acquire goes on to the next cell, if one is left
+-- The stage of an acquire at the next cell, if one is left.
 abbrev pub claims_from : ℕ → ℕ → ℕ → ℕ → RobustCall
 claims_from n owner place count =
     if nat_lt place n then stage.Claim owner place count else stage.Done (call.Acquire owner) (Acquired (Err OutOfIndices))
 
--- a call whose indices are free locks the set only in one mode
+-- The stage after a call freed its indices: only in one mode does it go on to lock the set.
 abbrev pub settles : ReleaseMode → Call → RobustCall
 settles LockIfLastIndex c = stage.Settle c
 settles Default c = stage.Done c (Settled Unlocked)
 
--- a recovery goes on to the next cell, if one is left
+-- The stage of a recovery at the next cell, if one is left.
 abbrev pub looks_from : ℕ → ℕ → ℕ → ReleaseMode → ℕ → RobustCall
 looks_from n owner number mode place =
     if nat_lt place n then stage.Look owner number mode place else settles mode (call.Recover owner number mode)
 
--- a call that is to lock goes on to the next cell, if one is left
+-- The stage of a call that may lock the set at the next cell, if one is left.
 abbrev pub scans_from : ℕ → Call → ℕ → ℕ → RobustCall
 scans_from n c place count = if nat_lt place n then stage.Scan c place count else stage.Lock c count
 
--- an exchange to the mark was won, or the set was locked before
+-- Whether the exchange to the mark succeeded, or the set was locked before.
 abbrev pub is_marked_by : ℕ → ℕ → Bool
 is_marked_by count answer = (answer == count) || (answer == lock_mark)
 
--- the decision on a place, where there is one
+-- The decision on a place; false if there is none.
 abbrev pub answer_on : Option Bool → Bool
 answer_on None = false
 answer_on (Some answer) = answer
 
--- the decision on a place, where there are some
+-- The decision of a list on a place; false if there is no list or no decision.
 abbrev pub answer_among : ℕ → Option (Vec Bool) → Bool
 answer_among place None = false
 answer_among place (Some answers) = answer_on (slice_get (vec_items answers) place)
 
--- the decision of this number on a place is to free it
+-- Whether the list of decisions with this number selects the place.
 abbrev pub decided : List (Vec Bool) → ℕ → ℕ → Bool
 decided decisions number place = answer_among place (slice_get decisions number)
 
--- the cell is the owner's, or shows that it is about to take the index
+-- Whether the cell names the owner, or shows that the owner is about to take the index.
 abbrev pub is_seen_of : ℕ → ℕ → Bool
 is_seen_of owner seen = (seen == owner) || (seen == reserved owner)
 
--- the cell is the owner's, and it was decided to free it, or the step insists on that
+-- Whether the cell is the owner's, and the decisions select it or the step insists.
 abbrev pub is_freed : List (Vec Bool) → Bool → ℕ → ℕ → ℕ → ℕ → Bool
 is_freed decisions insists owner number place seen = is_seen_of owner seen && (insists || decided decisions number place)
 
--- the stage after the answer of that access, in a set of n indices; a step may insist that a recovery frees what it sees of its owner
+-- The stage of a call after the result of its access, in a set of `n` indices; a step may insist that a recovery frees an index that it
+-- sees of its owner.
 abbrev pub call_take : ℕ → List (Vec Bool) → Bool → RobustCall → ℕ → RobustCall
 call_take n decisions insists stage.Idle answer = stage.Idle
 call_take n decisions insists (stage.Acquire owner) answer =
@@ -112,13 +113,13 @@ call_take n decisions insists (stage.Lock c count) answer =
     if is_marked_by count answer then stage.Done c (Settled Locked) else stage.Done c (Settled Unlocked)
 call_take n decisions insists (stage.Done c answered) answer = stage.Idle
 
--- the first stage of a call, in a set of n indices
+-- The first stage of a call, in a set of `n` indices.
 abbrev pub call_begun : ℕ → Call → RobustCall
 call_begun n (call.Acquire owner) = stage.Acquire owner
 call_begun n (call.Release owner index mode) = stage.Free owner index mode
 call_begun n (call.Recover owner number mode) = looks_from n owner number mode 0
 
--- no call is under way
+-- Whether no call is in progress.
 abbrev pub call_is_idle : RobustCall → Bool
 call_is_idle stage.Idle = true
 call_is_idle (stage.Acquire owner) = false
@@ -134,7 +135,7 @@ call_is_idle (stage.Scan c place count) = false
 call_is_idle (stage.Lock c count) = false
 call_is_idle (stage.Done c answer) = false
 
--- the next step is the last of its call
+-- Whether the next step is the last one of its call.
 abbrev pub call_is_over : RobustCall → Bool
 call_is_over stage.Idle = false
 call_is_over (stage.Acquire owner) = false
@@ -150,7 +151,7 @@ call_is_over (stage.Scan c place count) = false
 call_is_over (stage.Lock c count) = false
 call_is_over (stage.Done c answer) = true
 
--- the call that a party is in
+-- The call that a party has in progress, if any.
 abbrev pub call_in_hand : RobustCall → Option Call
 call_in_hand stage.Idle = None
 call_in_hand (stage.Acquire owner) = Some (call.Acquire owner)

@@ -1,4 +1,4 @@
--- What the answer of a call says of the steps that were made.
+-- What the result of a call says of the steps that were made.
 use Rattle.std.specs.Prelude.{ℕ, ◌≡◌, ◌+◌, ◌<◌, ◌≤◌, ◌⊎◌, Bool, true, false, if◌then◌else◌, ◌==◌, ◌||◌, Ok, Err, Option, Some, None, List}
 use Rattle.std.specs.Prelude.{[]}
 use Rattle.std.specs.Prelude.{◌∷◌, ◌++◌, ◌^◌, slice_index, take, drop}
@@ -23,62 +23,63 @@ use Rattle.iox_robust_steps.specs.declared.call.RobustCall.{RobustCall}
 use Rattle.iox_robust_steps.specs.declared.call.RobustCall.TheVariants as stage
 use Rattle.iox_robust_steps.specs.declared.machine.Finished.{Finished}
 
--- a call's value asked for each access, and took its answer, from one stage to another; a step insisted only where one may
+-- From one stage to another, each step made the access that its stage requests, and the next stage took its result; a step insisted only if
+-- it may.
 abbrev pub SetGoes : ℕ → List (Vec Bool) → Bool → RobustCall → List Event → RobustCall → Type 0
 SetGoes n decisions may stage [] end = end ≡ stage
 SetGoes n decisions may stage (event ∷ events) end =
     (event.access ≡ call_next stage) × (insists : Bool) × (insists ≡ true → may ≡ true)
     × SetGoes n decisions may (call_take n decisions insists stage event.answer) events end
 
--- the steps of a call up to a stage, in a set of n indices: a local one that begins it, and the accesses that its value asked for
+-- The steps of a call up to a stage, in a set of `n` indices: a local one that begins it, and the accesses that the call requested.
 pub record IsAsked (n : ℕ) (decisions : List (Vec Bool)) (may : Bool) (party : ℕ) (c : Call) (stage : RobustCall) (events : List Event)
     : Type 0 where
   pub between : List Event
   pub whole : events ≡ local_step party ∷ between
   pub goes : SetGoes n decisions may (call_begun n c) between stage
 
--- the steps of the call in hand, if there is one, up to its stage
+-- The steps of the call in progress, if there is one, up to its stage.
 abbrev pub IsAskedSoFar : ℕ → List (Vec Bool) → Bool → ℕ → Option Call → RobustCall → List Event → Type 0
 IsAskedSoFar n decisions may party None stage events = Unit {0}
 IsAskedSoFar n decisions may party (Some c) stage events = IsAsked n decisions may party c stage events
 
--- the steps of each call that ended, up to its answer
+-- The steps of each finished call, up to its result.
 abbrev pub AreAsked : ℕ → List (Vec Bool) → Bool → List Event → List Finished → Type 0
 AreAsked n decisions may events [] = Unit {0}
 AreAsked n decisions may events (f ∷ finished) =
     IsAsked n decisions may f.party f.call (stage.Done f.call f.answer) (own f.party (drop f.first (take f.last events)))
     × AreAsked n decisions may events finished
 
--- each of these calls lies among the steps made
+-- Each of these calls lies within the steps made.
 abbrev pub LieWithin : List Event → List Finished → Type 0
 LieWithin events [] = Unit {0}
 LieWithin events (f ∷ finished) = LiesWithin events f.first f.last × LieWithin events finished
 
--- the steps took no index
+-- The steps took no index.
 abbrev pub TakeNone : List Event → Type 0
 TakeNone events = (j : ℕ) → times_taken j events ≡ 0
 
--- the steps gave no index back
+-- The steps released no index.
 abbrev pub GiveNone : List Event → Type 0
 GiveNone events = (j : ℕ) → times_given j events ≡ 0
 
--- the steps took no index, and gave none back
+-- The steps took no index, and released none.
 abbrev pub MoveNone : List Event → Type 0
 MoveNone events = TakeNone events × GiveNone events
 
--- the steps took index i once and no other, and gave none back
+-- The steps took index `i` once and no other index, and released none.
 abbrev pub TakeOnly : ℕ → List Event → Type 0
 TakeOnly i events = ((j : ℕ) → times_taken j events ≡ (if i == j then 1 else 0)) × GiveNone events
 
--- the steps gave index i back once and no other, and took none
+-- The steps released index `i` once and no other index, and took none.
 abbrev pub GiveOnly : ℕ → List Event → Type 0
 GiveOnly i events = TakeNone events × ((j : ℕ) → times_given j events ≡ (if i == j then 1 else 0))
 
--- index i was taken and given back by turns: as often, or taken once more
+-- Acquires and releases of index `i` alternate: it was taken as often as released, or once more.
 abbrev pub TakesTurns : ℕ → List Event → Type 0
 TakesTurns i events = (times_given i events ≤ times_taken i events) × (times_taken i events ≤ times_given i events + 1)
 
--- the party holds index i: it took it, and since then nobody gave it back
+-- The party holds index `i`: it took the index, and since then nobody released it.
 pub record Holds (party i : ℕ) (events : List Event) : Type 0 where
   pub before : List Event
   pub taking : Event
@@ -88,19 +89,19 @@ pub record Holds (party i : ℕ) (events : List Event) : Type 0 where
   pub takes : took_by i taking.access ≡ 1
   pub keeps : times_given i after ≡ 0
 
--- the steps saw the cell of each of n indices filled
+-- The steps saw the cell of each of `n` indices filled.
 abbrev pub SawEachFilled : ℕ → List Event → Type 0
 SawEachFilled n events = (i : ℕ) → i < n → list_any (saw_filled i) events ≡ true
 
--- the last of these steps saw that an index is out, or about to be
+-- The last of these steps saw that an index is held or about to be.
 pub record SawOther (n : ℕ) (events : List Event) : Type 0 where
   pub before : List Event
   pub look : Event
   pub whole : events ≡ before ++ look ∷ []
   pub saw : saw_other n look.access look.answer ≡ true
 
--- a step of a recovery changes no cell, unless it empties that of an index that it is to free, by a decision or where a step may insist,
--- where its owner stands or is about to; and it changes the count only to lock the set
+-- A step of a recovery changes no cell, unless it empties the cell of an index that it may free and that its owner holds or is about to
+-- take; and it changes the count only to lock the set.
 abbrev pub FreesSo : List (Vec Bool) → Bool → ℕ → ℕ → Access → Type 0
 FreesSo decisions may owner number (Load word) = Unit {0}
 FreesSo decisions may owner number (Store word value) = ⊥
@@ -110,28 +111,28 @@ FreesSo decisions may owner number (Exchange (Cell place) old new) =
     ((decided decisions number place ≡ true) ⊎ (may ≡ true)) × ((old ≡ owner) ⊎ (old ≡ reserved owner)) × (new ≡ 0)
 FreesSo decisions may owner number Local = Unit {0}
 
--- each of these steps is such a one
+-- Each of these steps is one that a recovery may make.
 abbrev pub FreeOnly : List (Vec Bool) → Bool → ℕ → ℕ → List Event → Type 0
 FreeOnly decisions may owner number [] = Unit {0}
 FreeOnly decisions may owner number (event ∷ events) =
     FreesSo decisions may owner number event.access × FreeOnly decisions may owner number events
 
--- the steps of a recovery are
+-- If the call is a recovery, each of its steps is one that it may make.
 abbrev pub FreesItsOwn : List (Vec Bool) → Bool → Call → List Event → Type 0
 FreesItsOwn decisions may (call.Acquire owner) events = Unit {0}
 FreesItsOwn decisions may (call.Release owner i mode) events = Unit {0}
 FreesItsOwn decisions may (call.Recover owner number mode) events = FreeOnly decisions may owner number events
 
--- so of each recovery among these calls
+-- The steps of each recovery among these calls are ones that it may make.
 abbrev pub EachFreesItsOwn : List (Vec Bool) → Bool → List Event → List Finished → Type 0
 EachFreesItsOwn decisions may events [] = Unit {0}
 EachFreesItsOwn decisions may events (f ∷ finished) =
     FreesItsOwn decisions may f.call (own f.party (drop f.first (take f.last events))) × EachFreesItsOwn decisions may events finished
 
--- what the answer of a call says of its own steps: an acquire that took an index took just that one, whose cell it gave the name of its
--- owner; one that was refused did nothing, and saw each cell filled, or the set is locked. A release gave just its index back; a recovery
--- took none. Only those that were to lock say that the set is locked, and it is; where they say that it isn't, they saw another index out,
--- or about to be
+-- What the result of a call says of its own steps. An acquire that took an index took exactly that one, and stored its owner in the cell. A
+-- refused acquire did nothing, and saw each cell filled, or the set is locked. A release freed exactly its index, and a recovery took none.
+-- Only a call that was to lock the set reports that the set is locked, which is so; if it reports that the set isn't locked, it saw another
+-- index held or about to be.
 abbrev pub Tells : ℕ → Bool → List Event → Call → Answer → Type 0
 Tells n locked events (call.Acquire owner) (Acquired (Ok i)) = (i < n) × TakeOnly i events × (named_after i 0 events ≡ owner)
 Tells n locked events (call.Acquire owner) (Acquired (Err OutOfIndices)) = MoveNone events × SawEachFilled n events
@@ -148,24 +149,24 @@ Tells n locked events (call.Recover owner number Default) (Settled Locked) = ⊥
 Tells n locked events (call.Recover owner number LockIfLastIndex) (Settled Unlocked) = TakeNone events × SawOther n events
 Tells n locked events (call.Recover owner number Default) (Settled Unlocked) = TakeNone events
 
--- so of each call that ended
+-- Each of these finished calls did what its result says.
 abbrev pub AreTold : ℕ → Bool → List Event → List Finished → Type 0
 AreTold n locked events [] = Unit {0}
 AreTold n locked events (f ∷ finished) =
     Tells n locked (own f.party (drop f.first (take f.last events))) f.call f.answer × AreTold n locked events finished
 
--- a call that was to lock the set, and was answered that it is locked
+-- Whether the call was to lock the set, and reports that it is locked.
 abbrev pub has_locked : Call → Answer → Bool
 has_locked (call.Release owner index LockIfLastIndex) (Settled Locked) = true
 has_locked (call.Recover owner number LockIfLastIndex) (Settled Locked) = true
 has_locked other answer = false
 
--- one of these calls is such a call
+-- Whether one of these calls is such a call.
 abbrev pub some_has_locked : List Finished → Bool
 some_has_locked [] = false
 some_has_locked (f ∷ finished) = has_locked f.call f.answer || some_has_locked finished
 
--- a call in hand is such a call, which has its answer
+-- Whether a call in progress is such a call that has its result.
 abbrev pub is_locking : RobustCall → Bool
 is_locking stage.Idle = false
 is_locking (stage.Acquire owner) = false
@@ -181,21 +182,21 @@ is_locking (stage.Scan c place count) = false
 is_locking (stage.Lock c count) = false
 is_locking (stage.Done c answer) = has_locked c answer
 
--- the recovery of this owner began, and of the first m indices no cell holds the owner, or shows that it is about to take the index,
--- where the decisions of this number are to free it
+-- The recovery of this owner began, and among the first `m` indices, the cell of none that the decisions select names the owner or shows
+-- that the owner is about to take the index.
 abbrev pub FreedBelow : List (Vec Bool) → List ℕ → List ℕ → ℕ → ℕ → ℕ → Type 0
 FreedBelow decisions lost cells owner number m =
     (0 < owner) × (owner < 2 ^ 63) × (list_any (λ (other : ℕ). other == owner) lost ≡ true)
     × ((j : ℕ) → j < m → decided decisions number j ≡ true
     → (slice_index cells j ≡ owner → ⊥) × (slice_index cells j ≡ reserved owner → ⊥))
 
--- a recovery left its owner no index that it was to free, for good
+-- If the call is a recovery, it left its owner no selected index, for good.
 abbrev pub FreedBy : List (Vec Bool) → List ℕ → List ℕ → ℕ → Call → Type 0
 FreedBy decisions lost cells n (call.Acquire owner) = Unit {0}
 FreedBy decisions lost cells n (call.Release owner i mode) = Unit {0}
 FreedBy decisions lost cells n (call.Recover owner number mode) = FreedBelow decisions lost cells owner number n
 
--- so did each of these calls
+-- Each of these recoveries left its owner no selected index.
 abbrev pub AreFreed : List (Vec Bool) → List ℕ → List ℕ → ℕ → List Finished → Type 0
 AreFreed decisions lost cells n [] = Unit {0}
 AreFreed decisions lost cells n (f ∷ finished) =

@@ -1,4 +1,4 @@
-//! A call on a set that knows its holders, one access at a time.
+//! A call on a set that knows the owner of each held index, one access at a time.
 ghost use Rattle.std.specs.Prelude.{◌≡◌};
 ghost use Rattle.iox_robust_steps.specs.Steps.{call_begun, call_is_idle, call_is_over, call_next, call_take, claims_from, reserved};
 ghost use Rattle.iox_robust_steps.specs.Steps.{decided, is_freed, is_marked_by, is_seen_of, looks_from, scans_from, settles};
@@ -6,58 +6,59 @@ ghost use Rattle.iox_robust_steps.specs.Steps.{decided, is_freed, is_marked_by, 
 use iox_container::{ReleaseMode, ReleaseState, UniqueIndexSetAcquireFailure};
 use iox_queues_steps::{Access, Word};
 
-/// The count that locks a set.
+/// The count that marks a locked set.
 const LOCK_MARK: u64 = u64::MAX;
 
-/// What is added to an owner while it is about to take an index.
+/// The number that is added to an owner in a cell while the owner is about to take the index.
 const RESERVED: u64 = 1 << 63;
 
 /// A call that a party may begin.
 #[derive(Clone, Copy)]
 pub enum Call {
-    /// Takes a free index for this owner; it looks at the lowest first.
+    /// Takes a free index for this owner; it tries the lowest index first.
     Acquire(u64),
-    /// Gives this owner's index back, which the party took.
+    /// Releases this owner's index, which the party took.
     Release(u64, u64, ReleaseMode),
-    /// Frees those indices of this owner for which the decisions of this number say so.
+    /// Frees the indices of this owner that the list of decisions with this number selects.
     Recover(u64, usize, ReleaseMode),
 }
 
-/// What a call answered.
+/// The result of a call.
 #[derive(Clone, Copy, PartialEq, Eq)]
 pub enum Answer {
     /// An acquire took this index, or was refused.
     Acquired(Result<u64, UniqueIndexSetAcquireFailure>),
-    /// A release or a recovery is done, which may have locked the set.
+    /// A release or a recovery is done, and the set is now locked or not.
     Settled(ReleaseState),
 }
 
-/// Where a call stands. Between its begin and `Done` each stage is one access.
+/// The stage of a call. Each stage from its begin to `Done` is one access after the one before.
 #[derive(Clone, Copy)]
 pub enum RobustCall {
+    /// No call is in progress.
     Idle,
-    /// An acquire looks at the count.
+    /// An acquire reads the count.
     Acquire {
         owner: u64,
     },
-    /// It saw this count, and reserves a cell if that is empty.
+    /// The acquire has read this count, and reserves the cell if it is empty.
     Claim {
         owner: u64,
         place: u64,
         count: u64,
     },
-    /// It reserved the cell, and counts.
+    /// The acquire has reserved the cell, and raises the count.
     Count {
         owner: u64,
         place: u64,
         count: u64,
     },
-    /// It counted, and takes the index.
+    /// The acquire has raised the count, and takes the index.
     Confirm {
         owner: u64,
         place: u64,
     },
-    /// The set was locked meanwhile: it empties the cell.
+    /// The set was locked in the meantime, so the acquire empties the cell.
     Undo {
         owner: u64,
         place: u64,
@@ -68,14 +69,14 @@ pub enum RobustCall {
         index: u64,
         mode: ReleaseMode,
     },
-    /// A recovery looks at a cell.
+    /// A recovery reads a cell.
     Look {
         owner: u64,
         number: usize,
         mode: ReleaseMode,
         place: u64,
     },
-    /// It saw this owner there, and empties the cell if it is still so.
+    /// The recovery has read this owner in the cell, and empties the cell if it hasn't changed.
     Clear {
         owner: u64,
         number: usize,
@@ -83,22 +84,22 @@ pub enum RobustCall {
         place: u64,
         seen: u64,
     },
-    /// A call that is to lock looks at the count.
+    /// A call that may lock the set reads the count.
     Settle {
         call: Call,
     },
-    /// It saw this count, and looks whether the cells are empty.
+    /// The call has read this count, and checks whether the cells are empty.
     Scan {
         call: Call,
         place: u64,
         count: u64,
     },
-    /// It found each cell empty, and locks the set if nothing was counted since.
+    /// The call has found each cell empty, and locks the set if the count hasn't changed.
     Lock {
         call: Call,
         count: u64,
     },
-    /// The call answered; its last step is to come.
+    /// The call has its result, and its last step is still to come.
     Done {
         call: Call,
         answer: Answer,
@@ -106,7 +107,7 @@ pub enum RobustCall {
 }
 
 impl RobustCall {
-    /// The call's first stage, in a set of this capacity.
+    /// The first stage of the call, in a set with this capacity.
     pub fn begin(call: Call, capacity: u64) -> RobustCall
         ensures { result ≡ call_begun capacity call }
     {
@@ -117,7 +118,7 @@ impl RobustCall {
         }
     }
 
-    /// The access that comes next.
+    /// The next access of the call.
     pub fn next(&self) -> Access
         ensures { result ≡ call_next self.now }
     {
@@ -141,8 +142,8 @@ impl RobustCall {
         }
     }
 
-    /// Where the call stands after the answer of that access, in a set of this capacity. Where the step insists, a recovery that sees
-    /// an index of its owner is to free it, whatever was decided.
+    /// The stage after the result of that access, in a set with this capacity. If the step insists, a recovery frees each index of its
+    /// owner that it sees, whatever the decisions are.
     pub fn take(
         self,
         capacity: u64,
@@ -249,14 +250,14 @@ impl RobustCall {
         }
     }
 
-    /// No call is under way.
+    /// Whether no call is in progress.
     pub fn is_idle(&self) -> bool
         ensures { result ≡ call_is_idle self.now }
     {
         matches!(*self, RobustCall::Idle)
     }
 
-    /// The next step is the last of its call.
+    /// Whether the next step is the last one of its call.
     pub fn is_over(&self) -> bool
         ensures { result ≡ call_is_over self.now }
     {
@@ -264,7 +265,7 @@ impl RobustCall {
     }
 }
 
-// What a cell holds while this owner is about to take its index.
+// The content of a cell while this owner is about to take its index.
 pub(crate) fn reserved(owner: u64) -> u64
     ensures { result ≡ reserved owner }
 {
@@ -289,7 +290,7 @@ fn settled(call: Call, state: ReleaseState) -> RobustCall
     }
 }
 
-// To the next cell, if one is left.
+// The stage at the next cell, if one is left.
 fn claims_from(capacity: u64, owner: u64, place: u64, count: u64) -> RobustCall
     ensures { result ≡ claims_from capacity owner place count }
 {
@@ -304,7 +305,7 @@ fn claims_from(capacity: u64, owner: u64, place: u64, count: u64) -> RobustCall
     }
 }
 
-// A call whose indices are free locks the set only in one mode.
+// The stage after the indices are freed: a call locks the set only in one mode.
 fn settles(mode: ReleaseMode, call: Call) -> RobustCall
     ensures { result ≡ settles mode call }
 {
@@ -339,21 +340,21 @@ fn scans_from(capacity: u64, call: Call, place: u64, count: u64) -> RobustCall
     }
 }
 
-// The exchange was won, or another call locked the set.
+// Whether the exchange to the mark succeeded, or another call had locked the set.
 fn is_marked_by(count: u64, answer: u64) -> bool
     ensures { result ≡ is_marked_by count answer }
 {
     answer == count || answer == LOCK_MARK
 }
 
-// The cell is the owner's, or shows that it is about to take the index.
+// Whether the cell names the owner, or shows that the owner is about to take the index.
 fn is_seen_of(owner: u64, seen: u64) -> bool
     ensures { result ≡ is_seen_of owner seen }
 {
     seen == owner || seen == reserved(owner)
 }
 
-// The cell is the owner's, and it was decided to free it, or the step insists on that.
+// Whether the cell is the owner's, and the decisions select it or the step insists.
 fn is_freed(
     decisions: &[Vec<bool>],
     insists: bool,
@@ -367,7 +368,7 @@ fn is_freed(
     is_seen_of(owner, seen) && (insists || decided(decisions, number, place))
 }
 
-// Nothing was decided where the table has no answer.
+// The decision on a place; false if the table has none.
 fn decided(decisions: &[Vec<bool>], number: usize, place: u64) -> bool
     ensures { result ≡ decided decisions.now number place }
 {

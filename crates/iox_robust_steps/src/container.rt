@@ -1,4 +1,5 @@
-//! A container of members one word at a time: parties add, remove, copy and recover, over a set of indices that knows their holders.
+//! A container of members that is accessed one word at a time: parties add, remove, copy and recover members, over a set that knows the
+//! owner of each held index.
 ghost use Rattle.std.specs.Prelude.{◌≡◌, ◌+◌, ◌*◌, ◌<◌, ◌^◌, IfOk, length};
 
 mod call;
@@ -13,45 +14,52 @@ use state::MemberState;
 use std::alloc::{AllocError, Global};
 use std::marker::Model;
 
-/// One step: a party begins a call, or goes on inside one.
+/// One step: a party begins a call, or makes the next step of its call.
 #[derive(Clone, Copy)]
 pub enum MemberMove {
+    /// The party with this number begins a call.
     Begin(usize, MemberCall),
+    /// The party with this number makes the next step of its call.
     GoOn(usize),
 }
 
-/// A call that ended: its first and its last step, by their number among the steps made.
+/// A finished call, with its first and its last step, by their numbers among the steps made.
 #[derive(Clone, Copy)]
 pub struct MemberFinished {
+    /// The number of the party that made the call.
     pub party: usize,
+    /// The call.
     pub call: MemberCall,
+    /// The result of the call.
     pub answer: MemberAnswer,
+    /// The number of its first step.
     pub first: u64,
+    /// The number of its last step.
     pub last: u64,
 }
 
-/// A container of members, whose parties go one step at a time, in any order that the caller wants.
+/// A container of members whose parties make their steps in any order that the caller chooses.
 ///
-/// A table has the values that may be added, each of as many words as the first. Any party may stop anywhere. A removal fits only where
-/// the party that added the member removes it, so once. Nobody puts a member in or takes one out for an owner whose recovery in the set
-/// of indices began; recoveries alone take members of it out, and what they decide on each place is handed in. An index of their owner at
-/// which they see no member they free without a decision. However many steps were made, each got what its word held, and is one of one
-/// call of its party; the steps of a call are those that its value asked for.
+/// A table has the values that may be added, each with as many words as the first. Any party may stop at any step. A removal is possible
+/// only for the party that added the member, and only once. After the recovery of an owner began in the index set, nobody adds or removes
+/// members for this owner; only recoveries remove its members, and the caller passes in what they decide on each place. Where a recovery
+/// sees an index of its owner without a member, it frees the index without a decision. After any number of steps, the result of each step
+/// is what its word held, each step belongs to one call of its party, and the steps of a call are those that the call requested.
 ///
-/// Where fewer than 2^64 - 1 steps were made, all stands that is said of a set of indices ([`RobustSetMachine`]), but that a recovery
-/// frees nothing that it wasn't to free: what shows no member it frees, too. An addition that
-/// wasn't refused put its value in at the index that it answers, where none was in, a removal took its member out, each by one step of its
-/// own, and each counted one change; so did a recovery. An addition is refused as its call on the set was, and a removal or a recovery
-/// answers what its own did. A member stays, with its value, till the party that put it in takes it out, or a recovery does. Each step of
-/// a recovery takes out one member of its owner that it was to take out, or none; after a whole recovery none of those is in, for good,
-/// and the owner has no index at which no member is in, but where a recovery took one out since this one began.
-/// Each member that a copy shows was in, with just that value, at one moment of the copy, and one whose count stayed throughout is shown. A
-/// copy answers that nothing changed only where no change began and ended since the party's last copy.
+/// If fewer than 2^64 - 1 steps were made, the theorems of [`RobustSetMachine`] hold for the index set, except that a recovery may also
+/// free an index without a member. An addition that wasn't refused stored its value at the index that it returns, where no member was, and
+/// a removal took its member out; each did so by one step of its own, and each counted one change, as a recovery does. An addition is
+/// refused if its call on the set was, and a removal or a recovery returns what its call on the set did. A member stays, with its value,
+/// until the party that added it removes it or a recovery does. Each step of a recovery removes one selected member of its owner, or none.
+/// After a finished recovery, none of its selected members is in the container, for good, and its owner holds no index without a member,
+/// except where a recovery removed one since this recovery began. Each member in a copy was in the container with exactly that value at one
+/// moment of the copy, and a member whose count didn't change during the copy is in it. A copy reports that nothing changed only if no
+/// change began and finished since the party's last copy.
 ///
-/// The step of an addition or a removal is the moment of the call, whoever is recovered: up to it none of the party's members is in at the
-/// index of an addition, but one that a recovery takes out in time, and the one that is removed is in; and from then on the other way
-/// round. Till the call ends no recovery takes out what was added, unless the recovery of its owner began. Each call lets pass by its own
-/// steps just what it answers.
+/// An addition or removal takes effect at one step of its party, whoever is recovered. Before the step of an addition, no member of the
+/// party is at its index, except one that a recovery removes before that step; before the step of a removal, its member is there. After the
+/// step, it is the other way round. Until the call finishes, no recovery removes the added member, unless the recovery of its owner began.
+/// By its own steps, each call adds and removes exactly what its result says.
 #[derive(Drop)]
 pub struct ContainerMachine {
     state: MemberState,
@@ -78,9 +86,9 @@ impl ContainerMachine {
     ghost use Rattle.iox_robust_steps.specs.ContainerRecovering.{TakesOutOnlyItsOwn};
     ghost use Rattle.iox_robust_steps.specs.ContainerStays.{MembersAreOfCalls};
 
-    /// An empty container of this capacity, with this many parties, to which these values may be added; with no value at all each is
-    /// one of no words. A recovery names a list of decisions by its number, which says of each place whether its member is to be taken
-    /// out; where it says nothing the member stays.
+    /// An empty container with this capacity and this many parties, to which these values may be added. If `values` is empty, each value
+    /// has no words. A recovery names a list of decisions by its number; the list says for each place whether its member is to be removed,
+    /// and a member without a decision stays. It fails only where an allocation fails.
     pub fn new(
         alloc: Global,
         capacity: usize,
@@ -96,7 +104,8 @@ impl ContainerMachine {
         })
     }
 
-    /// Begins a call, or goes on inside one. The laws stand where fewer than 2^64 - 1 steps were made.
+    /// Begins a call, or makes the next step of a call. A step that isn't possible is skipped. The theorems hold if fewer than 2^64 - 1
+    /// steps were made.
     pub fn step(&mut self, step: MemberMove) -> Stepped
         ensures steps { MemberStepsTo self.old step result self.new }
         ensures tells { MemberTellsStep self.old step result self.new }
@@ -109,8 +118,8 @@ impl ContainerMachine {
         self.state.step(step)
     }
 
-    /// Makes these steps one after the other, leaves out those that do not fit, and stops where no memory is found. The answer is how
-    /// many were made. The laws stand where fewer than 2^64 - 1 steps were made.
+    /// Makes these steps one after another, skips those that aren't possible, and stops where memory for recording a step runs out. Returns
+    /// how many steps were made. The theorems hold if fewer than 2^64 - 1 steps were made.
     pub fn run(&mut self, schedule: &[MemberMove]) -> usize
         ensures runs { MemberRunsTo self.old schedule.now result self.new }
         ensures recorded { MembersAreRecorded self.new }
@@ -131,7 +140,7 @@ impl ContainerMachine {
         made
     }
 
-    // What every machine keeps.
+    // Recalls the invariants of every machine for the prover.
     fn keeps(&self)
         ensures recorded { MembersAreRecorded self.now }
         ensures counted { MembersAreOfCalls self.now }
@@ -140,7 +149,7 @@ impl ContainerMachine {
         let _ = &self.state;
     }
 
-    /// The steps made so far. While a call asks the set of indices its step is a local one here, and one of the set's own.
+    /// The steps made so far. A step in which a call accesses the index set is a local one here, and one of the set's own events.
     pub fn events(&self) -> &[Event]
         ensures value { result.now ≡ self.now.events }
         ensures recorded { MembersAreRecorded self.now }
@@ -150,7 +159,7 @@ impl ContainerMachine {
         self.state.events.as_slice()
     }
 
-    /// The calls that ended, in their order.
+    /// The finished calls, in the order in which they finished.
     pub fn finished(&self) -> &[MemberFinished]
         ensures value { result.now ≡ self.now.finished }
         ensures orderly { HasFewMoves self.now → MembersAreOrderly self.now }
@@ -158,14 +167,14 @@ impl ContainerMachine {
         self.state.finished.as_slice()
     }
 
-    /// The set of indices.
+    /// The index set under the container.
     pub fn indices(&self) -> &RobustSetMachine
         ensures { result.now ≡ self.now.indices }
     {
         &self.state.set
     }
 
-    /// Where the party stands; one that is not there is between calls.
+    /// The stage of the party; a party that doesn't exist is idle.
     pub fn stage(&self, party: usize) -> ContainerCall
         ensures { result ≡ member_stage self.now.seats party }
     {

@@ -1,11 +1,11 @@
-//! Sets of indices that know their holders, one word at a time.
+//! Index sets that know the owner of each held index, and containers over them, which are accessed one word at a time.
 //!
-//! Each index has a cell, which is 0, or names the owner of the index, or the owner that is about to take it. A further word is
-//! counted up before an index is taken, and locks the set for good at its largest number. Any number of parties acquire, release and
-//! recover, each access by access.
+//! Each index has a cell: 0, or the owner that holds the index, or the owner that is about to take it. A further word is a count that is
+//! raised before an index is taken; its largest value locks the set for good. Any number of parties acquire, release and recover indices,
+//! one access at a time.
 //!
-//! - [`call`]: what each party does next, free of any set.
-//! - [`machine`]: a set with its parties, which go in any order.
+//! - [`call`]: the accesses of a call, independent of any set.
+//! - [`machine`]: a set with its parties, whose steps are made in any order.
 //! - [`container`]: a container of members over such a set, with its parties.
 //!
 //! A first call:

@@ -1,4 +1,4 @@
-//! The machine of a set of indices that knows their holders.
+//! A machine that runs an index set that knows the owner of each held index.
 ghost use Rattle.std.specs.Prelude.{◌≡◌, ◌+◌, ◌<◌, ◌≤◌, ◌^◌, ◌-◌, false, true, not, IfOk, length};
 
 use crate::call::{Answer, Call, RobustCall};
@@ -9,34 +9,43 @@ use iox_queues_steps::Stepped;
 use std::alloc::{AllocError, Global};
 use std::marker::Model;
 
-/// One step: a party begins a call, or goes on inside one.
+/// One step: a party begins a call, or makes the next step of its call.
 #[derive(Clone, Copy)]
 pub enum Move {
+    /// The party with this number begins a call.
     Begin(usize, Call),
+    /// The party with this number makes the next step of its call.
     GoOn(usize),
-    /// Goes on, and a recovery that sees an index of its owner is to free it, whatever was decided. It fits only in the set of a container.
+    /// The party makes the next step of its call, and a recovery that sees an index of its owner frees it, whatever the decisions are. This
+    /// step is possible only in the set of a container.
     Insist(usize),
 }
 
-/// A call that ended: its first and its last step, by their number among the steps made.
+/// A finished call, with its first and its last step, by their numbers among the steps made.
 #[derive(Clone, Copy)]
 pub struct Finished {
+    /// The number of the party that made the call.
     pub party: usize,
+    /// The call.
     pub call: Call,
+    /// The result of the call.
     pub answer: Answer,
+    /// The number of its first step.
     pub first: u64,
+    /// The number of its last step.
     pub last: u64,
 }
 
-/// A set of indices that knows their holders, whose parties go one step at a time, in any order that the caller wants.
+/// An index set that knows the owner of each held index, and whose parties make their steps in any order that the caller chooses.
 ///
-/// Any party may stop anywhere. A release fits only where its party holds the index for that owner, so once. Nobody acts for an owner
-/// whose recovery began: what its parties have in hand is skipped, unless it has freed its index or has its answer. What recoveries
-/// decide on each index is handed in. Where fewer than 2^64 - 1 steps were made, no index has two holders, the holder is the party that
-/// took it, and the cell of an index that is held names the owner of the acquire that took it last, and answered it. Between two takings
-/// of an index lies its release or recovery, of a locked set no index is out, only a call that was to lock it locked it, it stays locked,
-/// by its own steps an acquire took just the index that it answers, a release gave back just its own, and what was refused took none; and
-/// a recovery left its owner no index that it was to free. It freed nothing else, at any step, however many were made.
+/// Any party may stop at any step. A release is possible only if its party holds the index for that owner, so only once. After the recovery
+/// of an owner began, nobody acts for this owner: the steps of calls in progress are skipped, unless the call has freed its index or has
+/// its result. The caller passes in what recoveries decide on each index. If fewer than 2^64 - 1 steps were made, no index has two holders,
+/// and the holder is the party that took it. The cell of a held index names the owner of the acquire that took the index last and returned
+/// it. Between two acquires of an index lies its release or recovery. A locked set has no held index, only a call that was to lock the set
+/// has locked it, and it stays locked. By its own steps, an acquire took exactly the index that it returns, a release freed exactly its
+/// own, and a refused call took none. A recovery left its owner no selected index. After any number of steps, a recovery freed nothing
+/// else.
 #[derive(Drop)]
 pub struct RobustSetMachine {
     state: State,
@@ -62,9 +71,9 @@ impl RobustSetMachine {
     ghost use Rattle.iox_robust_steps.specs.OfCalls.{StepsAreOfCalls, TellsStep};
     ghost use Rattle.iox_robust_steps.specs.Recovering.{FreesOnlyItsOwn};
 
-    /// A set of this many indices, of which none is taken, with this many parties, and with the decisions of recoveries: a
-    /// recovery names a list of them by its number, which says of each index whether it is to be freed; where it says nothing the
-    /// index is kept.
+    /// A set of this many indices, none of which is held, with this many parties and the decisions of recoveries. A recovery names a list
+    /// of decisions by its number; the list says for each index whether it is to be freed, and an index without a decision is kept. It
+    /// fails only where an allocation fails.
     pub fn new(
         alloc: Global,
         capacity: usize,
@@ -79,7 +88,7 @@ impl RobustSetMachine {
         })
     }
 
-    // One whose steps may insist that a recovery frees an index.
+    // A set whose steps may insist that a recovery frees an index.
     pub(crate) fn insistent(
         alloc: Global,
         capacity: usize,
@@ -94,7 +103,8 @@ impl RobustSetMachine {
         })
     }
 
-    /// Begins a call, or goes on inside one. The laws stand where fewer than 2^64 - 1 steps were made.
+    /// Begins a call, or makes the next step of a call. A step that isn't possible is skipped. The theorems hold if fewer than 2^64 - 1
+    /// steps were made.
     pub fn step(&mut self, step: Move) -> Stepped
         ensures steps { StepsTo self.old step result self.new }
         ensures tells { TellsStep self.old step result self.new }
@@ -108,8 +118,8 @@ impl RobustSetMachine {
         self.state.step(step)
     }
 
-    /// Makes these steps one after the other, leaves out those that do not fit, and stops where no memory is found. The answer is how
-    /// many were made. The laws stand where fewer than 2^64 - 1 steps were made.
+    /// Makes these steps one after another, skips those that aren't possible, and stops where memory for recording a step runs out. Returns
+    /// how many steps were made. The theorems hold if fewer than 2^64 - 1 steps were made.
     pub fn run(&mut self, schedule: &[Move]) -> usize
         ensures runs { RunsTo self.old schedule.now result self.new }
         ensures recorded { IsRecorded self.new }
@@ -132,21 +142,21 @@ impl RobustSetMachine {
         made
     }
 
-    // Whether the step fits.
+    // Whether the step is possible.
     pub(crate) fn fits(&self, step: Move) -> bool
         ensures { result ≡ fits self.now step }
     {
         self.state.fits(step)
     }
 
-    // The recovery of this owner did not begin.
+    // Whether the recovery of this owner hasn't begun.
     pub(crate) fn may_act(&self, owner: u64) -> bool
         ensures { result ≡ not (is_lost owner self.now.lost) }
     {
         !self.state.is_lost(owner)
     }
 
-    // What every machine keeps.
+    // Recalls the invariants of every machine for the prover.
     fn keeps(&self)
         ensures recorded { IsRecorded self.now }
         ensures counted { StepsAreOfCalls self.now }
@@ -165,7 +175,7 @@ impl RobustSetMachine {
         self.state.events.as_slice()
     }
 
-    /// The calls that ended, in their order.
+    /// The finished calls, in the order in which they finished.
     pub fn finished(&self) -> &[Finished]
         ensures value { result.now ≡ self.now.finished }
         ensures recorded { IsRecorded self.now }
@@ -175,7 +185,7 @@ impl RobustSetMachine {
         self.state.finished.as_slice()
     }
 
-    /// All indices are below this.
+    /// The capacity: every index is below it.
     pub fn capacity(&self) -> u64
         ensures { result ≡ self.now.capacity }
     {
@@ -189,7 +199,7 @@ impl RobustSetMachine {
         self.state.is_locked()
     }
 
-    /// Where the party stands; one that is not there is idle.
+    /// The stage of the party; a party that doesn't exist is idle.
     pub fn stage(&self, party: usize) -> RobustCall
         ensures { result ≡ stage_at self.now.seats party }
     {

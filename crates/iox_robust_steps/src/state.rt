@@ -1,4 +1,4 @@
-//! The state of the machine of a set that knows its holders, and its steps.
+//! The state of the machine of a set that knows the owner of each held index, and its steps.
 ghost use Rattle.std.specs.Prelude.{◌≡◌, ℕ, false, ◌+◌, ◌<◌, ◌^◌, ◌++◌, ◌&&◌, IfOk, OnOk, length, not, set, true, vec_len, vec_capacity};
 ghost use Rattle.iox_queues_steps.specs.Access.{after_access, answer_of};
 ghost use Rattle.iox_robust_steps.specs.Changes.{is_owner};
@@ -12,37 +12,40 @@ use iox_queues::sets::Event;
 use iox_queues_steps::{Access, Ring, Stepped, Word};
 use std::alloc::{AllocError, Global};
 
-/// Where a party stands, and the number of its call's first step.
+/// The stage of a party's call, and the number of the call's first step.
 #[derive(Clone, Copy)]
 pub struct Seat {
+    /// The stage of the party's call.
     pub stage: RobustCall,
+    /// The number of the first step of this call.
     pub first: u64,
 }
 
-/// How far an index is taken, and by which party.
+/// How far an acquire of an index has come, and of which party.
 #[derive(Clone, Copy)]
 pub enum Place {
+    /// Nobody holds the index, or is about to take it.
     Empty,
-    /// The party reserved the cell.
+    /// The party has reserved the cell.
     Claimed(usize),
-    /// And it counted.
+    /// The party has reserved the cell and raised the count.
     Counted(usize),
-    /// And it took the index.
+    /// The party has taken the index.
     Held(usize),
 }
 
 #[derive(Drop)]
 pub(crate) struct State {
     pub(crate) capacity: u64,
-    // What recoveries decide on each index, by the number of a list of answers.
+    // The decisions of recoveries on each index, as numbered lists.
     pub(crate) decisions: Vec<Vec<bool>>,
-    // Whether a step may insist against them.
+    // Whether a step may insist on freeing an index against the decisions.
     pub(crate) may_insist: bool,
-    // The count lies in the read position; behind the cells of the indices is a spare one.
+    // The read position of the ring stores the count; behind the cells of the indices is a spare one.
     pub(crate) ring: Ring,
     pub(crate) seats: Vec<Seat>,
     pub(crate) places: Vec<Place>,
-    // The owners whose recovery began.
+    // The owners whose recovery has begun.
     pub(crate) lost: Vec<u64>,
     pub(crate) events: Vec<Event>,
     pub(crate) finished: Vec<Finished>,
@@ -113,7 +116,7 @@ impl State {
         self.lost.contains(&owner)
     }
 
-    // An owner whose recovery did not begin.
+    // Whether the owner is valid and its recovery hasn't begun.
     fn may_act(&self, owner: u64) -> bool
         ensures { result ≡ (is_owner owner && not (is_lost owner self.now.lost.items)) }
     {
@@ -150,7 +153,7 @@ impl State {
         }
     }
 
-    // The party is inside a call that isn't halted.
+    // Whether the party has a call in progress that isn't halted by a recovery.
     fn may_go_on(&self, party: usize) -> bool
         ensures { result ≡ fits (machine_of self.now) (Move.GoOn party) }
     {
@@ -183,7 +186,7 @@ impl State {
         }
     }
 
-    // Room for one step, for an owner whose recovery begins with it, and for a call that ends with it.
+    // Reserves memory for one step, for an owner whose recovery begins with it, and for a call that finishes with it.
     fn reserve(&mut self, ends: bool) -> Result<(), AllocError>
         ensures same { machine_of self.new ≡ machine_of self.old }
         ensures event { OnOk result (vec_len self.new.events < vec_capacity self.new.events) }
@@ -278,14 +281,14 @@ impl State {
     }
 }
 
-// The number may name an owner.
+// Whether the number is a valid owner.
 fn is_owner(owner: u64) -> bool
     ensures { result ≡ is_owner owner }
 {
     0 < owner && owner < 1 << 63
 }
 
-// The index is taken, by this party.
+// Whether this party holds the index.
 fn is_holder(party: usize, place: Place) -> bool
     ensures { result ≡ is_holder party place }
 {
@@ -295,7 +298,7 @@ fn is_holder(party: usize, place: Place) -> bool
     }
 }
 
-// How far each index is taken, after an access of the party.
+// The state of each index after an access of the party.
 fn change_place(places: &mut Vec<Place>, party: usize, stage: RobustCall, answer: u64)
     ensures { places.new.items ≡ places_after places.old.items party stage answer }
 {
@@ -332,7 +335,7 @@ fn idle() -> Seat
     }
 }
 
-// Records the call, if it is over.
+// Records the call, if it is finished.
 fn end_call(finished: &mut Vec<Finished>, party: usize, seat: Seat, last: u64)
     requires { call_is_over seat.stage ≡ true → vec_len finished.old < vec_capacity finished.old }
     ensures { finished.new.items ≡ finished.old.items ++ call_ended party seat.first last seat.stage }

@@ -1,4 +1,4 @@
--- What a script is answered, in the words of the machine of `iox_machine`.
+-- The replies to a script, in terms of the machine of `iox_machine`.
 use Rattle.std.specs.Prelude.{ℕ, ◌≡◌, ◌⊎◌, ◌<◌, ◌≤◌, Bool, false, List, [], ◌∷◌, ◌++◌, Option, Result, Ok, Err, codes, length, filter_map}
 use Rattle.std.specs.Io.KnownBytes.{Appends, Consumes}
 use Rattle.std.specs.List.{AllZip}
@@ -18,16 +18,16 @@ use Rattle.iox_machine.specs.Choices.{as_named}
 use Rattle.iox_machine.specs.Run as machine
 use Rattle.iox_negotiate_machine.specs.Laws.{HaveOwnHashes}
 
--- a line of text for each that was read: for a fault `err` and its words, for a command the text of the reply that comes next
+-- One line of text for each line that was read: `err` and its text for a fault, and the text of the next reply for a command.
 abbrev pub reply_lines : List (Result (Command ℕ) LineError) → List (Reply ℕ) → List ℕ
 reply_lines (Err fault.Faulty ∷ reads) replies = codes "err faulty line" ++ (10 ∷ reply_lines reads replies)
 reply_lines (Err fault.TooLong ∷ reads) replies = codes "err line too long" ++ (10 ∷ reply_lines reads replies)
 reply_lines (Ok command ∷ reads) (reply ∷ replies) = reply_text reply ++ (10 ∷ reply_lines reads replies)
 reply_lines reads replies = []
 
--- There is a reply to each command among what was read. They are such as a new machine may give to all these commands, where no two
--- services of the names asked for share a hash, of whatever patterns they are. Its messages are slices of 64-bit numbers, with one more as
--- user header, of which a default value is 0, and it keeps so many expired connections. For each port it is chosen what was named.
+-- Each command among what was read has a reply. If no two services of the names that are asked for share a hash, whatever their patterns
+-- are, a new machine may give these replies to all these commands. Its messages are slices of 64-bit numbers, with one such number as user
+-- header; the default value is 0; its subscribers may have `buffer` expired connections; and each port does what was named for it.
 abbrev pub NewMachineMayReply : ℕ → List (Result (Command ℕ) LineError) → List (Reply ℕ) → Type 0
 NewMachineMayReply buffer reads replies =
     let commands = filter_map (λ read. result_ok read) reads in
@@ -35,19 +35,20 @@ NewMachineMayReply buffer reads replies =
     × (HaveOwnHashes (names_in commands)
     → machine.Answers (types_of (codes "u64") 8 8 (codes "u64") 8 8) (as_named (λ value. value ≡ 0)) buffer commands false replies)
 
--- Where no two services of the names asked for share a hash, a text is what a new machine may answer to lines: each is read as the command
--- that it spells, or as the fault for which it spells none; the text has a line for each, and the replies in it are the machine's.
+-- If no two services of the names that are asked for share a hash, the text is what a new machine may answer to the lines: each line is
+-- read as the command that it spells, or as the fault for which it spells none; the text has one line for each, and the replies in it are
+-- the machine's.
 abbrev pub AnswersAsNewMachine : ℕ → List (List ℕ) → List ℕ → Type 0
 AnswersAsNewMachine buffer lines text =
     (reads : List (Result (Command ℕ) LineError)) × (replies : List (Reply ℕ)) × AllZip IsReadAs lines reads
     × (text ≡ reply_lines reads replies) × NewMachineMayReply buffer reads replies
 
--- Where no two services of the names asked for share a hash, this much of what a new machine may answer is written where a conversation
+-- If no two services of the names that are asked for share a hash, this is written of what a new machine may answer when a conversation
 -- breaks off. All that was read before a last piece, of at most 65,536 bytes, is answered: each line that ended before that piece has its
--- whole reply line in what was written, and what is begun there goes on to answer the first lines that were read whole by that piece. After
--- `ReadFault` there is no such piece. After `WriteFault` a beginning is written of what answers those lines, and after no other error.
--- After `OutOfMemory` that piece ends the first line that isn't answered, or at the end of the input the last line isn't, or nothing was
--- read yet.
+-- whole reply line in what was written, and what follows there begins the answers to the first lines that were read whole by that piece.
+-- After `ReadFault` there is no such piece. After `WriteFault`, and after no other error, a beginning of the answers to those lines is
+-- written. After `OutOfMemory` that piece ends the first line that isn't answered, or at the end of the input the last line isn't answered,
+-- or nothing was read yet.
 pub record BeginsAsNewMachine (buffer : ℕ) (error : ServeError) (ended : Bool) (left leaves held holds : Option (List ℕ)) : Type 0 where
   pub read : List ℕ
   pub piece : List ℕ

@@ -1,4 +1,4 @@
--- What a script is answered, line by line.
+-- The replies to a script, line by line.
 use Rattle.std.specs.Prelude.{◌≡◌, ◌++◌, ℕ, Bool, List, [], Option, Result, Ok, Err, codes}
 use Rattle.std.specs.declared.alloc.AllocError.{AllocError}
 use Rattle.iox_hub_commands.specs.Command.declared.command.Command.{Command}
@@ -19,11 +19,11 @@ use Rattle.iox_line.specs.ReplyText.{reply_text}
 use Rattle.iox_line.specs.declared.error.LineError.{LineError}
 use Rattle.iox_script.specs.declared.script.Script.{Script}
 
--- a hub whose messages are slices of 64-bit numbers with one more as user header, and whose ports are decided for by fixed actions
+-- A hub whose messages are slices of 64-bit numbers with one such number as user header, and whose ports have fixed actions.
 abbrev pub ScriptHub : Type 0
 ScriptHub = NumberedHub ℕ ℕ FixedHandlers FixedDegradation
 
--- its terms: a default value is 0, and so is a default user header
+-- The terms of this hub: the default value is 0, and so is the default user header.
 abbrev pub script_terms : Terms ℕ ℕ FixedHandlers FixedDegradation
 script_terms =
     terms_of (codes "u64") 8 8 (λ value. value ≡ 0) (codes "u64") 8 8 (λ header. header ≡ 0)
@@ -33,30 +33,30 @@ script_terms =
     (λ degradation. record { action = degradation })
     (λ handler cause info action. action ≡ handler.action)
 
--- what a command does to it
+-- What a command does to this hub.
 abbrev pub ScriptStep : Command ℕ → ScriptHub → Result (Reply ℕ) AllocError → ScriptHub → Type 0
 ScriptStep = Step script_terms
 
--- a command is answered by the reply to it; a line that is none changes nothing, and is answered why
+-- The answer to a command is its reply; a line that isn't a command changes nothing, and the answer says why it isn't one.
 abbrev pub AnswersRead : Result (Command ℕ) LineError → ScriptHub → List ℕ → ScriptHub → Type 0
 AnswersRead (Ok command) old text new = (reply : Reply ℕ) × ScriptStep command old (Ok reply) new × (text ≡ reply_text reply)
 AnswersRead (Err fault) old text new = (text ≡ codes "err " ++ fault_text fault) × (new ≡ old)
 
--- a line is answered by the hub that a script drives
+-- The answer to a line by the hub that a script drives.
 abbrev pub AnswersLine : Script → List ℕ → List ℕ → Script → Type 0
 AnswersLine old line text new = (read : Result (Command ℕ) LineError) × Answers line (Ok read) × AnswersRead read old.hub text new.hub
 
--- a script drives a new hub
+-- The script drives a new hub.
 abbrev pub IsNewScript : HubConfig → Script → Type 0
 IsNewScript config script = IsNew config script.hub
 
--- a conversation on a new hub broke off
+-- A conversation on a new hub broke off.
 abbrev pub BreaksOffAnew : HubConfig → ServeError → Bool → Option (List ℕ) → Option (List ℕ) → Option (List ℕ) → Option (List ℕ) → Type 0
 BreaksOffAnew config error ended left leaves held holds =
     (script : Script) × IsNewScript config script
     × BreaksOff AnswersLine (λ script. numbers_used script.hub) error ended (record { machine = script; line = [] }) left leaves held holds
 
--- what was written is a beginning of the reply lines, in order, of a new hub to the lines that were read whole
+-- What was written is a beginning of the reply lines, in order, of a new hub to the lines that were read whole.
 abbrev pub WritesABeginningAnew : HubConfig → Bool → Option (List ℕ) → Option (List ℕ) → Option (List ℕ) → Option (List ℕ) → Type 0
 WritesABeginningAnew config ended left leaves held holds =
     (script : Script) × IsNewScript config script × WritesABeginning AnswersLine ended script left leaves held holds

@@ -1,10 +1,9 @@
 //! The hub over bytes: one command a line in, one reply a line out.
 //!
-//! The contract of `serve` says that, for any reader and writer that tell their bytes, what was written are the reply
-//! lines, in order, of the lines read, and that those of commands are a run of a new hub, by `Step`:
-//! `specs/Conversation.antt`. How lines are read and answered is `iox_conversation`'s; which bytes spell a command, and the
-//! bytes of each reply, are `iox_line`'s; what a command does is `iox_hub_commands`'s.
-//! The same is said in the words of the machine (`docs/MACHINE.md`): `specs/Answered.antt`.
+//! The contract of `serve` says that, for any reader and writer that report truthfully how many bytes they moved, what was written are the
+//! reply lines, in order, of the lines read, and that the replies to commands are a run of a new hub, by `Step`: `specs/Conversation.antt`.
+//! `iox_conversation` has how lines are read and answered, `iox_line` which bytes spell a command and which bytes each reply has, and
+//! `iox_hub_commands` what a command does. `specs/Answered.antt` says the same in terms of the machine (`docs/MACHINE.md`).
 //!
 //! | Module | What it has |
 //! |---|---|

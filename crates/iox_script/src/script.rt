@@ -20,7 +20,7 @@ use std::io::{Read, Write};
 
 /// A hub that a script drives: messages are slices of 64-bit numbers, each with a 64-bit number as user header, which is 0.
 ///
-/// This port's own.
+/// Not in `iceoryx2`.
 #[derive(Drop)]
 pub struct Script {
     hub: NumberedHub<u64, u64, FixedHandlers, FixedDegradation>,
@@ -48,7 +48,7 @@ impl AnswersLines for Script {
 }
 
 impl Script {
-    // The same of any line. Most lines ask ports, and those are small.
+    // Answers any line. Most lines are commands on existing ports, which are small values and handled before.
     fn answer_any(
         &mut self,
         alloc: Global,
@@ -71,7 +71,7 @@ impl Script {
     }
 }
 
-// Appends why a line is no command. What stood there before stays, also where memory is wanting.
+// Appends why a line isn't a command. What was there before stays, even if memory runs out.
 fn print_fault(fault: LineError, out: &mut Vec<u8>) -> Result<(), AllocError>
     ensures ok { OnOk result (out.new.items ≡ out.old.items ++ (codes "err " ++ fault_text fault)) }
     ensures kept { OnErr result (StartsWith out.new.items out.old.items) }
@@ -80,21 +80,22 @@ fn print_fault(fault: LineError, out: &mut Vec<u8>) -> Result<(), AllocError>
     out.extend_from_slice(fault.text().as_bytes())
 }
 
-/// Answers each line of the input by one line of output, on a new hub, until a read gives no bytes.
+/// Answers each line of the input by one line of output, on a new hub, until a read returns no bytes.
 ///
-/// A line that spells a command is answered by the reply to it, another line by `err faulty line`, and a line of more
-/// than 1,024 bytes by `err line too long`. A last line without a newline counts if it isn't empty. The lines of one
-/// read are answered before the next read, and their replies are written together.
+/// A line that spells a command is answered by its reply, a line of more than 1,024 bytes by `err line too long`, and any other line by
+/// `err faulty line`. A last line without a newline counts if it isn't empty. The lines of one read are answered before the next read, and
+/// their replies are written together.
 ///
-/// After an error, what is written is a beginning of the replies, in order, to the lines that were read whole. After `ReadFault`
-/// those are all of them; after `WriteFault` all to what was read before the last read, and a beginning of the others; after
-/// `OutOfMemory` those to all lines before the one for which no memory was found.
+/// After an error, what is written is a beginning of the replies, in order, to the lines that were read whole: after `ReadFault` all of
+/// them; after `WriteFault` those to all that was read before the last read, and a beginning of the others; after `OutOfMemory` those to
+/// all lines before the one at which memory ran out.
 ///
-/// What is written, or begun after an error, is what a new machine (`docs/MACHINE.md`) may answer to the lines. The premises are that
-/// the reader and the writer tell their bytes, and that no two services of the names that the lines ask for share a hash.
+/// What is written, whole or as a beginning after an error, is what a new machine (`docs/MACHINE.md`) may answer to the lines. The premises
+/// are that the reader and the writer report truthfully how many bytes they moved, and that no two services of the names that the lines ask
+/// for share a hash.
 ///
-/// A read or write that a signal interrupts is made again. Each such read counts as a read call, and a write that is interrupted
-/// 2^20 times one after the other has failed.
+/// A read or write that a signal interrupts is repeated. Each such read counts as a read call, and a write that is interrupted 2^20 times
+/// in sequence has failed.
 pub fn serve<R: Read, W: Write>(
     alloc: Global,
     config: HubConfig,
@@ -102,12 +103,12 @@ pub fn serve<R: Read, W: Write>(
     output: &mut Output<W>,
 ) -> Result<(), ServeError>
     requires { input.old.calls + 2 ^ 20 < 2 ^ 64 }
-    // The premise is that the reader tells the bytes that it has left.
+    // The premise is that the reader says which bytes it still has.
     ensures conversation { OnOk result (IfSome (R.remaining input.old.reader) (λ bytes.
         (text : List ℕ) × (script : Script) × IsNewScript config script
         × Appends (W.contents output.old.writer) (W.contents output.new.writer) text
         × IsConversation AnswersLine script bytes text)) }
-    // The same in the machine's words, where no two services of the names asked for share a hash (`NewMachineMayReply`).
+    // The same in terms of the machine, if no two services of the names that are asked for share a hash (`NewMachineMayReply`).
     ensures answered { OnOk result (IfSome (R.remaining input.old.reader) (λ bytes.
         (text : List ℕ) × Appends (W.contents output.old.writer) (W.contents output.new.writer) text
         × AnswersAsNewMachine config.expired_connection_buffer (heard_whole true bytes) text)) }
@@ -115,7 +116,7 @@ pub fn serve<R: Read, W: Write>(
         (R.remaining input.new.reader) (W.contents output.old.writer) (W.contents output.new.writer)) }
     ensures beginning { OnErr result (WritesABeginningAnew config input.new.ended (R.remaining input.old.reader)
         (R.remaining input.new.reader) (W.contents output.old.writer) (W.contents output.new.writer)) }
-    // The same of where it broke off, by the same premise.
+    // What is written when the conversation breaks off, in terms of the machine, by the same premise.
     ensures begun { IfErr result (λ error. BeginsAsNewMachine config.expired_connection_buffer error input.new.ended
         (R.remaining input.old.reader) (R.remaining input.new.reader) (W.contents output.old.writer) (W.contents output.new.writer)) }
     ensures ended { OnOk result (input.new.ended ≡ true) }

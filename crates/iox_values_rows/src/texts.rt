@@ -137,7 +137,7 @@ fn each_error_displays_as_its_name(rt: HostRuntime) {
         are_told(alloc, "DescriptionError::", &OF_DESCRIPTIONS),
         are_told(alloc, "LimitError::", &[LimitError::OutsideLimits]),
         are_told(alloc, "AttributeError::", &[AttributeError::OutOfMemory]),
-        is_displayed(alloc, &OUTSIDE, "LimitError::OutsideLimits"),
+        is_displayed(alloc, &OUTSIDE, "AttributeError::LimitError(OutsideLimits)"),
         is_displayed(alloc, &ServeError::ReadFault, "read fault"),
         is_displayed(alloc, &ServeError::WriteFault, "write fault"),
         is_displayed(alloc, &ServeError::OutOfMemory, "out of memory"),

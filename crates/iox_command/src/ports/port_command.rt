@@ -1,25 +1,25 @@
-//! What may be asked of a port.
+//! The commands of existing ports.
 ghost use Rattle.std.specs.Prelude.{◌≡◌};
 ghost use Rattle.iox_command.specs.Ports.{command_of};
 
 use crate::{Command, PortNumber, Values};
 
-/// One command of a port that there is: those commands that need no name and no settings. It is small, so that it costs little to hand on.
+/// One command of an existing port, which needs no name and no settings. It is small, so passing it costs little.
 ///
-/// This port's own.
+/// Not in `iceoryx2`.
 #[derive(Drop)]
 pub enum PortCommand<'a, T> {
-    /// Lends a slice of zeros, of this length.
+    /// Loans a slice of this length, filled with zeros.
     Loan {
         publisher: u64,
         length: u64,
     },
-    /// Lends a slice of this length that isn't written.
+    /// Loans a slice of this length that isn't written.
     LoanUninit {
         publisher: u64,
         length: u64,
     },
-    /// Writes one value into a loan that is written, at this place, counted from 0.
+    /// Writes one value into a written loan, at this place, counted from 0.
     Set {
         loan: u64,
         place: u64,
@@ -30,7 +30,7 @@ pub enum PortCommand<'a, T> {
         loan: u64,
         values: Values<'a, T>,
     },
-    /// Gives a loan back.
+    /// Drops a loan.
     Drop {
         loan: u64,
     },
@@ -43,47 +43,47 @@ pub enum PortCommand<'a, T> {
         publisher: u64,
         values: Values<'a, T>,
     },
-    /// Lets a blocked send go on, after so many nanoseconds.
+    /// Tries a waiting send once more, this number of nanoseconds after its mailbox was first found full.
     Retry {
         publisher: u64,
         nanoseconds: u64,
     },
-    /// Ends a blocked send.
+    /// Gives up a waiting send.
     GiveUp {
         publisher: u64,
     },
-    /// Receives the next message, and holds it.
+    /// Receives the next message, and holds it as a sample.
     Receive {
         subscriber: u64,
     },
-    /// Reads a sample that is held.
+    /// Reads a held sample.
     Read {
         sample: u64,
     },
-    /// Asks for the number of a sample's message.
+    /// Asks for the sequence number of a sample's message.
     Sequence {
         sample: u64,
     },
-    /// Ends the hold of a sample.
+    /// Releases a sample.
     Release {
         sample: u64,
     },
-    /// Brings the connections of a port up to date.
+    /// Updates the connections of a port.
     Update {
         port: PortNumber,
     },
-    /// Ends a port.
+    /// Closes a port.
     Leave {
         port: PortNumber,
     },
-    /// Asks whether a subscriber has messages.
+    /// Asks whether messages wait for a subscriber.
     Has {
         subscriber: u64,
     },
 }
 
 impl<'a, T> PortCommand<'a, T> {
-    /// The same among all commands.
+    /// This command as one of all commands.
     pub fn into_command(self) -> Command<'a, T>
         ensures { result ≡ command_of self.entry }
     {

@@ -1,4 +1,4 @@
-//! Values that outlived the ring of the newest: a list by rising number.
+//! The values that were moved out of the ring of the newest numbers: a list in rising order of their numbers.
 ghost use Rattle.std.specs.Prelude.{◌≡◌, ℕ, ◌<◌, length, nat_eq, option_copied, IfSome, IfNone, None};
 ghost use Rattle.std.specs.List.{HoldsAt};
 ghost use Rattle.std.specs.Map.{lookup, remove_entry};
@@ -7,7 +7,7 @@ ghost use Rattle.iox_container.specs.NumberTable.{Rises};
 
 use std::collections::VecDeque;
 
-/// Where a number stands, if it does.
+/// The position of a number in the list, if it is there.
 pub(crate) fn place_of<V>(entries: &VecDeque<(u64, V)>, number: u64) -> Option<usize>
     requires { (next : ℕ) × Rises 1 entries.now.items next }
     ensures within { IfSome result (λ place. place < length entries.now.items) }
@@ -17,7 +17,7 @@ pub(crate) fn place_of<V>(entries: &VecDeque<(u64, V)>, number: u64) -> Option<u
     entries.binary_search_by_key(&number, |entry| entry.0).ok()
 }
 
-/// The value of a number, if there is one.
+/// The value under a number, if there is one.
 pub(crate) fn value_of<V>(entries: &VecDeque<(u64, V)>, number: u64) -> Option<&V>
     requires { (next : ℕ) × Rises 1 entries.now.items next }
     ensures { option_copied result ≡ lookup (nat_eq number) entries.now.items }
@@ -28,7 +28,7 @@ pub(crate) fn value_of<V>(entries: &VecDeque<(u64, V)>, number: u64) -> Option<&
     }
 }
 
-/// Takes the value of a number out, if there is one.
+/// Takes the value under a number out, if there is one.
 pub(crate) fn take_of<V>(entries: &mut VecDeque<(u64, V)>, number: u64) -> Option<V>
     requires { (next : ℕ) × Rises 1 entries.old.items next }
     ensures value { result ≡ lookup (nat_eq number) entries.old.items }

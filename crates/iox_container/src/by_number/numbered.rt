@@ -1,4 +1,4 @@
-//! The table.
+//! The table of values under numbers.
 ghost use Rattle.std.specs.Prelude.{◌≡◌, ◌+◌, ◌<◌, ◌≤◌, ◌^◌, [], length, is_some, option_copied, IsOk, IsSome, OnOk, OnErr, Some};
 ghost use Rattle.std.specs.Prelude.{if◌then◌else◌};
 ghost use Rattle.std.specs.Borrow.{sem};
@@ -11,15 +11,15 @@ use std::alloc::{AllocError, Global};
 use std::collections::VecDeque;
 use std::marker::Model;
 
-// How many places a ring has for each value that there is room for: the more, the fewer values outlive it.
+// How many places the ring has for each value of the capacity. The more places, the fewer values have to be moved out of the ring.
 const PLACES_FOR_EACH: usize = 4;
 
-/// Values under numbers that are counted from 1, and each given once.
+/// Values under numbers that are counted from 1, each of which is given out once.
 ///
-/// Contracts see its values with their numbers, by rising number, the number that comes next, and for how many values there is room. A
-/// call's cost, and the memory, grow with that room alone: numbers whose values are gone cost nothing.
+/// Contracts see its entries (numbers with their values, in rising order), the next number, and `room`, the maximum number of values. The
+/// cost of a call and the memory grow with `room` alone: a number whose value was removed costs nothing.
 ///
-/// This port's own.
+/// Not in `iceoryx2`.
 #[derive(Drop)]
 pub struct Numbered<V> {
     // The values below `first`, by rising number.
@@ -53,7 +53,7 @@ impl<V> Model for Numbered<V> {
 impl<V> Numbered<V> {
     ghost use Rattle.iox_container.specs.NumberedLends.{LendsAt, LendsHeld};
 
-    /// A table of no values, with room for none; the first number is 1. It takes no memory.
+    /// An empty table with capacity 0, whose next number is 1. It doesn't allocate.
     pub fn new(alloc: Global) -> Self
         ensures entries { result.entries ≡ [] }
         ensures next { result.next ≡ 1 }
@@ -68,8 +68,8 @@ impl<V> Numbered<V> {
         }
     }
 
-    /// Makes room for so many values in all; where there is as much already, nothing happens. Fails only where an allocation fails, and
-    /// then nothing has changed.
+    /// Raises the capacity to `room` values in all; if the table has this capacity already, nothing happens. It fails only where an
+    /// allocation fails, and then nothing has changed.
     pub fn reserve(&mut self, room: usize) -> Result<(), AllocError>
         ensures ok { OnOk result (self.new ≡ with_room self.old room) }
         ensures err { OnErr result (self.new ≡ self.old) }
@@ -86,7 +86,7 @@ impl<V> Numbered<V> {
         Ok(())
     }
 
-    /// For how many values there is room.
+    /// The maximum number of values, which `reserve` raises.
     pub fn room(&self) -> usize
         ensures { result ≡ self.now.room }
     {
@@ -101,7 +101,7 @@ impl<V> Numbered<V> {
         self.live
     }
 
-    /// The number that the next value will be given.
+    /// The number that the next value will get.
     pub fn next_number(&self) -> u64
         ensures value { result ≡ self.now.next }
         ensures rises { Rises 1 self.now.entries self.now.next }
@@ -109,7 +109,7 @@ impl<V> Numbered<V> {
         self.first + self.places.len() as u64
     }
 
-    /// Puts a value under the next number, which it answers. It needs no memory.
+    /// Puts a value under the next number, and returns this number. It doesn't allocate.
     pub fn insert_next(&mut self, value: V) -> u64
         requires room { length self.old.entries < self.old.room }
         requires number { self.old.next + 1 < 2 ^ 64 }
@@ -144,7 +144,7 @@ impl<V> Numbered<V> {
         self.get(number).is_some()
     }
 
-    /// The value under a number, if there is one, to be changed in its place.
+    /// The value under a number for modification in place, if there is one.
     pub fn get_mut(&mut self, number: u64) -> Option<&mut V>
         ensures* writes_back { sem 𝓛 (LendsAt V.row self.entry number result) }
         ensures value { option_copied_mut result ≡ value_at self.old number }
@@ -156,7 +156,7 @@ impl<V> Numbered<V> {
         }
     }
 
-    // The value under a number that has one, to be changed in its place.
+    // The value under a number that has one, for modification in place.
     fn value_mut(&mut self, number: u64) -> &mut V
         requires { IsSome (value_at self.old number) }
         ensures* writes_back { sem 𝓛 (LendsHeld V.row self.entry number result) }
@@ -174,7 +174,7 @@ impl<V> Numbered<V> {
         }
     }
 
-    /// Takes the value under a number out, if there is one. Nobody gets that number again.
+    /// Takes the value under a number out, if there is one. No other value ever gets this number.
     pub fn remove(&mut self, number: u64) -> Option<V>
         ensures value { result ≡ value_at self.old number }
         ensures table { self.new ≡ removed self.old number }

@@ -1,4 +1,4 @@
-//! The newest numbers: a place for each from the first on, with its value or none.
+//! The ring of the newest numbers: a place for each number from the first on, with its value or none.
 ghost use Rattle.std.specs.Prelude.{◌≡◌, ◌+◌, ◌<◌, ◌≤◌, ◌^◌, ◌++◌, length, nat_eq, option_copied};
 ghost use Rattle.std.specs.Map.{lookup, remove_entry};
 ghost use Rattle.std.specs.VecDeque.{deque_capacity};
@@ -7,7 +7,7 @@ ghost use Rattle.iox_container.specs.ByNumberPlaces.{present};
 
 use std::collections::VecDeque;
 
-/// The value of a number from the first on, if there is one.
+/// The value under a number that is at or above `first`, if there is one.
 pub(crate) fn value_in<V>(first: u64, places: &VecDeque<Option<V>>, number: u64) -> Option<&V>
     requires { first ≤ number }
     ensures { option_copied result ≡ lookup (nat_eq number) (present first places.now.items) }
@@ -20,7 +20,7 @@ pub(crate) fn value_in<V>(first: u64, places: &VecDeque<Option<V>>, number: u64)
     }
 }
 
-/// Takes the value of a number from the first on, if there is one.
+/// Takes the value under a number that is at or above `first`, if there is one.
 pub(crate) fn take_in<V>(first: u64, places: &mut VecDeque<Option<V>>, number: u64) -> Option<V>
     requires { first ≤ number }
     ensures value { result ≡ lookup (nat_eq number) (present first places.old.items) }
@@ -36,8 +36,8 @@ pub(crate) fn take_in<V>(first: u64, places: &mut VecDeque<Option<V>>, number: u
     }
 }
 
-/// Makes a place free at the end of a ring: where there is none, the first goes, and a value that lies there goes on among those that
-/// outlived the ring.
+/// Frees a place at the end of the ring. If the ring is full, its first place is removed, and a value in that place moves to the list
+/// `aged`.
 pub(crate) fn make_place<V>(
     aged: &mut VecDeque<(u64, V)>,
     first: &mut u64,

@@ -1,4 +1,4 @@
-//! A value's bytes in a cell.
+//! A cell that holds the encoding of a value.
 ghost use Rattle.std.specs.Prelude.{◌≡◌, ℕ};
 
 use crate::byte_cells::{Coded, MaybeTorn};
@@ -35,14 +35,14 @@ impl<T: Coded<SIZE>, const SIZE: usize> FixedSizeByteAtomic<T, SIZE> {
         }
     }
 
-    /// The bytes of the cell.
+    /// A copy of the cell's bytes.
     pub fn read(&self) -> MaybeTorn<T, SIZE>
         ensures { result ≡ self.now }
     {
         MaybeTorn::new(self.bytes)
     }
 
-    /// Puts the value in the place of what the cell held.
+    /// Replaces the content of the cell by the value.
     pub fn write(&mut self, value: T)
         ensures bytes { self.new ≡ T.encoding.bytes_of value }
         ensures value { T.encoding.is_value value }

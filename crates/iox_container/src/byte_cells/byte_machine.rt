@@ -1,4 +1,4 @@
-//! A cell one byte step at a time.
+//! A model of the cell that makes one byte step at a time.
 ghost use Rattle.std.specs.Prelude.{◌≡◌, ℕ, ◌<◌, List, [], ◌∷◌, length, IsOk, IfOk, OnErr};
 ghost use Rattle.iox_container.specs.ByteSteps.{AnswersInTurn, HoldsAfter, answer_after};
 
@@ -15,24 +15,24 @@ pub enum ByteStep {
     Load(usize),
 }
 
-/// What a byte step answers.
+/// What a byte step returns.
 #[derive(Clone, Copy, Debug)]
 pub enum ByteAnswer {
     /// The byte was stored.
     Stored,
 
-    /// The byte at the place.
+    /// The byte that was loaded.
     Loaded(u8),
 
-    /// The place lies past the cell, and nothing was done.
+    /// The place lies past the cell, so nothing was done.
     Skipped,
 }
 
-/// A cell of `SIZE` bytes that is stored and loaded one byte at a time, by whomever and in any order.
+/// A cell of `SIZE` bytes that is stored and loaded one byte at a time, by any number of callers and in any order.
 ///
 /// Contracts see it as the list of its bytes.
 ///
-/// New in this port: it stands for the steps of `FixedSizeByteAtomic` of the crate `iceoryx2_bb_container` in several threads.
+/// New in this port: it represents the steps of several threads on a `FixedSizeByteAtomic` of the crate `iceoryx2_bb_container`.
 #[derive(Drop)]
 pub struct ByteMachine<const SIZE: usize> {
     bytes: [u8; SIZE],
@@ -47,7 +47,7 @@ impl<const SIZE: usize> Model for ByteMachine<SIZE> {
 }
 
 impl<const SIZE: usize> ByteMachine<SIZE> {
-    /// A cell of these bytes, as of a value's encoding.
+    /// A cell with these bytes, for example those of a value's encoding.
     pub fn new(bytes: [u8; SIZE]) -> Self
         ensures { result ≡ bytes.entry }
     {
@@ -79,8 +79,8 @@ impl<const SIZE: usize> ByteMachine<SIZE> {
         }
     }
 
-    /// Makes the steps one after another and returns their answers. It fails only where the
-    /// allocation for the answers fails, never for no steps, and then makes no step.
+    /// Makes the steps one after another and returns their results. It fails only where the allocation for the results fails, never for an
+    /// empty list of steps, and then makes no step.
     pub fn run(&mut self, alloc: Global, steps: &[ByteStep]) -> Result<Vec<ByteAnswer>, AllocError>
         ensures answers { IfOk result (λ answers. AnswersInTurn self.old steps.now answers.items) }
         ensures bytes { IfOk result (λ _. HoldsAfter self.old steps.now self.new) }

@@ -2,11 +2,11 @@
 ghost use Rattle.std.specs.Prelude.{◌≡◌};
 ghost use Rattle.iox_container.specs.Encoding.{Encoding, byte, two_bytes, four_bytes, eight_bytes, sixteen_bytes};
 
-/// A value that is copied as `SIZE` bytes, its encoding. The encoding of a value gives it back.
+/// A value that is copied as the `SIZE` bytes of its encoding. Decoding the encoding of a value gives the value back.
 ///
-/// New in this port: what iceoryx2 copies as the bytes of any `AtomicCopy` type is copied here by its encoding.
+/// New in this port: iceoryx2 copies the bytes of any `AtomicCopy` type, and this port copies the bytes of the value's encoding.
 pub trait Coded<const SIZE: usize>: Copy {
-    // how a value is spelled as bytes
+    // how a value is encoded as bytes
     ghost encoding: { Encoding Self };
 
     /// The encoding of the value.
@@ -14,12 +14,12 @@ pub trait Coded<const SIZE: usize>: Copy {
         ensures bytes { result ≡ encoding.bytes_of self.now }
         ensures value { encoding.is_value self.now };
 
-    /// The value of these bytes, or any value where they are no encoding.
+    /// The value that these bytes encode, or any value if they aren't an encoding.
     fn of_bytes(bytes: &[u8; SIZE]) -> Self
         ensures { result ≡ encoding.value_of bytes.now };
 }
 
-/// The byte itself.
+/// Encoded as the byte itself.
 impl Coded<1> for u8 {
     ghost encoding = { byte };
 
@@ -32,7 +32,7 @@ impl Coded<1> for u8 {
     }
 }
 
-/// Little end first.
+/// Encoded with the lowest byte first.
 impl Coded<2> for u16 {
     ghost encoding = { two_bytes };
 
@@ -45,7 +45,7 @@ impl Coded<2> for u16 {
     }
 }
 
-/// Little end first.
+/// Encoded with the lowest byte first.
 impl Coded<4> for u32 {
     ghost encoding = { four_bytes };
 
@@ -58,7 +58,7 @@ impl Coded<4> for u32 {
     }
 }
 
-/// Little end first.
+/// Encoded with the lowest byte first.
 impl Coded<8> for u64 {
     ghost encoding = { eight_bytes };
 
@@ -71,7 +71,7 @@ impl Coded<8> for u64 {
     }
 }
 
-/// Little end first.
+/// Encoded with the lowest byte first, as 8 bytes.
 impl Coded<8> for usize {
     ghost encoding = { eight_bytes };
 
@@ -84,7 +84,7 @@ impl Coded<8> for usize {
     }
 }
 
-/// Little end first.
+/// Encoded with the lowest byte first.
 impl Coded<16> for u128 {
     ghost encoding = { sixteen_bytes };
 

@@ -4,7 +4,7 @@ ghost use Rattle.std.specs.Prelude.{◌≡◌, ℕ, ◌↔◌, Some, IfSome};
 use crate::byte_cells::Coded;
 use std::marker::{Model, PhantomData};
 
-/// Bytes that were read one by one, and so may be some of one value and some of another.
+/// Bytes that were read one by one, so that some may be of one value and some of another.
 ///
 /// Contracts see it as the list of its bytes.
 ///
@@ -41,7 +41,7 @@ impl<T, const SIZE: usize> MaybeTorn<T, SIZE> {
         &self.bytes
     }
 
-    /// The value whose encoding the bytes are, or None where they are no value's.
+    /// The value whose encoding these bytes are, or `None` if they aren't the encoding of any value.
     pub fn assume_consistent(&self) -> Option<T>
     where
         T: Coded<SIZE>,

@@ -15,10 +15,10 @@ use std::alloc::{AllocError, Global};
 use std::fmt;
 use std::marker::Model;
 
-/// Values beside keys that the caller brings, at most `CAPACITY` pairs of them, no two with equal keys. `new` takes
-/// all its memory, and of the other calls only `get` may take some.
+/// Pairs of a key and a value, at most `CAPACITY` of them, no two with equal keys; the caller provides the keys. `new` allocates all the
+/// map's memory. Of the other calls only `get` may allocate.
 ///
-/// Contracts see it as they see a `FlatMap`, with `CAPACITY` places.
+/// Contracts see it like a `FlatMap` with `CAPACITY` places.
 ///
 /// Ported from `iceoryx2_bb_container::flatmap::FixedSizeFlatMap`.
 #[derive(Drop)]
@@ -61,7 +61,7 @@ impl<K: Eq, V, const CAPACITY: usize> FixedSizeFlatMap<K, V, CAPACITY> {
         self.map.len()
     }
 
-    /// How many pairs fit, which is `CAPACITY`.
+    /// The maximum number of pairs, which is `CAPACITY`.
     pub fn capacity(&self) -> usize
         ensures { result ≡ CAPACITY }
     {
@@ -75,7 +75,7 @@ impl<K: Eq, V, const CAPACITY: usize> FixedSizeFlatMap<K, V, CAPACITY> {
         self.map.is_empty()
     }
 
-    /// Whether no further pair fits, which is whether there are `CAPACITY` pairs.
+    /// Whether the map has `CAPACITY` pairs, so that no further pair fits.
     pub fn is_full(&self) -> bool
         ensures none_free { IsTrue result ↔ (self.now.free ≡ []) }
         ensures all_held { IsTrue result ↔ (length (pairs self.now.values) ≡ CAPACITY) }
@@ -84,21 +84,21 @@ impl<K: Eq, V, const CAPACITY: usize> FixedSizeFlatMap<K, V, CAPACITY> {
         self.map.is_full()
     }
 
-    /// Whether the map has an equal key.
+    /// Whether the map has a key equal to this one.
     pub fn contains(&self, key: &K) -> bool
         ensures { IsTrue result ↔ IsSome (value_of K.eq key.now self.now) }
     {
         self.map.contains(key)
     }
 
-    /// The value of the key, if the map has it.
+    /// The value under the key, if the map has the key.
     pub fn get_ref(&self, key: &K) -> Option<&V>
         ensures { option_copied result ≡ value_of K.eq key.now self.now }
     {
         self.map.get_ref(key)
     }
 
-    /// The value of the key, if the map has it, to be changed in its place.
+    /// The value under the key for modification in place, if the map has the key.
     pub fn get_mut_ref(&mut self, key: &K) -> Option<&mut V>
         ensures* writes_back { sem 𝓛 (LendsOf K.row V.row CAPACITY.row K.PartialEq self.entry key.now result) }
         ensures value { option_copied_mut result ≡ value_of K.eq key.now self.old }
@@ -106,8 +106,8 @@ impl<K: Eq, V, const CAPACITY: usize> FixedSizeFlatMap<K, V, CAPACITY> {
         self.map.get_mut_ref(key)
     }
 
-    /// A clone of the value of the key, if the map has it. It fails only where the map has the key and the clone of its
-    /// value fails, as where an allocation fails.
+    /// A clone of the value under the key, if the map has the key. It fails only if the map has the key and the clone of its value fails,
+    /// for example because an allocation fails.
     pub fn get(&self, key: &K) -> Result<Option<V>, AllocError>
     where
         V: Clone,
@@ -119,10 +119,9 @@ impl<K: Eq, V, const CAPACITY: usize> FixedSizeFlatMap<K, V, CAPACITY> {
         self.map.get(key)
     }
 
-    /// Takes a pair in.
+    /// Inserts a pair.
     ///
-    /// Refused with `KeyAlreadyExists` if the map has an equal key, else with `IsFull` if no further pair fits; the
-    /// pair is then dropped.
+    /// Refused with `KeyAlreadyExists` if the map has an equal key, else with `IsFull` if no further pair fits. A refused pair is dropped.
     pub fn insert(&mut self, key: K, value: V) -> Result<(), FlatMapError>
     where
         K: Drop,
@@ -141,8 +140,8 @@ impl<K: Eq, V, const CAPACITY: usize> FixedSizeFlatMap<K, V, CAPACITY> {
         self.map.insert(key, value)
     }
 
-    /// Takes the pair of the key out and returns its value, if the map has it. Its key is dropped, and its place is
-    /// the next that is taken.
+    /// Removes the pair with this key and returns its value, if the map has the key. The removed key is dropped, and the pair's place is
+    /// the next one used.
     pub fn remove(&mut self, key: &K) -> Option<V>
     where
         K: Drop,
@@ -155,8 +154,8 @@ impl<K: Eq, V, const CAPACITY: usize> FixedSizeFlatMap<K, V, CAPACITY> {
         self.map.remove(key)
     }
 
-    /// Calls `callback` at each key in the order of the places, up to and with the first that it answers with `Stop`,
-    /// and not again: the contract says in which state that leaves it.
+    /// Calls `callback` with each key in the order of the places, until it returns `Stop` or all keys were passed to it. The contract also
+    /// says in which state this leaves the callback.
     pub fn list_keys<F: FnMut(&K) -> CallbackProgression>(&self, callback: &mut F)
         requires { F.IsAlwaysCallable callback.old }
         ensures called { CallsAtKeys (CalledAt F.FnMut) callback.old (pairs self.now.values) callback.new }
@@ -167,7 +166,7 @@ impl<K: Eq, V, const CAPACITY: usize> FixedSizeFlatMap<K, V, CAPACITY> {
 }
 
 impl<K: Eq, V, const CAPACITY: usize> FixedSizeFlatMap<K, V, CAPACITY> {
-    /// The keys with their values, each pair once, in the order of the places.
+    /// An iterator over the keys with their values, each pair once, in the order of the places.
     pub fn iter(&self) -> Iter<'_, K, V>
         ensures pairs { result ≡ pairs self.now.values }
         ensures keys_differ { KeysDiffer K.eq self.now.values }
@@ -176,7 +175,7 @@ impl<K: Eq, V, const CAPACITY: usize> FixedSizeFlatMap<K, V, CAPACITY> {
     }
 }
 
-/// Goes over the pairs, in the order of the places.
+/// Iterates over the pairs, in the order of the places.
 impl<'a, K: Eq, V, const CAPACITY: usize> IntoIterator for &'a FixedSizeFlatMap<K, V, CAPACITY> {
     type Item = (&'a K, &'a V);
 
@@ -189,7 +188,7 @@ impl<'a, K: Eq, V, const CAPACITY: usize> IntoIterator for &'a FixedSizeFlatMap<
     }
 }
 
-/// The pairs as a map, in the order of the places.
+/// Shows the pairs as a map, in the order of the places.
 impl<K: Eq + fmt::Debug, V: fmt::Debug, const CAPACITY: usize> fmt::Debug
     for FixedSizeFlatMap<K, V, CAPACITY> {
     fn fmt<W: fmt::Write>(&self, f: &mut fmt::Formatter<W>) -> fmt::Result {

@@ -1,15 +1,15 @@
-//! The walk over a flat map.
+//! The iterator over a flat map.
 ghost use Rattle.std.specs.Prelude.{◌≡◌, [], ⊤};
 ghost use Rattle.std.specs.Iterator.{YieldsFirstBy, item_count};
 
 use std::iter::FusedIterator;
 use std::marker::Model;
 
-/// The keys with their values, in the order of the places.
+/// An iterator over the keys with their values, in the order of the places.
 ///
-/// Contracts see it as the list of the pairs that are left.
+/// Contracts see it as the list of the pairs that are still to come.
 ///
-/// New in this port: iceoryx2 lists the keys alone.
+/// New in this port: iceoryx2 lists only the keys.
 #[derive(Drop)]
 pub struct Iter<'a, K, V> {
     pub(crate) places: &'a [Option<(K, V)>],

@@ -11,7 +11,7 @@ use std::alloc::{AllocError, Global};
 use std::fmt;
 use std::marker::Model;
 
-/// A queue of at most `CAPACITY` items. `new` takes all its memory, and no other call takes any.
+/// A queue of at most `CAPACITY` items. `new` allocates all its memory, and no other call allocates.
 ///
 /// Contracts see it as the list of its items, the oldest first.
 ///
@@ -52,7 +52,7 @@ impl<T, const CAPACITY: usize> FixedSizeQueue<T, CAPACITY> {
         self.queue.len()
     }
 
-    /// How many items fit, which is `CAPACITY`.
+    /// The maximum number of items, which is `CAPACITY`.
     pub fn capacity(&self) -> usize
         ensures { result ≡ CAPACITY }
     {
@@ -73,7 +73,7 @@ impl<T, const CAPACITY: usize> FixedSizeQueue<T, CAPACITY> {
         self.queue.is_full()
     }
 
-    /// Appends the item and answers true, or drops it and answers false if the queue is full.
+    /// Appends the item and returns true. If the queue is full, drops the item and returns false.
     pub fn push(&mut self, value: T) -> bool
     where
         T: Drop,
@@ -83,7 +83,7 @@ impl<T, const CAPACITY: usize> FixedSizeQueue<T, CAPACITY> {
         self.queue.push(value)
     }
 
-    /// Appends the item. If the queue is full, its oldest item makes room and is returned; at capacity 0 the new one is.
+    /// Appends the item. If the queue is full, its oldest item is removed and returned; at capacity 0 the new item itself is returned.
     pub fn push_with_overflow(&mut self, value: T) -> Option<T>
         ensures overflow { result ≡ overflow_of CAPACITY self.old value }
         ensures items { self.new ≡ pushed_with_overflow CAPACITY self.old value }
@@ -106,7 +106,7 @@ impl<T, const CAPACITY: usize> FixedSizeQueue<T, CAPACITY> {
         self.queue.peek()
     }
 
-    /// The oldest item, if there is one, to be changed in its place.
+    /// The oldest item for modification in place, if there is one.
     pub fn peek_mut(&mut self) -> Option<&mut T>
         ensures* writes_back { sem 𝓛 (LendsOldest T.row CAPACITY.row self.entry result) }
         ensures value { option_copied_mut result ≡ slice_get self.old 0 }
@@ -114,7 +114,7 @@ impl<T, const CAPACITY: usize> FixedSizeQueue<T, CAPACITY> {
         self.queue.peek_mut()
     }
 
-    /// The item at `index`, counted from the oldest, which has 0.
+    /// The item at `index`, counted from the oldest, which has index 0.
     pub fn get(&self, index: usize) -> T
     where
         T: Copy,
@@ -134,7 +134,7 @@ impl<T, const CAPACITY: usize> FixedSizeQueue<T, CAPACITY> {
     }
 }
 
-/// Queues are equal where their items are, in order.
+/// Two queues are equal if their items are equal, in order.
 impl<T: PartialEq, const CAPACITY: usize> PartialEq for FixedSizeQueue<T, CAPACITY> {
     ghost eq = { λ p q. pointwise T.eq p q };
 
@@ -149,7 +149,7 @@ impl<T: Eq, const CAPACITY: usize> Eq for FixedSizeQueue<T, CAPACITY> {
     ghost laws = { lists_equiv T.Eq.laws };
 }
 
-/// The items as a list, the oldest first.
+/// Shows the items as a list, the oldest first.
 impl<T: fmt::Debug, const CAPACITY: usize> fmt::Debug for FixedSizeQueue<T, CAPACITY> {
     fn fmt<W: fmt::Write>(&self, f: &mut fmt::Formatter<W>) -> fmt::Result {
         fmt::Debug::fmt(&self.queue, f)

@@ -1,11 +1,11 @@
-//! Why a semantic string was not made or not changed.
+//! The error of a semantic string.
 ghost use Rattle.std.specs.Prelude.{◌≡◌};
 ghost use Rattle.iox_container.specs.Refusals.{error_text, refusal_of};
 
 use crate::string::StringModificationError;
 use thiserror::Error;
 
-/// Why a semantic string was not made or not changed; a string that stood before is then as it was.
+/// Why a semantic string was not created or not changed. A string that existed before stays as it was.
 ///
 /// Ported from `iceoryx2_bb_container::semantic_string::SemanticStringError`.
 #[derive(Clone, Copy, Debug, PartialEq, Eq, Error)]
@@ -14,12 +14,12 @@ pub enum SemanticStringError {
     /// The content has a byte outside 1..=127, or the rules refuse it.
     InvalidContent,
 
-    /// The content would be longer than the capacity. This is tested first.
+    /// The content would be longer than the capacity. This condition is tested first.
     ExceedsMaximumLength,
 }
 
 impl SemanticStringError {
-    /// What it displays as: the name of the type and of the variant.
+    /// The text that `Display` prints: the names of the type and of the variant.
     pub fn text(&self) -> &'static str
         ensures { result.now ≡ error_text self.now }
     {

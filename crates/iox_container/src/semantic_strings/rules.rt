@@ -1,15 +1,15 @@
-//! What makes a text acceptable, and which texts say the same.
+//! Which texts a type of semantic string accepts, and which texts it treats as equal.
 ghost use Rattle.std.specs.Prelude.{◌≡◌, ℕ, ◌≤◌, List, length, Bool};
 ghost use Rattle.iox_container.specs.StringBytes.{IsStringBytes};
 
 use crate::string::StaticString;
 
-/// The rules of a kind of text, as of file names or service names.
+/// The rules of a type of text, for example of file names or service names.
 ///
-/// Contracts see which content and which characters the rules refuse, and the normal form of a text. Two texts of the
-/// same normal form are equal. Normalising twice is normalising once; each implementation proves it.
+/// Contracts see which content and which characters the rules refuse, and the normal form of a text. Two texts with the same normal form
+/// are equal. Normalising a text twice gives the same as normalising it once; each implementation proves this.
 ///
-/// It stands for the callbacks of the macro `iceoryx2_bb_container::semantic_string!`.
+/// It replaces the callbacks of the macro `iceoryx2_bb_container::semantic_string!`.
 pub trait Rules<const CAPACITY: usize> {
     ghost refuses_content: { List ℕ → Bool };
 

@@ -22,8 +22,8 @@ use std::marker::{Model, PhantomData};
 
 /// A text of at most `CAPACITY` bytes of 1..=127 that the rules `R` accept. No call allocates.
 ///
-/// Contracts see it as the list of its bytes. Equality, order and hash are those of the bytes of its normal form. Each
-/// call that would change it leaves an accepted text or changes nothing.
+/// Contracts see it as the list of its bytes. Equality, order and hash are those of the bytes of its normal form. A call that changes it
+/// either leaves an accepted text or changes nothing.
 ///
 /// Ported from the types of the macro `iceoryx2_bb_container::semantic_string!`.
 #[derive(Drop)]
@@ -47,8 +47,8 @@ impl<R: Rules<CAPACITY>, const CAPACITY: usize> Model for Semantic<R, CAPACITY> 
 impl<R: Rules<CAPACITY>, const CAPACITY: usize> Semantic<R, CAPACITY> {
     /// A text of these bytes.
     ///
-    /// Refused with `ExceedsMaximumLength` if they are more than `CAPACITY`, else with `InvalidContent` if one lies
-    /// outside 1..=127 or the rules refuse them.
+    /// Refused with `ExceedsMaximumLength` if there are more than `CAPACITY` bytes, else with `InvalidContent` if a byte lies outside
+    /// 1..=127 or the rules refuse the text.
     pub fn new(bytes: &[u8]) -> Result<Self, SemanticStringError>
         ensures answer { AnswersContent CAPACITY R.refuses_content R.refuses_characters bytes.now result }
         ensures value { IfOk result (λ s. s ≡ bytes.now) }
@@ -63,7 +63,7 @@ impl<R: Rules<CAPACITY>, const CAPACITY: usize> Semantic<R, CAPACITY> {
         })
     }
 
-    /// The text with all that reads a string.
+    /// The text as a `StaticString`, with the read operations of strings.
     pub fn as_string(&self) -> &StaticString<CAPACITY>
         ensures value { result.now ≡ self.now }
         ensures fits { length self.now ≤ CAPACITY }
@@ -79,7 +79,7 @@ impl<R: Rules<CAPACITY>, const CAPACITY: usize> Semantic<R, CAPACITY> {
         self.content.as_bytes()
     }
 
-    /// The text, which is ASCII.
+    /// The text as a `str`; it is ASCII.
     pub fn as_str(&self) -> &str
         ensures { result.now ≡ self.now }
     {
@@ -101,7 +101,7 @@ impl<R: Rules<CAPACITY>, const CAPACITY: usize> Semantic<R, CAPACITY> {
         self.content.is_empty()
     }
 
-    /// How many bytes fit, which is `CAPACITY`.
+    /// The maximum number of bytes, which is `CAPACITY`.
     pub fn capacity(&self) -> usize
         ensures { result ≡ CAPACITY }
     {
@@ -116,7 +116,7 @@ impl<R: Rules<CAPACITY>, const CAPACITY: usize> Semantic<R, CAPACITY> {
         R::normalise(&self.content)
     }
 
-    // Takes a content in the place of the one that stood.
+    // Replaces the content by another one, if the rules accept it.
     fn adopt(&mut self, content: StaticString<CAPACITY>) -> Result<(), SemanticStringError>
         ensures answer { AnswersContent CAPACITY R.refuses_content R.refuses_characters content.entry result }
         ensures ok { OnOk result (self.new ≡ content.entry) }
@@ -129,10 +129,10 @@ impl<R: Rules<CAPACITY>, const CAPACITY: usize> Semantic<R, CAPACITY> {
         Ok(())
     }
 
-    /// Inserts bytes before that at `idx`, or at the end: all or none of them.
+    /// Inserts bytes before the byte at `idx`, or at the end: all of them or none.
     ///
-    /// Refused with `ExceedsMaximumLength` if they don't fit, else with `InvalidContent` if one lies outside 1..=127
-    /// or the rules refuse the text with them.
+    /// Refused with `ExceedsMaximumLength` if the bytes don't fit, else with `InvalidContent` if one lies outside 1..=127 or the rules
+    /// refuse the resulting text.
     pub fn insert_bytes(&mut self, idx: usize, bytes: &[u8]) -> Result<(), SemanticStringError>
         requires { idx ≤ length self.old }
         ensures answer { AnswersContent CAPACITY R.refuses_content R.refuses_characters (bytes_inserted self.old idx bytes.now) result }
@@ -144,7 +144,7 @@ impl<R: Rules<CAPACITY>, const CAPACITY: usize> Semantic<R, CAPACITY> {
         self.adopt(changed)
     }
 
-    /// Inserts a byte before that at `idx`, or at the end. Refused as `insert_bytes` is.
+    /// Inserts a byte before the byte at `idx`, or at the end. Refused as `insert_bytes` is.
     pub fn insert(&mut self, idx: usize, byte: u8) -> Result<(), SemanticStringError>
         requires { idx ≤ length self.old }
         ensures answer { AnswersContent CAPACITY R.refuses_content R.refuses_characters (bytes_inserted self.old idx (byte ∷ [])) result }
@@ -154,7 +154,7 @@ impl<R: Rules<CAPACITY>, const CAPACITY: usize> Semantic<R, CAPACITY> {
         self.insert_bytes(idx, &[byte])
     }
 
-    /// Appends bytes, all or none of them. Refused as `insert_bytes` is.
+    /// Appends bytes: all of them or none. Refused as `insert_bytes` is.
     pub fn push_bytes(&mut self, bytes: &[u8]) -> Result<(), SemanticStringError>
         ensures answer { AnswersContent CAPACITY R.refuses_content R.refuses_characters (self.old ++ bytes.now) result }
         ensures ok { OnOk result (self.new ≡ self.old ++ bytes.now) }
@@ -173,8 +173,7 @@ impl<R: Rules<CAPACITY>, const CAPACITY: usize> Semantic<R, CAPACITY> {
         self.push_bytes(&[byte])
     }
 
-    /// Removes the byte at `idx` and returns it, if there is one. Refused with `InvalidContent` if the rules refuse
-    /// the text without it.
+    /// Removes the byte at `idx` and returns it, if there is one. Refused with `InvalidContent` if the rules refuse the resulting text.
     pub fn remove(&mut self, idx: usize) -> Result<Option<u8>, SemanticStringError>
         ensures answer { AnswersContent CAPACITY R.refuses_content R.refuses_characters (remove self.old idx) result }
         ensures value { IfOk result (λ byte. byte ≡ slice_get self.old idx) }
@@ -198,8 +197,8 @@ impl<R: Rules<CAPACITY>, const CAPACITY: usize> Semantic<R, CAPACITY> {
         self.remove(last)
     }
 
-    /// Removes `len` bytes from `idx` on and answers true, or answers false if the text hasn't them all. Refused with
-    /// `InvalidContent` if the rules refuse the text without them.
+    /// Removes `len` bytes from `idx` on and returns true, or returns false if the text ends before them. Refused with `InvalidContent` if
+    /// the rules refuse the resulting text.
     pub fn remove_range(&mut self, idx: usize, len: usize) -> Result<bool, SemanticStringError>
         ensures within { idx + len ≤ length self.old
             → AnswersContent CAPACITY R.refuses_content R.refuses_characters (range_replaced self.old idx (idx + len) []) result }
@@ -216,7 +215,7 @@ impl<R: Rules<CAPACITY>, const CAPACITY: usize> Semantic<R, CAPACITY> {
         Ok(true)
     }
 
-    /// Keeps the first `new_len` bytes. Refused with `InvalidContent` if the rules refuse them.
+    /// Keeps the first `new_len` bytes. Refused with `InvalidContent` if the rules refuse the resulting text.
     pub fn truncate(&mut self, new_len: usize) -> Result<(), SemanticStringError>
         ensures answer { AnswersContent CAPACITY R.refuses_content R.refuses_characters (take new_len self.old) result }
         ensures ok { OnOk result (self.new ≡ take new_len self.old) }
@@ -236,9 +235,8 @@ impl<R: Rules<CAPACITY>, const CAPACITY: usize> Semantic<R, CAPACITY> {
         self.truncate(0)
     }
 
-    /// Keeps the bytes for which `keeps` answers true. It is called at each byte once, in their order, and not again:
-    /// the contract says in which state that leaves it. Refused with `InvalidContent` if the rules refuse the text that
-    /// is kept.
+    /// Keeps the bytes for which `keeps` returns true. It is called once for each byte, in order. The contract also says in which state
+    /// this leaves `keeps`. Refused with `InvalidContent` if the rules refuse the resulting text.
     pub fn retain<F: FnMut(u8) -> bool>(&mut self, keeps: &mut F) -> Result<(), SemanticStringError>
         requires { F.IsAlwaysCallable keeps.old }
         ensures answer { (kept : List ℕ) × KeepsAsAnswered (λ p byte answer q. F.step p byte answer q) keeps.old self.old kept keeps.new
@@ -251,8 +249,8 @@ impl<R: Rules<CAPACITY>, const CAPACITY: usize> Semantic<R, CAPACITY> {
         self.adopt(changed)
     }
 
-    /// Removes `bytes` from the start and answers true, or answers false if the text doesn't begin with them. Refused
-    /// with `InvalidContent` if the rules refuse the rest.
+    /// Removes `bytes` from the start and returns true, or returns false if the text doesn't begin with them. Refused with `InvalidContent`
+    /// if the rules refuse the rest.
     pub fn strip_prefix(&mut self, bytes: &[u8]) -> Result<bool, SemanticStringError>
         ensures stripped { (rest : List ℕ) → self.old ≡ bytes.now ++ rest
             → AnswersContent CAPACITY R.refuses_content R.refuses_characters rest result }
@@ -269,8 +267,8 @@ impl<R: Rules<CAPACITY>, const CAPACITY: usize> Semantic<R, CAPACITY> {
         Ok(true)
     }
 
-    /// Removes `bytes` from the end and answers true, or answers false if the text doesn't end with them. Refused with
-    /// `InvalidContent` if the rules refuse the rest.
+    /// Removes `bytes` from the end and returns true, or returns false if the text doesn't end with them. Refused with `InvalidContent` if
+    /// the rules refuse the rest.
     pub fn strip_suffix(&mut self, bytes: &[u8]) -> Result<bool, SemanticStringError>
         ensures stripped { (rest : List ℕ) → self.old ≡ rest ++ bytes.now
             → AnswersContent CAPACITY R.refuses_content R.refuses_characters rest result }
@@ -288,7 +286,7 @@ impl<R: Rules<CAPACITY>, const CAPACITY: usize> Semantic<R, CAPACITY> {
     }
 }
 
-/// As `new`, of the bytes of the text.
+/// Like `new` with the bytes of the text.
 impl<R: Rules<CAPACITY>, const CAPACITY: usize> TryFrom<&str> for Semantic<R, CAPACITY> {
     type Error = SemanticStringError;
 
@@ -357,14 +355,14 @@ impl<R: Rules<CAPACITY>, const CAPACITY: usize> Hash for Semantic<R, CAPACITY> {
     }
 }
 
-/// The text as a literal: in quotes, with escapes.
+/// Shows the text as a literal, in quotes and with escapes.
 impl<R: Rules<CAPACITY>, const CAPACITY: usize> fmt::Debug for Semantic<R, CAPACITY> {
     fn fmt<W: fmt::Write>(&self, f: &mut fmt::Formatter<W>) -> fmt::Result {
         fmt::Debug::fmt(&self.content, f)
     }
 }
 
-/// The text.
+/// Shows the text.
 impl<R: Rules<CAPACITY>, const CAPACITY: usize> fmt::Display for Semantic<R, CAPACITY> {
     ghost output = { λ s. Some s };
 

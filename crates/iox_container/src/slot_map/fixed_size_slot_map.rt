@@ -12,10 +12,10 @@ use std::alloc::{AllocError, Global};
 use std::fmt;
 use std::marker::Model;
 
-/// Values under keys that the map gives out, at most `CAPACITY` of them. `new` takes all its memory, and no other call
-/// takes any; it is touched as it is used.
+/// Values under keys that the map generates, at most `CAPACITY` of them. `new` allocates all its memory, and no other call allocates. The
+/// memory is touched only as it is used.
 ///
-/// Contracts see it as they see a `SlotMap`, with `CAPACITY` places for `values`.
+/// Contracts see it like a `SlotMap` with `CAPACITY` keys.
 ///
 /// Ported from `iceoryx2_bb_container::slotmap::FixedSizeSlotMap`.
 #[derive(Drop)]
@@ -56,7 +56,7 @@ impl<T, const CAPACITY: usize> FixedSizeSlotMap<T, CAPACITY> {
         self.map.len()
     }
 
-    /// How many values fit, which is `CAPACITY`.
+    /// The maximum number of values, which is `CAPACITY`.
     pub fn capacity(&self) -> usize
         ensures { result ≡ CAPACITY }
     {
@@ -70,7 +70,7 @@ impl<T, const CAPACITY: usize> FixedSizeSlotMap<T, CAPACITY> {
         self.map.is_empty()
     }
 
-    /// Whether each key holds a value.
+    /// Whether every key holds a value.
     pub fn is_full(&self) -> bool
         ensures none_free { IsTrue result ↔ (self.now.free ≡ []) }
         ensures all_held { IsTrue result ↔ (held_count self.now ≡ CAPACITY) }
@@ -79,7 +79,7 @@ impl<T, const CAPACITY: usize> FixedSizeSlotMap<T, CAPACITY> {
         self.map.is_full()
     }
 
-    /// The key that `insert` would give out, or None if the map is full.
+    /// The key that `insert` would give out; `None` if the map is full.
     pub fn next_free_key(&self) -> Option<SlotMapKey>
         ensures first { result ≡ slice_get self.now.free 0 }
         ensures free_keys { FreeKeysAreExact self.now }
@@ -101,7 +101,7 @@ impl<T, const CAPACITY: usize> FixedSizeSlotMap<T, CAPACITY> {
         self.map.get(key)
     }
 
-    /// The value at the key, if it holds one, to be changed in its place.
+    /// The value at the key for modification in place, if the key holds one.
     pub fn get_mut(&mut self, key: SlotMapKey) -> Option<&mut T>
         ensures* writes_back { sem 𝓛 (LendsAt T.row CAPACITY.row self.entry key result) }
         ensures value { option_copied_mut result ≡ value_at self.old.values key }
@@ -109,8 +109,7 @@ impl<T, const CAPACITY: usize> FixedSizeSlotMap<T, CAPACITY> {
         self.map.get_mut(key)
     }
 
-    /// Stores the value under the key that `next_free_key` returns, and returns it. If the map is full, the value is
-    /// dropped.
+    /// Stores the value under the key that `next_free_key` returns, and returns this key. If the map is full, the value is dropped.
     pub fn insert(&mut self, value: T) -> Option<SlotMapKey>
     where
         T: Drop,
@@ -124,8 +123,8 @@ impl<T, const CAPACITY: usize> FixedSizeSlotMap<T, CAPACITY> {
         self.map.insert(value)
     }
 
-    /// Stores the value under the key, in the place of the one that it held, which is dropped, and answers true. If the
-    /// key is not below the capacity, the value is dropped, and the answer is false.
+    /// Stores the value under the key and returns true; a value that the key held before is dropped. If the key isn't below the capacity,
+    /// drops the new value and returns false.
     pub fn insert_at(&mut self, key: SlotMapKey, value: T) -> bool
     where
         T: Drop,
@@ -136,8 +135,8 @@ impl<T, const CAPACITY: usize> FixedSizeSlotMap<T, CAPACITY> {
         self.map.insert_at(key, value)
     }
 
-    /// Drops the value at the key and answers true, or answers false if it holds none. The key is then the next that is
-    /// given out.
+    /// Drops the value at the key and returns true; the key is then the next one that is given out. Returns false if the key holds no
+    /// value.
     pub fn remove(&mut self, key: SlotMapKey) -> bool
     where
         T: Drop,
@@ -148,7 +147,7 @@ impl<T, const CAPACITY: usize> FixedSizeSlotMap<T, CAPACITY> {
         self.map.remove(key)
     }
 
-    /// The keys that hold a value with it, each once, by rising key.
+    /// An iterator over the keys that hold a value, with the values, each key once, in rising order.
     pub fn iter(&self) -> Iter<'_, T>
         ensures items { result ≡ held_from 0 self.now.values }
         ensures each_once { ListsHeldKeys self.now.values result }
@@ -157,7 +156,7 @@ impl<T, const CAPACITY: usize> FixedSizeSlotMap<T, CAPACITY> {
     }
 }
 
-/// Goes over the keys that hold a value, with it, by rising key.
+/// Iterates over the keys that hold a value, with the values, in rising order.
 impl<'a, T, const CAPACITY: usize> IntoIterator for &'a FixedSizeSlotMap<T, CAPACITY> {
     type Item = (SlotMapKey, &'a T);
 
@@ -170,7 +169,7 @@ impl<'a, T, const CAPACITY: usize> IntoIterator for &'a FixedSizeSlotMap<T, CAPA
     }
 }
 
-/// The values beside the numbers of their keys as a map, by rising key.
+/// Shows the values with the numbers of their keys as a map, in rising order.
 impl<T: fmt::Debug, const CAPACITY: usize> fmt::Debug for FixedSizeSlotMap<T, CAPACITY> {
     fn fmt<W: fmt::Write>(&self, f: &mut fmt::Formatter<W>) -> fmt::Result {
         fmt::Debug::fmt(&self.map, f)

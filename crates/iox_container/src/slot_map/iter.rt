@@ -1,4 +1,4 @@
-//! The walk over a slot map.
+//! The iterator over a slot map.
 ghost use Rattle.std.specs.Prelude.{◌≡◌, [], ⊤};
 ghost use Rattle.std.specs.Iterator.{YieldsFirstBy, item_count};
 
@@ -6,9 +6,9 @@ use crate::slot_map::SlotMapKey;
 use std::iter::FusedIterator;
 use std::marker::Model;
 
-/// The keys that hold a value with it, by rising key.
+/// An iterator over the keys that hold a value, with the values, in rising order.
 ///
-/// Contracts see it as the list of those that are left.
+/// Contracts see it as the list of the pairs that are still to come.
 ///
 /// Ported from `iceoryx2_bb_container::slotmap::Iter`.
 #[derive(Drop)]

@@ -3,7 +3,7 @@ ghost use Rattle.std.specs.Prelude.{◌≡◌};
 
 use std::marker::Model;
 
-/// The key of a value in a slot map: a number below the map's capacity, if the map gave it out.
+/// The key of a value in a slot map. A key that the map gave out is a number below the map's capacity.
 ///
 /// Contracts see it as that number.
 ///

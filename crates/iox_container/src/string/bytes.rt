@@ -1,4 +1,4 @@
-//! Questions on bytes that may be no text.
+//! Functions on bytes that may not be a text.
 ghost use Rattle.std.specs.Prelude.{◌≡◌, ◌<◌, ◌++◌, ◌↔◌, length, IsTrue, IsOk, IfOk, OnOk, string_bytes};
 ghost use Rattle.std.specs.List.{flat_map};
 ghost use Rattle.iox_container.specs.Bytes.{EndsAtZero, escape_of, hex_digit as digit_of};
@@ -6,14 +6,14 @@ ghost use Rattle.iox_container.specs.StringBytes.{IsStringBytes};
 
 use std::alloc::{AllocError, Allocator};
 
-/// Whether each byte is one that a string may hold, 1..=127.
+/// Whether each byte is one that a string may hold, in 1..=127.
 pub fn are_string_bytes(bytes: &[u8]) -> bool
     ensures { IsTrue result ↔ IsStringBytes bytes.now }
 {
     bytes.iter().all(|&byte| 1 <= byte && byte <= 127)
 }
 
-/// How many bytes stand before the first zero; all of them, if there is none.
+/// How many bytes come before the first zero; the number of all bytes if there is no zero.
 ///
 /// Ported from `iceoryx2_bb_container::string::strnlen`.
 pub fn strnlen(bytes: &[u8]) -> usize
@@ -25,8 +25,8 @@ pub fn strnlen(bytes: &[u8]) -> usize
         .unwrap_or(bytes.len())
 }
 
-/// The bytes as printable text: tab, line ends, quotes and the backslash behind a backslash, bytes that print as they
-/// are, and each other byte as `\x` and two lower-case hexadecimal digits. It fails only where an allocation fails, and never for no bytes.
+/// The bytes as printable text: tab, line ends, quotes and the backslash are escaped with a backslash, printable bytes are kept, and every
+/// other byte becomes `\x` and two lower-case hexadecimal digits. It fails only where an allocation fails, and never for no bytes.
 ///
 /// Ported from `iceoryx2_bb_container::string::as_escaped_string`.
 pub fn as_escaped_string<A: Allocator>(alloc: A, bytes: &[u8]) -> Result<String<A>, AllocError>

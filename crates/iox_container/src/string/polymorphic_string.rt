@@ -1,4 +1,4 @@
-//! A string whose capacity is chosen when it is made.
+//! A string whose capacity is chosen when it is created.
 ghost use Rattle.std.specs.Prelude.{◌≡◌, ℕ, ◌+◌, ◌-◌, ◌<◌, ◌≤◌, ◌↔◌, List, [], ◌∷◌, ◌++◌, length, take, drop, replicate, IsOk, IfOk};
 ghost use Rattle.std.specs.Prelude.{Some, nat_eq, refl};
 ghost use Rattle.std.specs.Ordering.{nat_cmp};
@@ -16,7 +16,7 @@ use std::fmt;
 use std::hash::{Hash, Hasher};
 use std::marker::Model;
 
-/// A string of bytes of 1..=127 whose capacity is chosen by `new`, which takes all its memory.
+/// A string of bytes of 1..=127 whose capacity is chosen by `new`, which allocates all its memory.
 ///
 /// Contracts see it as its bytes, `text`, and its `capacity`.
 ///
@@ -40,7 +40,7 @@ impl<A: Allocator> Model for PolymorphicString<A> {
 }
 
 impl<A: Allocator> PolymorphicString<A> {
-    /// An empty string of this capacity. It fails only where an allocation fails, and never at capacity 0.
+    /// An empty string with this capacity. It fails only where an allocation fails, and never at capacity 0.
     pub fn new(alloc: A, capacity: usize) -> Result<Self, AllocError>
         ensures empty { IfOk result (λ s. s.text ≡ []) }
         ensures capacity { IfOk result (λ s. s.capacity ≡ capacity) }
@@ -146,7 +146,7 @@ impl<A: Allocator> fmt::Debug for PolymorphicString<A> {
     }
 }
 
-/// The text.
+/// Shows the text.
 impl<A: Allocator> fmt::Display for PolymorphicString<A> {
     ghost output = { λ s. Some s.text };
 

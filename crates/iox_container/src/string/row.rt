@@ -1,10 +1,10 @@
-//! A row of cells whose first ones hold a text, and whose others are zero: what both strings lie in.
+//! How both strings store their text: a row of cells whose first ones hold the text, and whose others are zero.
 ghost use Rattle.std.specs.Prelude.{◌≡◌, ◌+◌, ◌-◌, ◌≤◌, ◌++◌, length, take, drop};
 ghost use Rattle.iox_container.specs.StringBytes.{IsStringBytes};
 ghost use Rattle.iox_container.specs.TextRow.{IsTextRow, HoldsText};
 ghost use Rattle.iox_container.specs.Text.{range_replaced};
 
-/// Puts `bytes` in the place of the text from `from` up to `to`, and returns the length of the text then.
+/// Replaces the bytes of the text from `from` up to `to` by `bytes`, and returns the new length of the text.
 pub(crate) fn replace_in_row(
     cells: &mut [u8],
     len: usize,
@@ -27,7 +27,7 @@ pub(crate) fn replace_in_row(
     new_len
 }
 
-/// Moves what lies from `to` up to `len` behind `bytes`, which go to `from`.
+/// Writes `bytes` at `from`, and moves the cells from `to` up to `len` behind them.
 fn splice_cells(cells: &mut [u8], len: usize, from: usize, to: usize, bytes: &[u8])
     requires start_le_end { from ≤ to }
     requires in_bounds { to ≤ len }

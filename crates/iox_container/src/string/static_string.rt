@@ -1,4 +1,4 @@
-//! A string that lies in the value itself.
+//! A string whose bytes are stored in the value itself.
 ghost use Rattle.std.specs.Prelude.{◌≡◌, ℕ, ◌+◌, ◌-◌, ◌<◌, ◌≤◌, ◌↔◌, List, [], ◌∷◌, ◌++◌, length, take, drop, replicate, All, IsTrue};
 ghost use Rattle.std.specs.Prelude.{IsOk, IfOk, Some, nat_eq, refl};
 ghost use Rattle.std.specs.Ordering.{nat_cmp};
@@ -16,8 +16,8 @@ use std::fmt;
 use std::hash::{Hash, Hasher};
 use std::marker::Model;
 
-/// A string of at most `CAPACITY` bytes of 1..=127, which lie in the value itself. It takes no memory; of its calls only the
-/// reading of its text by `serde` takes some, for as long as it reads.
+/// A string of at most `CAPACITY` bytes of 1..=127, which are stored in the value itself. Its calls don't allocate, except that
+/// deserializing it by `serde` takes memory while the text is read.
 ///
 /// Contracts see it as the list of its bytes.
 ///
@@ -59,8 +59,8 @@ impl<const CAPACITY: usize> StaticString<CAPACITY> {
 
     /// A string of these bytes.
     ///
-    /// Refused with `InsertWouldExceedCapacity` if they are more than `CAPACITY`, else with
-    /// `InvalidCharacter` if one lies outside 1..=127.
+    /// Refused with `InsertWouldExceedCapacity` if there are more than `CAPACITY` bytes, else with `InvalidCharacter` if a byte lies
+    /// outside 1..=127.
     pub fn from_bytes(bytes: &[u8]) -> Result<Self, StringModificationError>
         ensures accepted { IsOk result ↔ ((length bytes.now ≤ CAPACITY) × IsStringBytes bytes.now) }
         ensures value { IfOk result (λ text. text ≡ bytes.now) }
@@ -92,7 +92,7 @@ impl<const CAPACITY: usize> StaticString<CAPACITY> {
     }
 }
 
-/// As `from_bytes`, of the bytes of the text.
+/// Like `from_bytes` with the bytes of the text.
 impl<const CAPACITY: usize> TryFrom<&str> for StaticString<CAPACITY> {
     type Error = StringModificationError;
 
@@ -190,7 +190,7 @@ impl<const CAPACITY: usize> fmt::Debug for StaticString<CAPACITY> {
     }
 }
 
-/// The text.
+/// Shows the text.
 impl<const CAPACITY: usize> fmt::Display for StaticString<CAPACITY> {
     ghost output = { λ s. Some s };
 

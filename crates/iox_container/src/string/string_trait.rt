@@ -1,4 +1,4 @@
-//! What every string does, whatever its bytes lie in.
+//! The operations of every string, wherever its bytes are stored.
 ghost use Rattle.std.specs.Prelude.{◌≡◌, ℕ, ◌+◌, ◌-◌, ◌<◌, ◌≤◌, ◌↔◌, List, [], ◌∷◌, ◌++◌, length, take, drop, remove, slice_get};
 ghost use Rattle.std.specs.Prelude.{slice_set, IsTrue, IsSome, IfNone, OnOk, OnErr, Bool, nat_eq};
 ghost use Rattle.std.specs.Bool.{OnTrue, OnFalse};
@@ -33,13 +33,13 @@ pub trait String: Ord + Hash {
         ensures fits { length (text self.now) ≤ room self.now }
         ensures valid { IsStringBytes (text self.now) };
 
-    /// How many bytes fit.
+    /// The maximum number of bytes.
     fn capacity(&self) -> usize
         ensures { result ≡ room self.now };
 
-    /// Puts `bytes` in the place of those from `from` up to `to`, where they fit.
+    /// Replaces the bytes from `from` up to `to` by `bytes`, which must fit.
     ///
-    /// It is there for implementers: every edit below is made of it. Callers mostly want those, which test what it asks.
+    /// It exists for implementers: every edit below is built on it. Callers will mostly want those edits, which check its preconditions.
     fn replace_range(&mut self, from: usize, to: usize, bytes: &[u8])
         requires start_le_end { from ≤ to }
         requires in_bounds { to ≤ length (text self.old) }
@@ -48,9 +48,9 @@ pub trait String: Ord + Hash {
         ensures replaced { text self.new ≡ range_replaced (text self.old) from to bytes.now }
         ensures capacity { room self.new ≡ room self.old };
 
-    /// Writes one byte over that at `idx`.
+    /// Overwrites the byte at `idx`.
     ///
-    /// It is there for implementers, as `replace_range` is: `retain` is made of it.
+    /// It exists for implementers, as `replace_range` does: `retain` is built on it.
     fn set_byte(&mut self, idx: usize, byte: u8)
         requires in_bounds { idx < length (text self.old) }
         requires valid { IsStringByte byte }
@@ -63,7 +63,7 @@ pub trait String: Ord + Hash {
 
     ghost hash_of_bytes: { (s : Self) → Self.hash_input s ≡ fed.slice fed.u8 (text s) };
 
-    /// The text, which is ASCII.
+    /// The text as a `str`; it is ASCII.
     final fn as_str(&self) -> &str
         ensures { result.now ≡ text self.now }
     {
@@ -105,7 +105,7 @@ pub trait String: Ord + Hash {
         self.push_bytes(&[byte])
     }
 
-    /// Appends bytes, all or none of them. Refused as `push` is.
+    /// Appends bytes: all of them or none. Refused as `push` is.
     final fn push_bytes(&mut self, bytes: &[u8]) -> Result<(), StringModificationError>
         ensures answer { AnswersInsertion (room self.old) (text self.old) bytes.now result }
         ensures ok { OnOk result (text self.new ≡ text self.old ++ bytes.now) }
@@ -116,7 +116,7 @@ pub trait String: Ord + Hash {
         self.insert_bytes(len, bytes)
     }
 
-    /// Inserts a byte before that at `idx`, or at the end. Refused as `push` is.
+    /// Inserts a byte before the byte at `idx`, or at the end. Refused as `push` is.
     final fn insert(&mut self, idx: usize, byte: u8) -> Result<(), StringModificationError>
         requires { idx ≤ length (text self.old) }
         ensures answer { AnswersInsertion (room self.old) (text self.old) (byte ∷ []) result }
@@ -127,7 +127,7 @@ pub trait String: Ord + Hash {
         self.insert_bytes(idx, &[byte])
     }
 
-    /// Inserts bytes before that at `idx`, or at the end: all or none of them. Refused as `push` is.
+    /// Inserts bytes before the byte at `idx`, or at the end: all of them or none. Refused as `push` is.
     final fn insert_bytes(
         &mut self,
         idx: usize,
@@ -172,7 +172,7 @@ pub trait String: Ord + Hash {
         Some(byte)
     }
 
-    /// Removes `len` bytes from `idx` on, and says whether the text has them all; else it stays.
+    /// Removes `len` bytes from `idx` on and returns true. If the text ends before them, it stays as it was, and the result is false.
     final fn remove_range(&mut self, idx: usize, len: usize) -> bool
         ensures answer { IsTrue result ↔ (idx + len ≤ length (text self.old)) }
         ensures removed { OnTrue result (text self.new ≡ range_replaced (text self.old) idx (idx + len) []) }
@@ -187,21 +187,22 @@ pub trait String: Ord + Hash {
         true
     }
 
-    /// The first place at which `bytes` stands in the text; an empty one stands at 0.
+    /// The first position at which `bytes` occurs in the text; empty `bytes` occur at 0.
     final fn find(&self, bytes: &[u8]) -> Option<usize>
         ensures { FindsFirst (text self.now) bytes.now result }
     {
         memmem::find(self.as_bytes(), bytes)
     }
 
-    /// The last place at which `bytes` stands in the text; an empty one stands at the end.
+    /// The last position at which `bytes` occurs in the text; empty `bytes` occur at the end.
     final fn rfind(&self, bytes: &[u8]) -> Option<usize>
         ensures { FindsLast (text self.now) bytes.now result }
     {
         memmem::rfind(self.as_bytes(), bytes)
     }
 
-    /// Removes `bytes` from the start, and says whether the text began with it; else it stays.
+    /// Removes `bytes` from the start and returns true. If the text doesn't begin with `bytes`, it stays as it was, and the result is
+    /// false.
     final fn strip_prefix(&mut self, bytes: &[u8]) -> bool
         ensures stripped { OnTrue result (text self.old ≡ bytes.now ++ text self.new) }
         ensures other { OnFalse result ((rest : List ℕ) → ¬ (text self.old ≡ bytes.now ++ rest)) }
@@ -215,7 +216,7 @@ pub trait String: Ord + Hash {
         true
     }
 
-    /// Removes `bytes` from the end, and says whether the text ended with it; else it stays.
+    /// Removes `bytes` from the end and returns true. If the text doesn't end with `bytes`, it stays as it was, and the result is false.
     final fn strip_suffix(&mut self, bytes: &[u8]) -> bool
         ensures stripped { OnTrue result (text self.old ≡ text self.new ++ bytes.now) }
         ensures other { OnFalse result ((rest : List ℕ) → ¬ (text self.old ≡ rest ++ bytes.now)) }
@@ -249,8 +250,8 @@ pub trait String: Ord + Hash {
         self.truncate(0);
     }
 
-    /// Keeps the bytes for which `keeps` answers true. It is called at each byte once, in their order, and not again:
-    /// the contract says in which state that leaves it.
+    /// Keeps the bytes for which `keeps` returns true. It is called once for each byte, in order. The contract also says in which state
+    /// this leaves `keeps`.
     final fn retain<F: FnMut(u8) -> bool>(&mut self, keeps: &mut F)
         requires { F.IsAlwaysCallable keeps.old }
         ensures asked { KeepsAsAnswered (λ p byte answer q. F.step p byte answer q) keeps.old (text self.old) (text self.new) keeps.new }

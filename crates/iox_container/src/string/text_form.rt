@@ -1,4 +1,4 @@
-//! A string written as text, and read from it.
+//! A string serialized as text, and deserialized from it.
 ghost use Rattle.std.specs.Prelude.{IfOk};
 ghost use Rattle.serde.specs.Event.{Logs, text};
 ghost use Rattle.serde.specs.Steps.{Gives};
@@ -9,7 +9,7 @@ use serde::{
 };
 use std::alloc::Global;
 
-/// Its text is sent, and nothing else.
+/// The text is serialized, and nothing else.
 impl<const CAPACITY: usize> Described for StaticString<CAPACITY> {
     ghost writes = { λ s old new. Logs old new (text s) };
 }
@@ -20,7 +20,7 @@ impl<const CAPACITY: usize> Serialize for StaticString<CAPACITY> {
     }
 }
 
-/// Refused are a value that is no text, a text longer than `CAPACITY`, and one with a byte outside 1..=127.
+/// Refuses a value that isn't a text, a text longer than `CAPACITY`, and a text with a byte outside 1..=127.
 impl<const CAPACITY: usize> DeserializeOwned for StaticString<CAPACITY> {
     fn deserialize_owned<F: Format>(
         alloc: Global,

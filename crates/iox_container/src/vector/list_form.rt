@@ -1,4 +1,4 @@
-//! A vector written as a list, and read from it.
+//! A vector serialized as a list, and deserialized from it.
 ghost use Rattle.serde.specs.Event.{WritesSeq};
 
 use crate::vector::{StaticVec, Vector};
@@ -7,7 +7,7 @@ use serde::{
 };
 use std::alloc::Global;
 
-/// Its items are sent as a list, in their order.
+/// The items are serialized as a list, in their order.
 impl<T: Described, const CAPACITY: usize> Described for StaticVec<T, CAPACITY> {
     ghost writes = { WritesSeq T.writes };
 }
@@ -18,7 +18,7 @@ impl<T: Serialize + Drop, const CAPACITY: usize> Serialize for StaticVec<T, CAPA
     }
 }
 
-/// Refused are a value that is no list, an item that is refused, and more than `CAPACITY` items.
+/// Refuses a value that isn't a list, a list with an item that is refused, and a list of more than `CAPACITY` items.
 impl<'de, T: Deserialize<'de> + Drop, const CAPACITY: usize> Deserialize<'de>
     for StaticVec<T, CAPACITY> {
     fn deserialize<F: Format>(
@@ -43,7 +43,7 @@ impl<'de, T: Deserialize<'de> + Drop, const CAPACITY: usize> Deserialize<'de>
     }
 }
 
-/// Refused are a value that is no list, an item that is refused, and more than `CAPACITY` items.
+/// Refuses a value that isn't a list, a list with an item that is refused, and a list of more than `CAPACITY` items.
 impl<T: DeserializeOwned, const CAPACITY: usize> DeserializeOwned for StaticVec<T, CAPACITY> {
     fn deserialize_owned<F: Format>(
         alloc: Global,

@@ -1,4 +1,4 @@
-//! A vector whose capacity is chosen when it is made.
+//! A vector whose capacity is chosen when it is created.
 ghost use Rattle.std.specs.Prelude.{◌≡◌, ℕ, ◌^◌, ◌<◌, ◌≤◌, [], ◌∷◌, ◌++◌, length, IsOk, IfOk, OnErr, refl};
 ghost use Rattle.std.specs.Iterator.Adapters.{IterYieldsInOrder};
 ghost use Rattle.std.specs.Slice.Iter.{iter_rest};
@@ -12,7 +12,7 @@ use std::alloc::{AllocError, Allocator};
 use std::marker::Model;
 use std::{fmt, slice};
 
-/// A vector whose capacity is chosen by `new`, which takes all its memory.
+/// A vector whose capacity is chosen by `new`, which allocates all its memory.
 ///
 /// Contracts see it as its `items` and its `capacity`.
 ///
@@ -34,7 +34,7 @@ impl<T, A: Allocator> Model for PolymorphicVec<T, A> {
 }
 
 impl<T, A: Allocator> PolymorphicVec<T, A> {
-    /// An empty vector of this capacity. It fails only where an allocation fails, and never at capacity 0.
+    /// An empty vector with this capacity. It fails only where an allocation fails, and never at capacity 0.
     pub fn new(alloc: A, capacity: usize) -> Result<Self, AllocError>
         ensures empty { IfOk result (λ v. v.items ≡ []) }
         ensures capacity { IfOk result (λ v. v.capacity ≡ capacity) }
@@ -46,8 +46,8 @@ impl<T, A: Allocator> PolymorphicVec<T, A> {
         })
     }
 
-    /// A full vector of what `make` returns at 0, 1 and so on, call by call: one call for each item, and no further
-    /// one. It fails only where an allocation fails, and never at capacity 0; `make` is then not called.
+    /// A full vector of the results of `make` for 0, 1, 2 and so on; `make` is called once for each item. It fails only where an allocation
+    /// fails, and never at capacity 0; `make` is then not called.
     pub fn from_fn<F: FnMut(usize) -> T>(
         alloc: A,
         capacity: usize,
@@ -70,7 +70,7 @@ impl<T, A: Allocator> PolymorphicVec<T, A> {
 }
 
 impl<T: Clone + Drop, A: Allocator + Clone> PolymorphicVec<T, A> {
-    /// A copy with the same items and capacity. It fails only where an allocation fails, or the clone of an item fails.
+    /// A copy with the same items and capacity. It fails only where an allocation or the clone of an item fails.
     pub fn try_clone(&self) -> Result<Self, AllocError>
         requires clones_equal { (x y : T) → T.is_clone x y → y ≡ x }
         ensures { IfOk result (λ v. v ≡ self.now) }
@@ -79,8 +79,7 @@ impl<T: Clone + Drop, A: Allocator + Clone> PolymorphicVec<T, A> {
     }
 }
 
-/// A vector of the same capacity with clones of the items, in their order. It fails only where an allocation fails, or the
-/// clone of an item fails.
+/// A vector of the same capacity with clones of the items, in their order. It fails only where an allocation or the clone of an item fails.
 impl<T: Clone + Drop, A: Allocator + Clone> Clone for PolymorphicVec<T, A> {
     ghost is_clone = { λ v w. AllZip T.is_clone v.items w.items × (w.capacity ≡ v.capacity) };
 
@@ -138,7 +137,7 @@ impl<T: Drop, A: Allocator> Vector<T> for PolymorphicVec<T, A> {
     ghost room_of_changed = { λ _ _. refl };
 }
 
-/// The items go one by one, the last first.
+/// Drops the items one by one, the last first.
 impl<T: Drop, A: Allocator> Drop for PolymorphicVec<T, A> {
     fn drop(mut self) {
         self.clear();
@@ -149,7 +148,7 @@ impl<T: Drop, A: Allocator> Drop for PolymorphicVec<T, A> {
     }
 }
 
-/// Goes over the items, in their order.
+/// Iterates over the items, in their order.
 impl<'a, T: Drop, A: Allocator> IntoIterator for &'a PolymorphicVec<T, A> {
     type Item = &'a T;
 
@@ -162,7 +161,7 @@ impl<'a, T: Drop, A: Allocator> IntoIterator for &'a PolymorphicVec<T, A> {
     }
 }
 
-/// Vectors are equal where their items are, in order.
+/// Two vectors are equal if their items are equal, in order.
 impl<T: PartialEq, A: Allocator> PartialEq for PolymorphicVec<T, A> {
     ghost eq = { λ v w. pointwise T.eq v.items w.items };
 
@@ -177,7 +176,7 @@ impl<T: Eq, A: Allocator> Eq for PolymorphicVec<T, A> {
     ghost laws = { on_equiv (λ v. v.items) (lists_equiv T.Eq.laws) };
 }
 
-/// The items as a list.
+/// Shows the items as a list.
 impl<T: Drop + fmt::Debug, A: Allocator> fmt::Debug for PolymorphicVec<T, A> {
     fn fmt<W: fmt::Write>(&self, f: &mut fmt::Formatter<W>) -> fmt::Result {
         fmt::Debug::fmt(self.as_slice(), f)

@@ -11,9 +11,9 @@ use std::alloc::{AllocError, Global};
 use std::marker::Model;
 use std::{fmt, slice};
 
-/// A vector of at most `CAPACITY` items. `new` takes all its memory. Of the other calls `clone`, `try_clone` and the
-/// reading of its list take memory: that of the vector that they make, and what its items take. `resize` and
-/// `extend_from_slice` take what clones of their items take.
+/// A vector of at most `CAPACITY` items. `new` allocates all its memory. Of the other calls, `clone`, `try_clone` and deserializing
+/// allocate the memory of the vector that they make, and what its items need. `resize` and `extend_from_slice` allocate only what the
+/// clones of their items need.
 ///
 /// Contracts see it as the list of its items.
 ///
@@ -85,8 +85,7 @@ impl<T: Drop, const CAPACITY: usize> Vector<T> for StaticVec<T, CAPACITY> {
     ghost room_of_changed = { λ _ _. refl };
 }
 
-/// A vector with clones of the items, in their order. It fails only where an allocation fails, or the clone of an item
-/// fails.
+/// A vector with clones of the items, in their order. It fails only where an allocation or the clone of an item fails.
 impl<T: Clone + Drop, const CAPACITY: usize> Clone for StaticVec<T, CAPACITY> {
     ghost is_clone = { AllZip T.is_clone };
 
@@ -98,7 +97,7 @@ impl<T: Clone + Drop, const CAPACITY: usize> Clone for StaticVec<T, CAPACITY> {
 }
 
 impl<T: Clone + Drop, const CAPACITY: usize> StaticVec<T, CAPACITY> {
-    /// A copy with the same items. It fails only where an allocation fails, or the clone of an item fails.
+    /// A copy with the same items. It fails only where an allocation or the clone of an item fails.
     pub fn try_clone(&self) -> Result<Self, AllocError>
         requires clones_equal { (x y : T) → T.is_clone x y → y ≡ x }
         ensures { IfOk result (λ v. v ≡ self.now) }
@@ -107,7 +106,7 @@ impl<T: Clone + Drop, const CAPACITY: usize> StaticVec<T, CAPACITY> {
     }
 }
 
-/// Goes over the items, in their order.
+/// Iterates over the items, in their order.
 impl<'a, T: Drop, const CAPACITY: usize> IntoIterator for &'a StaticVec<T, CAPACITY> {
     type Item = &'a T;
 
@@ -120,7 +119,7 @@ impl<'a, T: Drop, const CAPACITY: usize> IntoIterator for &'a StaticVec<T, CAPAC
     }
 }
 
-/// Vectors are equal where their items are, in order.
+/// Two vectors are equal if their items are equal, in order.
 impl<T: PartialEq, const CAPACITY: usize> PartialEq for StaticVec<T, CAPACITY> {
     ghost eq = { λ v w. pointwise T.eq v w };
 
@@ -135,7 +134,7 @@ impl<T: Eq, const CAPACITY: usize> Eq for StaticVec<T, CAPACITY> {
     ghost laws = { lists_equiv T.Eq.laws };
 }
 
-/// The items as a list.
+/// Shows the items as a list.
 impl<T: Drop + fmt::Debug, const CAPACITY: usize> fmt::Debug for StaticVec<T, CAPACITY> {
     fn fmt<W: fmt::Write>(&self, f: &mut fmt::Formatter<W>) -> fmt::Result {
         fmt::Debug::fmt(self.as_slice(), f)

@@ -1,4 +1,4 @@
-//! What every vector does, wherever its items lie.
+//! The operations of every vector, wherever its items are stored.
 ghost use Rattle.std.specs.Prelude.{◌≡◌, ℕ, ◌+◌, ◌-◌, ◌<◌, ◌≤◌, ◌↔◌, List, [], ◌∷◌, ◌++◌, length, take, insert, remove, replicate};
 ghost use Rattle.std.specs.Prelude.{slice_get, All, IsTrue, IsSome, IfNone, OnOk, OnErr, Some};
 ghost use Rattle.std.specs.Option.{option_to_list};
@@ -8,10 +8,10 @@ ghost use Rattle.iox_container.specs.Vectors.{AnswersClones, AnswersGrowth, Answ
 
 use crate::vector::VectorModificationError;
 
-/// At most `capacity` items in an order. Items that a call drops go one by one, the last first.
+/// A list of at most `capacity` items. A call that drops several items drops them one by one, the last first.
 ///
-/// Contracts see it as its `items` and its capacity, `room`, which no call changes. No call takes memory of its own; clones of
-/// items take theirs.
+/// Contracts see it as its `items` and its capacity, `room`, which no call changes. No call allocates memory of its own; clones of items
+/// allocate theirs.
 ///
 /// Ported from `iceoryx2_bb_container::vector::Vector`.
 pub trait Vector<T: Drop> {
@@ -26,27 +26,27 @@ pub trait Vector<T: Drop> {
         ensures value { result.now ≡ items self.now }
         ensures fits { length (items self.now) ≤ room self.now };
 
-    /// The items, to be changed in their places.
+    /// The items for modification in place.
     fn as_mut_slice(&mut self) -> &mut [T]
         ensures* writes_back { sem 𝓛 (Lends Self.row (Array T.row 0) self.entry result (with_items self.old)) }
         ensures value { result.now ≡ items self.old };
 
-    /// How many items fit.
+    /// The maximum number of items.
     fn capacity(&self) -> usize
         ensures { result ≡ room self.now };
 
-    /// Appends an item, where one fits.
+    /// Appends an item, which must fit.
     ///
-    /// It is there for implementers: `push` and all that grows a vector is made of it. Callers mostly want `push`, which
-    /// tests what it asks.
+    /// It exists for implementers: `push` and every other call that grows a vector are built on it. Callers will mostly want `push`, which
+    /// checks its precondition.
     fn push_reserved(&mut self, value: T)
         requires { length (items self.old) < room self.old }
         ensures pushed { items self.new ≡ items self.old ++ value ∷ [] }
         ensures capacity { room self.new ≡ room self.old };
 
-    /// Inserts an item before that at `index`, or at the end, where one fits.
+    /// Inserts an item before the item at `index`, or at the end. It must fit.
     ///
-    /// It is there for implementers: `insert` is made of it, and tests what it asks.
+    /// It exists for implementers: `insert` is built on it, and checks its preconditions.
     fn insert_reserved(&mut self, index: usize, element: T)
         requires in_bounds { index ≤ length (items self.old) }
         requires fits { length (items self.old) < room self.old }
@@ -108,8 +108,8 @@ pub trait Vector<T: Drop> {
         Ok(())
     }
 
-    /// Inserts an item before that at `index`, or at the end. Refused with `InsertWouldExceedCapacity` if the vector is
-    /// full, else with `OutOfBounds` if `index` lies past the end; the item is then dropped.
+    /// Inserts an item before the item at `index`, or at the end. Refused with `InsertWouldExceedCapacity` if the vector is full, else with
+    /// `OutOfBounds` if `index` lies past the end. A refused item is dropped.
     final fn insert(&mut self, index: usize, element: T) -> Result<(), VectorModificationError>
         ensures answer { AnswersInsertionAt (room self.old) (length (items self.old)) index result }
         ensures ok { OnOk result (items self.new ≡ insert (items self.old) index element) }
@@ -144,9 +144,9 @@ pub trait Vector<T: Drop> {
         self.truncate(0);
     }
 
-    /// Cuts the vector to `new_len` items, or fills it up to that number with clones of `value`. Refused with
-    /// `InsertWouldExceedCapacity` if they would not fit, else with `OutOfMemory` if a clone is refused its memory; the
-    /// items are then as they were.
+    /// Cuts the vector to `new_len` items, or fills it up to that number with clones of `value`. Refused with `InsertWouldExceedCapacity`
+    /// if `new_len` exceeds the capacity, else with `OutOfMemory` if a clone fails because memory ran out. A refused call leaves the items
+    /// as they were.
     final fn resize(&mut self, new_len: usize, value: T) -> Result<(), VectorModificationError>
     where
         T: Clone,
@@ -175,9 +175,8 @@ pub trait Vector<T: Drop> {
         Ok(())
     }
 
-    /// Cuts the vector to `new_len` items, or fills it up to that number with what `make` returns, call by call: one
-    /// call for each new item, and no further one. Refused with `InsertWouldExceedCapacity` if they would not fit;
-    /// `make` is then not called.
+    /// Cuts the vector to `new_len` items, or fills it up to that number with the results of `make`, which is called once for each new
+    /// item. Refused with `InsertWouldExceedCapacity` if `new_len` exceeds the capacity; `make` is then not called.
     final fn resize_with<F: FnMut() -> T>(
         &mut self,
         new_len: usize,
@@ -203,8 +202,8 @@ pub trait Vector<T: Drop> {
         Ok(())
     }
 
-    /// Appends clones of the items of `other`, in their order. Refused with `InsertWouldExceedCapacity` if they would
-    /// not all fit, else with `OutOfMemory` if a clone is refused its memory; the items are then as they were.
+    /// Appends clones of the items of `other`, in their order. Refused with `InsertWouldExceedCapacity` if they don't all fit, else with
+    /// `OutOfMemory` if a clone fails because memory ran out. A refused call leaves the items as they were.
     final fn extend_from_slice(&mut self, other: &[T]) -> Result<(), VectorModificationError>
     where
         T: Clone,

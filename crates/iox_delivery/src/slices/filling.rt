@@ -1,4 +1,4 @@
-//! How the values of a slice that is lent are written, by port: what ports under numbers call.
+//! How the values of a loaned slice are written, by port: the functions that ports under numbers call.
 ghost use Rattle.iox_domain.specs.Homes as homes;
 ghost use Rattle.std.specs.Prelude.{◌≡◌, ◌∷◌, [], true, false, List, length, replicate, is_some, IfOk, Err};
 ghost use Rattle.iox_delivery.specs.Container.Vectors.{MakesInTurn};
@@ -13,8 +13,8 @@ use iox_domain_ports::PublisherPort;
 use iox_domain_values::LoanError;
 use std::alloc::Global;
 
-/// A publisher lends a slot for so many values, each of which is written: this one. The header of the message tells as many elements. It is
-/// refused as `publishing::loan` says. It may be sent at once: it is a slice that is written, and no send waits.
+/// The publisher loans a slot for `len` values, each of which is written as `value`. The header of the message says as many
+/// elements. The call fails as `publishing::loan` does. The loan can be sent at once: it is written, and no send waits.
 ///
 /// Ported from `iceoryx2::port::publisher::Publisher::loan_slice`, where each value is a default.
 /// Example: `let slot = loan_filled(port, alloc, home, 4, 0)?;`
@@ -50,7 +50,7 @@ pub(crate) fn write_all<T: Copy, U: Copy, H: Home<T, U>>(
     }
 }
 
-// Writes one value at so many places of a loan.
+// Writes one value at `len` places of a loan.
 fn fill<T: Copy, U: Copy, H: Home<T, U>>(
     port: PortId,
     slot: usize,
@@ -68,7 +68,7 @@ fn fill<T: Copy, U: Copy, H: Home<T, U>>(
     }
 }
 
-// Writes at so many places of a loan what a function gives for each.
+// Writes at `len` places of a loan what a function returns for each place.
 pub(crate) fn write_made<T: Copy, U: Copy, H: Home<T, U>, F: FnMut(usize) -> T>(
     port: PortId,
     slot: usize,
@@ -91,7 +91,7 @@ pub(crate) fn write_made<T: Copy, U: Copy, H: Home<T, U>, F: FnMut(usize) -> T>(
     }
 }
 
-// Writes one value at so many places of a loan of a publisher.
+// Writes one value at `len` places of a loan of a publisher.
 fn fill_each<T: Copy, U: Copy>(
     publisher: &mut PublisherPort<T, U>,
     slot: usize,
@@ -105,7 +105,7 @@ fn fill_each<T: Copy, U: Copy>(
     }
 }
 
-// Writes at so many places of a loan of a publisher what a function gives for each.
+// Writes at `len` places of a loan of a publisher what a function returns for each place.
 fn write_each<T: Copy, U: Copy, F: FnMut(usize) -> T>(
     publisher: &mut PublisherPort<T, U>,
     slot: usize,

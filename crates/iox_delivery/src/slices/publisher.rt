@@ -16,13 +16,13 @@ use iox_domain::{Home, calls};
 use iox_domain_values::{LoanError, SendError};
 use std::alloc::Global;
 
-/// A publisher of slices. It stands until it leaves.
+/// A publisher of slices. It is open until it is closed.
 ///
 /// Ported from `iceoryx2::port::publisher::Publisher`.
 pub type Publisher<T, U> = publisher::Publisher<T, U, Slice>;
 
 impl<T: Copy, U: Copy> Publisher<T, U> {
-    /// How many values a loan might have at first.
+    /// The maximum number of elements of a loan in the first segment.
     ///
     /// Ported from `iceoryx2::port::publisher::Publisher::initial_max_slice_len`.
     /// Example: `let values = publisher.initial_max_slice_len();`
@@ -32,9 +32,9 @@ impl<T: Copy, U: Copy> Publisher<T, U> {
         self.side.initial_max_slice_len
     }
 
-    /// Lends so many values to be written. It is refused as `ServicePorts::loan` says: with `ExceedsMaxLoanSize` where that is
-    /// more than its room allows and the room doesn't grow, else with `ExceedsMaxLoans` where as many loans are out as it may
-    /// have, else with `OutOfMemory` where each slot is in use or a new segment isn't made.
+    /// Loans `len` values that aren't written. The call fails as `ServicePorts::loan` does: with `ExceedsMaxLoanSize` if the
+    /// loan is longer than a slot and the strategy is static; otherwise with `ExceedsMaxLoans` if as many loans exist as the
+    /// limit allows; otherwise with `OutOfMemory` if each slot is in use or a new segment can't be opened.
     ///
     /// Ported from `iceoryx2::port::publisher::Publisher::loan_slice_uninit`.
     /// Example: `let loan = publisher.loan_slice_uninit(alloc, home, 4)?;`
@@ -52,8 +52,8 @@ impl<T: Copy, U: Copy> Publisher<T, U> {
         Ok(SampleMutUninit::of_loan(self.port, slot, len))
     }
 
-    /// Lends so many values that are written: each is one default. It is refused as `loan_slice_uninit` is. It may be sent at
-    /// once: it is a slice that is written, and no send waits.
+    /// Loans `len` values that are written, each as the same default. The call fails as `loan_slice_uninit` does. The loan can
+    /// be sent at once: it is written, and no send waits.
     ///
     /// Ported from `iceoryx2::port::publisher::Publisher::loan_slice`.
     /// Example: `let sample = publisher.loan_slice(alloc, home, 4)?;`
@@ -77,10 +77,10 @@ impl<T: Copy, U: Copy> Publisher<T, U> {
         Ok(SampleMut::of_loan(self.port, slot))
     }
 
-    /// Lends as many values, writes them and sends them. A loan that is refused as `loan_slice_uninit` is, is
-    /// `SendError::LoanError`, and nothing is sent; else it answers as `SampleMut::send` does.
+    /// Loans as many values as given, writes them and sends them. If the loan fails, as `loan_slice_uninit` does, the error is
+    /// `SendError::LoanError`, and nothing is sent; otherwise the call answers as `SampleMut::send` does.
     ///
-    /// This port's own: `iceoryx2::port::publisher::Publisher::send_copy` for slices.
+    /// Not in `iceoryx2`: `iceoryx2::port::publisher::Publisher::send_copy` for slices.
     /// Example: `let sent = publisher.send_slice(alloc, home, &[7, 8])?;`
     pub fn send_slice<H: Home<T, U>>(
         &self,
@@ -102,8 +102,8 @@ impl<T: Copy, U: Copy> Publisher<T, U> {
 }
 
 impl<U: Copy> Publisher<CustomPayloadMarker, U> {
-    /// Lends so many elements of a payload that only the description says: all of their bytes, to be written. The header of the
-    /// message tells so many elements. It is refused as `loan_slice_uninit` is, and there lengths are counted in elements.
+    /// Loans `len` elements of a payload that only the description defines: all of their bytes, not written. The header of the
+    /// message says `len` elements. The call fails as `loan_slice_uninit` does; lengths are counted in elements then.
     ///
     /// Ported from `iceoryx2::port::publisher::Publisher::loan_custom_payload`, which is unsafe and asks for one element where the payload
     /// isn't a slice.
@@ -124,7 +124,7 @@ impl<U: Copy> Publisher<CustomPayloadMarker, U> {
     }
 }
 
-// How many values so many elements of a publisher have.
+// How many values these elements of the publisher have.
 fn values_of<T: Copy, U: Copy, H: Home<T, U>>(port: PortId, elements: usize, home: &H) -> usize
     ensures { result ≡ values_of port.number elements (homes.ports_of H.domain_of port.domain home.now) }
 {

@@ -7,7 +7,7 @@ use crate::kind::Slice;
 use crate::{sample, subscribing};
 use iox_domain::Home;
 
-/// A slice that was received. It stays as it was sent until it is released, whatever ports leave.
+/// A slice that was received. It stays as it was sent until it is released, whatever ports are closed.
 ///
 /// Ported from `iceoryx2::sample::Sample`.
 pub type Sample<T, U> = sample::Sample<T, U, Slice>;

@@ -1,4 +1,4 @@
-//! A slice that is lent and written.
+//! A loaned slice that is written.
 ghost use Rattle.iox_domain.specs.Homes as homes;
 ghost use Rattle.std.specs.Prelude.{◌≡◌, true, Some};
 ghost use Rattle.std.specs.Borrow.{sem, LendsIf};
@@ -13,7 +13,7 @@ use crate::kind::Slice;
 use crate::{lending, sample_mut};
 use iox_domain::{Home, calls};
 
-/// A slice that is lent and written, and may be sent.
+/// A loaned slice that is written, and may be sent.
 ///
 /// Ported from `iceoryx2::sample_mut::SampleMut`.
 pub type SampleMut<T, U> = sample_mut::SampleMut<T, U, Slice>;
@@ -41,7 +41,8 @@ impl<T: Copy, U: Copy> SampleMut<T, U> {
         }
     }
 
-    /// The value at a place, to be changed, if the loan is out, and has that place, and it is written.
+    /// A mutable reference to the value at this place; None if the loan doesn't exist in this home, or if it doesn't have this
+    /// place, or if the value there isn't written.
     ///
     /// Ported from changing it through `iceoryx2::sample_mut::SampleMut::payload_mut`.
     /// Example: `let value = SampleMut::value_mut(home, &sample, 0)?;`

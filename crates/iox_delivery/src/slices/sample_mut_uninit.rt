@@ -1,4 +1,4 @@
-//! A slice that is lent to be written.
+//! A loaned slice that isn't written yet.
 ghost use Rattle.iox_domain.specs.Homes as homes;
 ghost use Rattle.std.specs.Prelude.{◌≡◌, ◌==◌, ◌<◌, true, List, length, is_some, option_copied};
 ghost use Rattle.iox_delivery.specs.Container.Vectors.{MakesInTurn};
@@ -14,15 +14,15 @@ use crate::slices::filling;
 use crate::slices::sample_mut::SampleMut;
 use iox_domain::{Home, calls};
 
-/// A slice that is lent to be written.
+/// A loaned slice that isn't written yet.
 ///
 /// Ported from `iceoryx2::sample_mut_uninit::SampleMutUninit`.
 pub type SampleMutUninit<T, U> = sample_mut_uninit::SampleMutUninit<T, U, Slice>;
 
 impl<T: Copy, U: Copy> SampleMutUninit<T, U> {
-    /// How many values it has.
+    /// How many values the loan has.
     ///
-    /// This port's own: the length of what `iceoryx2::sample_mut_uninit::SampleMutUninit::payload` gives.
+    /// Not in `iceoryx2`: the length of what `iceoryx2::sample_mut_uninit::SampleMutUninit::payload` returns.
     /// Example: `let values = loan.len();`
     pub fn len(&self) -> usize
         ensures { result ≡ self.now.state.len }
@@ -30,7 +30,7 @@ impl<T: Copy, U: Copy> SampleMutUninit<T, U> {
         self.state.len
     }
 
-    /// Whether it has no values.
+    /// Whether the loan has no values.
     /// Example: `let has_none = loan.is_empty();`
     pub fn is_empty(&self) -> bool
         ensures { result ≡ (self.now.state.len == 0) }
@@ -38,9 +38,9 @@ impl<T: Copy, U: Copy> SampleMutUninit<T, U> {
         self.state.len == 0
     }
 
-    /// The value at a place, if it is written.
+    /// The value at this place, if it is written.
     ///
-    /// Ported from reading `iceoryx2::sample_mut_uninit::SampleMutUninit::payload`, which gives a slice of `MaybeUninit`.
+    /// Ported from reading `iceoryx2::sample_mut_uninit::SampleMutUninit::payload`, which returns a slice of `MaybeUninit`.
     /// Example: `let value = loan.payload_at(home, 0);`
     pub fn payload_at<'a, H: Home<T, U>>(&self, home: &'a H, place: usize) -> Option<&'a T>
     where
@@ -56,7 +56,7 @@ impl<T: Copy, U: Copy> SampleMutUninit<T, U> {
         }
     }
 
-    /// Writes the value at a place.
+    /// Writes the value at this place, if the loan exists in this home.
     ///
     /// Ported from writing through `iceoryx2::sample_mut_uninit::SampleMutUninit::payload_mut`.
     /// Example: `loan.payload_write_at(home, 0, 7);`
@@ -71,7 +71,7 @@ impl<T: Copy, U: Copy> SampleMutUninit<T, U> {
         }
     }
 
-    /// Writes all values, and is a slice that is written.
+    /// Writes all values, and turns the loan into one that is written.
     ///
     /// Ported from `iceoryx2::sample_mut_uninit::SampleMutUninit::write_from_slice`, which panics at another length.
     /// Example: `let sample = loan.write_from_slice(home, &[7, 8]);`
@@ -91,8 +91,8 @@ impl<T: Copy, U: Copy> SampleMutUninit<T, U> {
         SampleMut::of_loan(port, slot)
     }
 
-    /// Writes what `make` gives at 0, 1 and so on, call by call: one call for each value, and no further one. It is a slice that
-    /// is written then.
+    /// Writes what `make` returns for 0, 1 and so on, with one call for each value and none beyond, and turns the loan into one
+    /// that is written.
     ///
     /// Ported from `iceoryx2::sample_mut_uninit::SampleMutUninit::write_from_fn`.
     /// Example: `let sample = loan.write_from_fn(home, &mut |place: usize| place as u64);`

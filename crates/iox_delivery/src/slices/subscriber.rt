@@ -12,13 +12,13 @@ use iox_domain::settings::CustomPayloadMarker;
 use iox_domain_values::ReceiveError;
 use std::alloc::Global;
 
-/// A subscriber of slices. It stands until it leaves.
+/// A subscriber of slices. It is open until it is closed.
 ///
 /// Ported from `iceoryx2::port::subscriber::Subscriber`.
 pub type Subscriber<T, U> = subscriber::Subscriber<T, U, Slice>;
 
 impl<U: Copy> Subscriber<CustomPayloadMarker, U> {
-    /// Receives the next message of a payload that only the description says, as `receive` does: all bytes of its elements.
+    /// Receives the next message of a payload that only the description defines, as `receive` does: all bytes of its elements.
     ///
     /// Ported from `iceoryx2::port::subscriber::Subscriber::receive_custom_payload`, which is unsafe.
     /// Example: `let sample = subscriber.receive_custom_payload(alloc, home)?;`

@@ -8,8 +8,7 @@ use crate::type_detail::{TypeDetail, TypeVariant};
 use iox_container::string::{StaticString, String as _};
 use itoa::Buffer;
 
-/// Its name is `[T; N]`, of which it has the first 255 bytes; its size is that of the elements, and
-/// 2^64 - 1 where they are more.
+/// The name of the type is the first 255 bytes of `[T; N]`. Its size is that of all elements, but at most 2^64 - 1.
 impl<T: ZeroCopySend, const N: usize> ZeroCopySend for [T; N] {
     ghost name = { take 255 (array_name T.name N) };
 
@@ -27,7 +26,7 @@ impl<T: ZeroCopySend, const N: usize> ZeroCopySend for [T; N] {
     }
 }
 
-/// The name of an array of so many elements of a type of this name.
+/// The name of an array of `count` elements of the type with this name.
 fn array_name(name: &[u8], count: u64) -> StaticString<279>
     requires { IsText 1 255 name.now }
     ensures { result ≡ array_name name.now count }

@@ -1,4 +1,4 @@
-//! What is agreed for an event service.
+//! The settings of an event service.
 ghost use Rattle.std.specs.Prelude.{◌≡◌, ◌↔◌, IsTrue};
 
 use crate::setting::{PatternSetting, Rule, SettingValue, adjusted, are_allowed, with_defaults};
@@ -9,21 +9,21 @@ use iox_describe_base::limits::NUMBER_OF_PORTS_END;
 /// Ported from `iceoryx2::service::static_config::event::StaticConfig`.
 #[derive(Clone, Copy, Debug, PartialEq, Eq)]
 pub struct StaticConfig {
-    /// The longest time between two events, in nanoseconds.
+    /// The maximum time between two events, in nanoseconds, if there is one.
     pub deadline: Option<u64>,
-    /// The greatest id of an event.
+    /// The largest event id.
     pub event_id_max_value: u64,
-    /// How many listeners the service may have.
+    /// The maximum number of listeners.
     pub max_listeners: u64,
-    /// How many nodes may be in the service.
+    /// The maximum number of nodes.
     pub max_nodes: u64,
-    /// How many notifiers it may have.
+    /// The maximum number of notifiers.
     pub max_notifiers: u64,
-    /// The event that announces a new notifier.
+    /// The id of the event that announces a new notifier, if there is one.
     pub notifier_created_event: Option<u64>,
-    /// The event that announces a notifier that died.
+    /// The id of the event that announces a dead notifier, if there is one.
     pub notifier_dead_event: Option<u64>,
-    /// The event that announces a notifier that left.
+    /// The id of the event that announces a dropped notifier, if there is one.
     pub notifier_dropped_event: Option<u64>,
 }
 
@@ -37,7 +37,7 @@ impl StaticConfig {
         with_defaults::<Setting>(Self::unset())
     }
 
-    /// Settings of which none is set.
+    /// Settings that are all 0 or none, before the defaults are filled in.
     fn unset() -> Self
         ensures { result ≡ unset }
     {
@@ -53,7 +53,7 @@ impl StaticConfig {
         }
     }
 
-    /// The settings that `create` makes of these: a 0 that can't serve becomes 1.
+    /// The settings for `create`: a 0 that isn't possible becomes 1.
     pub fn adjusted(self) -> Self
         ensures { result ≡ adjusted self }
     {

@@ -1,4 +1,4 @@
-//! What is agreed for a publish-subscribe service.
+//! The settings of a publish-subscribe service.
 ghost use Rattle.std.specs.Prelude.{◌≡◌, ◌↔◌, IsTrue};
 
 use crate::description::Version;
@@ -11,21 +11,21 @@ use iox_describe_base::message_type::MessageTypeDetails;
 /// Ported from `iceoryx2::service::static_config::publish_subscribe::StaticConfig`.
 #[derive(Clone, Copy, Debug, PartialEq, Eq)]
 pub struct StaticConfig {
-    /// Whether a full buffer drops its oldest message, in place of holding the publisher up.
+    /// Whether a send drops the oldest message of a full buffer instead of blocking the publisher.
     pub enable_safe_overflow: bool,
-    /// How many of its last messages a publisher keeps for subscribers that come later.
+    /// How many of its last messages a publisher keeps for subscribers that are created later.
     pub history_size: u64,
-    /// How many nodes may be in the service.
+    /// The maximum number of nodes.
     pub max_nodes: u64,
-    /// How many publishers it may have.
+    /// The maximum number of publishers.
     pub max_publishers: u64,
-    /// How many subscribers it may have.
+    /// The maximum number of subscribers.
     pub max_subscribers: u64,
-    /// Whether the messages of each publisher have numbers, so that a subscriber can tell what it missed.
+    /// Whether the messages of each publisher have sequence numbers, by which a subscriber detects the messages that it missed.
     pub sequence_numbers: bool,
-    /// How many samples of one publisher a subscriber may hold.
+    /// The maximum number of samples of one publisher that a subscriber may hold.
     pub subscriber_max_borrowed_samples: u64,
-    /// How many messages of one publisher may wait for a subscriber.
+    /// The maximum number of waiting messages of one publisher per subscriber.
     pub subscriber_max_buffer_size: u64,
     /// The types of the messages.
     pub types: MessageTypeDetails,
@@ -41,7 +41,7 @@ impl StaticConfig {
         with_defaults::<Setting>(Self::unset(types))
     }
 
-    /// Settings of which none is set but the types.
+    /// Settings that are all 0 or false, except for the types, before the defaults are filled in.
     fn unset(types: MessageTypeDetails) -> Self
         ensures { result ≡ unset types }
     {
@@ -58,7 +58,7 @@ impl StaticConfig {
         }
     }
 
-    /// The settings that `create` makes of these: a 0 that can't serve becomes 1.
+    /// The settings for `create`: a 0 that isn't possible becomes 1.
     pub fn adjusted(self) -> Self
         ensures { result ≡ adjusted self }
     {
@@ -72,8 +72,8 @@ impl StaticConfig {
         are_allowed::<Setting>(self)
     }
 
-    /// Whether a full buffer would hold the publisher up and has no room for the history, so that no
-    /// subscriber could be given it.
+    /// Whether the history doesn't fit into a buffer that blocks the publisher when it is full, so that no subscriber could receive all of
+    /// it.
     pub fn is_history_too_long(&self) -> bool
         ensures { IsTrue result ↔ IsHistoryTooLong self.now }
     {
@@ -107,7 +107,7 @@ pub enum Setting {
 impl Setting {
     ghost use Rattle.iox_describe_settings.specs.PublishSubscribeSettings.{written};
 
-    /// The settings that a line of the version has, in rising order of the bytes of their keys.
+    /// The settings that a line of this version has, in rising order of the bytes of their keys.
     pub fn written(version: Version) -> &'static [Setting]
         ensures { result.now ≡ written version }
     {

@@ -1,4 +1,4 @@
-//! What is agreed for a request-response service.
+//! The settings of a request-response service.
 ghost use Rattle.std.specs.Prelude.{◌≡◌, ◌↔◌, IsTrue};
 
 use crate::setting::{PatternSetting, Rule, SettingValue, adjusted, are_allowed, with_defaults};
@@ -10,25 +10,25 @@ use iox_describe_base::message_type::MessageTypeDetails;
 /// Ported from `iceoryx2::service::static_config::request_response::StaticConfig`.
 #[derive(Clone, Copy, Debug, PartialEq, Eq)]
 pub struct StaticConfig {
-    /// Whether a client may send requests and let go of their responses.
+    /// Whether a client may send requests and drop their responses.
     pub enable_fire_and_forget_requests: bool,
-    /// Whether a full buffer of requests drops its oldest.
+    /// Whether a send drops the oldest request of a full buffer.
     pub enable_safe_overflow_for_requests: bool,
-    /// Whether a full buffer of responses drops its oldest.
+    /// Whether a send drops the oldest response of a full buffer.
     pub enable_safe_overflow_for_responses: bool,
-    /// How many requests of one client may be open.
+    /// The maximum number of open requests of one client.
     pub max_active_requests_per_client: u64,
-    /// How many responses to one request a client may hold.
+    /// The maximum number of responses to one request that a client may hold.
     pub max_borrowed_responses_per_pending_response: u64,
-    /// How many clients the service may have.
+    /// The maximum number of clients.
     pub max_clients: u64,
-    /// How many requests a client may have on loan.
+    /// The maximum number of loaned requests of a client.
     pub max_loaned_requests: u64,
-    /// How many nodes may be in the service.
+    /// The maximum number of nodes.
     pub max_nodes: u64,
-    /// How many responses to one request may wait.
+    /// The maximum number of waiting responses to one request.
     pub max_response_buffer_size: u64,
-    /// How many servers the service may have.
+    /// The maximum number of servers.
     pub max_servers: u64,
     /// The types of the requests.
     pub request_types: MessageTypeDetails,
@@ -46,7 +46,7 @@ impl StaticConfig {
         with_defaults::<Setting>(Self::unset(request_types, response_types))
     }
 
-    /// Settings of which none is set but the types.
+    /// Settings that are all 0 or false, except for the types, before the defaults are filled in.
     fn unset(request_types: MessageTypeDetails, response_types: MessageTypeDetails) -> Self
         ensures { result ≡ unset request_types response_types }
     {
@@ -66,7 +66,7 @@ impl StaticConfig {
         }
     }
 
-    /// The settings that `create` makes of these: a 0 that can't serve becomes 1.
+    /// The settings for `create`: a 0 that isn't possible becomes 1.
     pub fn adjusted(self) -> Self
         ensures { result ≡ adjusted self }
     {

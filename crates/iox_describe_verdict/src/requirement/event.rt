@@ -12,8 +12,8 @@ use std::alloc::{AllocError, Global};
 use std::fmt;
 use thiserror::Error;
 
-/// Why an event service can't be opened as required: the first clause that is not met. The variants
-/// stand in the order in which the clauses are tested.
+/// Why an event service can't be opened: the first clause of the requirement that isn't met. The variants are in the order in which the
+/// clauses are tested.
 #[derive(Clone, Copy, Debug, PartialEq, Eq, PartialOrd, Ord, Error)]
 pub enum ClauseError {
     /// The service has another messaging pattern.
@@ -22,11 +22,11 @@ pub enum ClauseError {
     IncompatibleAttributes,
     /// The option `deadline` differs.
     IncompatibleDeadline,
-    /// The service has fewer notifiers than asked.
+    /// The service has fewer notifiers than required.
     DoesNotSupportRequestedAmountOfNotifiers,
-    /// The service has fewer listeners than asked.
+    /// The service has fewer listeners than required.
     DoesNotSupportRequestedAmountOfListeners,
-    /// The greatest event id is below the one asked.
+    /// The service's largest event id is below the required one.
     DoesNotSupportRequestedMaxEventId,
     /// The option `notifier_created_event` differs.
     IncompatibleNotifierCreatedEvent,
@@ -34,37 +34,37 @@ pub enum ClauseError {
     IncompatibleNotifierDroppedEvent,
     /// The option `notifier_dead_event` differs.
     IncompatibleNotifierDeadEvent,
-    /// The service has fewer nodes than asked.
+    /// The service has fewer nodes than required.
     DoesNotSupportRequestedAmountOfNodes,
 }
 
-/// It displays as the type's name, `::` and the variant.
+/// Shows the names of the type and of the variant, joined by `::`.
 impl fmt::Display for ClauseError {
     fn fmt<W: fmt::Write>(&self, f: &mut fmt::Formatter<W>) -> fmt::Result {
         write!(f, "ClauseError::{self:?}")
     }
 }
 
-/// What an opener requires of an event service. A setting that is `None` was not named, and is not tested.
+/// What an opener requires of an event service. A setting that is `None` isn't named, and isn't tested.
 #[derive(Drop)]
 pub struct Requirement {
-    /// The attributes that it must have.
+    /// The attributes that the service must have.
     pub attributes: AttributeVerifier,
-    /// The option that it must have.
+    /// The deadline that the service must have, or none.
     pub deadline: Option<Option<u64>>,
-    /// The least number that it may have.
+    /// The service's maximum number of notifiers must be at least this.
     pub max_notifiers: Option<u64>,
-    /// The least number that it may have.
+    /// The service's maximum number of listeners must be at least this.
     pub max_listeners: Option<u64>,
-    /// The least number that it may have.
+    /// The service's largest event id must be at least this.
     pub event_id_max_value: Option<u64>,
-    /// The option that it must have.
+    /// The event for a new notifier that the service must have, or none.
     pub notifier_created_event: Option<Option<u64>>,
-    /// The option that it must have.
+    /// The event for a dropped notifier that the service must have, or none.
     pub notifier_dropped_event: Option<Option<u64>>,
-    /// The option that it must have.
+    /// The event for a dead notifier that the service must have, or none.
     pub notifier_dead_event: Option<Option<u64>>,
-    /// The least number that it may have.
+    /// The service's maximum number of nodes must be at least this.
     pub max_nodes: Option<u64>,
 }
 

@@ -13,13 +13,13 @@ use std::alloc::{AllocError, Global};
 use std::fmt;
 use thiserror::Error;
 
-/// Why a publish-subscribe service can't be opened as required: the first clause that is not met. The variants
-/// stand in the order in which the clauses are tested.
+/// Why a publish-subscribe service can't be opened: the first clause of the requirement that isn't met. The variants are in the order in
+/// which the clauses are tested.
 #[derive(Clone, Copy, Debug, PartialEq, Eq, PartialOrd, Ord, Error)]
 pub enum ClauseError {
     /// The service has another messaging pattern.
     IncompatibleMessagingPattern,
-    /// The types are not compatible.
+    /// The required types aren't compatible with those of the service.
     IncompatibleTypes,
     /// A required attribute or key is missing.
     IncompatibleAttributes,
@@ -27,49 +27,49 @@ pub enum ClauseError {
     IncompatibleOverflowBehavior,
     /// The switch `sequence_numbers` differs.
     IncompatibleSequenceNumbers,
-    /// The service has fewer publishers than asked.
+    /// The service has fewer publishers than required.
     DoesNotSupportRequestedAmountOfPublishers,
-    /// The service has fewer subscribers than asked.
+    /// The service has fewer subscribers than required.
     DoesNotSupportRequestedAmountOfSubscribers,
-    /// The service has fewer room in a buffer than asked.
+    /// The service's buffers are smaller than required.
     DoesNotSupportRequestedMinBufferSize,
-    /// The service has fewer history than asked.
+    /// The service's history is shorter than required.
     DoesNotSupportRequestedMinHistorySize,
-    /// The service has fewer borrowed samples than asked.
+    /// The service permits fewer borrowed samples than required.
     DoesNotSupportRequestedMinSubscriberBorrowedSamples,
-    /// The service has fewer nodes than asked.
+    /// The service has fewer nodes than required.
     DoesNotSupportRequestedAmountOfNodes,
 }
 
-/// It displays as the type's name, `::` and the variant.
+/// Shows the names of the type and of the variant, joined by `::`.
 impl fmt::Display for ClauseError {
     fn fmt<W: fmt::Write>(&self, f: &mut fmt::Formatter<W>) -> fmt::Result {
         write!(f, "ClauseError::{self:?}")
     }
 }
 
-/// What an opener requires of a publish-subscribe service. A setting that is `None` was not named, and is not tested.
+/// What an opener requires of a publish-subscribe service. A setting that is `None` isn't named, and isn't tested.
 #[derive(Drop)]
 pub struct Requirement {
-    /// Types that the service's must be compatible to.
+    /// The types that must be compatible with those of the service.
     pub types: MessageTypeDetails,
-    /// The attributes that it must have.
+    /// The attributes that the service must have.
     pub attributes: AttributeVerifier,
-    /// The switch that it must have.
+    /// The switch that the service must have.
     pub enable_safe_overflow: Option<bool>,
-    /// The switch that it must have.
+    /// The switch that the service must have.
     pub sequence_numbers: Option<bool>,
-    /// The least number that it may have.
+    /// The service's maximum number of publishers must be at least this.
     pub max_publishers: Option<u64>,
-    /// The least number that it may have.
+    /// The service's maximum number of subscribers must be at least this.
     pub max_subscribers: Option<u64>,
-    /// The least number that it may have.
+    /// The service's buffer size must be at least this.
     pub subscriber_max_buffer_size: Option<u64>,
-    /// The least number that it may have.
+    /// The service's history size must be at least this.
     pub history_size: Option<u64>,
-    /// The least number that it may have.
+    /// The service's maximum number of borrowed samples must be at least this.
     pub subscriber_max_borrowed_samples: Option<u64>,
-    /// The least number that it may have.
+    /// The service's maximum number of nodes must be at least this.
     pub max_nodes: Option<u64>,
 }
 

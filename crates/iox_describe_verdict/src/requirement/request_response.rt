@@ -13,15 +13,15 @@ use std::alloc::{AllocError, Global};
 use std::fmt;
 use thiserror::Error;
 
-/// Why a request-response service can't be opened as required: the first clause that is not met. The variants
-/// stand in the order in which the clauses are tested.
+/// Why a request-response service can't be opened: the first clause of the requirement that isn't met. The variants are in the order in
+/// which the clauses are tested.
 #[derive(Clone, Copy, Debug, PartialEq, Eq, PartialOrd, Ord, Error)]
 pub enum ClauseError {
     /// The service has another messaging pattern.
     IncompatibleMessagingPattern,
-    /// The types are not compatible.
+    /// The required request types aren't compatible with those of the service.
     IncompatibleRequestType,
-    /// The types are not compatible.
+    /// The required response types aren't compatible with those of the service.
     IncompatibleResponseType,
     /// A required attribute or key is missing.
     IncompatibleAttributes,
@@ -31,57 +31,57 @@ pub enum ClauseError {
     IncompatibleOverflowBehaviorForResponses,
     /// The switch `enable_fire_and_forget_requests` differs.
     IncompatibleBehaviorForFireAndForgetRequests,
-    /// The service has fewer loaned requests than asked.
+    /// The service permits fewer loaned requests than required.
     DoesNotSupportRequestedAmountOfClientRequestLoans,
-    /// The service has fewer active requests than asked.
+    /// The service permits fewer active requests than required.
     DoesNotSupportRequestedAmountOfActiveRequestsPerClient,
-    /// The service has fewer room for responses than asked.
+    /// The service's response buffers are smaller than required.
     DoesNotSupportRequestedResponseBufferSize,
-    /// The service has fewer servers than asked.
+    /// The service has fewer servers than required.
     DoesNotSupportRequestedAmountOfServers,
-    /// The service has fewer clients than asked.
+    /// The service has fewer clients than required.
     DoesNotSupportRequestedAmountOfClients,
-    /// The service has fewer borrowed responses than asked.
+    /// The service permits fewer borrowed responses than required.
     DoesNotSupportRequestedAmountOfBorrowedResponsesPerPendingResponse,
-    /// The service has fewer nodes than asked.
+    /// The service has fewer nodes than required.
     DoesNotSupportRequestedAmountOfNodes,
 }
 
-/// It displays as the type's name, `::` and the variant.
+/// Shows the names of the type and of the variant, joined by `::`.
 impl fmt::Display for ClauseError {
     fn fmt<W: fmt::Write>(&self, f: &mut fmt::Formatter<W>) -> fmt::Result {
         write!(f, "ClauseError::{self:?}")
     }
 }
 
-/// What an opener requires of a request-response service. A setting that is `None` was not named, and is not tested.
+/// What an opener requires of a request-response service. A setting that is `None` isn't named, and isn't tested.
 #[derive(Drop)]
 pub struct Requirement {
-    /// Types that the service's must be compatible to.
+    /// The request types that must be compatible with those of the service.
     pub request_types: MessageTypeDetails,
-    /// Types that the service's must be compatible to.
+    /// The response types that must be compatible with those of the service.
     pub response_types: MessageTypeDetails,
-    /// The attributes that it must have.
+    /// The attributes that the service must have.
     pub attributes: AttributeVerifier,
-    /// The switch that it must have.
+    /// The switch that the service must have.
     pub enable_safe_overflow_for_requests: Option<bool>,
-    /// The switch that it must have.
+    /// The switch that the service must have.
     pub enable_safe_overflow_for_responses: Option<bool>,
-    /// The switch that it must have.
+    /// The switch that the service must have.
     pub enable_fire_and_forget_requests: Option<bool>,
-    /// The least number that it may have.
+    /// The service's maximum number of loaned requests must be at least this.
     pub max_loaned_requests: Option<u64>,
-    /// The least number that it may have.
+    /// The service's maximum number of active requests per client must be at least this.
     pub max_active_requests_per_client: Option<u64>,
-    /// The least number that it may have.
+    /// The service's response buffer size must be at least this.
     pub max_response_buffer_size: Option<u64>,
-    /// The least number that it may have.
+    /// The service's maximum number of servers must be at least this.
     pub max_servers: Option<u64>,
-    /// The least number that it may have.
+    /// The service's maximum number of clients must be at least this.
     pub max_clients: Option<u64>,
-    /// The least number that it may have.
+    /// The service's maximum number of borrowed responses must be at least this.
     pub max_borrowed_responses_per_pending_response: Option<u64>,
-    /// The least number that it may have.
+    /// The service's maximum number of nodes must be at least this.
     pub max_nodes: Option<u64>,
 }
 

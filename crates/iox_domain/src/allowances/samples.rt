@@ -1,6 +1,6 @@
-//! How many samples the subscribers of a service may still receive beside those that they hold, and how each call of a port
-//! changes that. The law is the contract of a function that does nothing. A proof cites a law by a call of its function; what it
-//! states is then among the facts of the caller:
+//! How many more samples the subscribers of a service may receive, beyond those that they hold, and how each call of a port
+//! changes that. The theorem is the contract of a function that does nothing. A proof cites a theorem by calling its function;
+//! what the theorem states is then among the facts of the caller:
 //!
 //! ```
 //! samples_left_by_calls::<T, U, O, B>(overriding, handlers);
@@ -15,8 +15,8 @@ use iox_domain_ports::SubscriberPort;
 use iox_domain_ports::living::add;
 use iox_domain_values::{Decides, Degrades, Overrides};
 
-/// How many samples the subscribers of a service may hold at once: each that didn't leave as many as may be borrowed of a
-/// connection, of each publisher that is there. No more may still come. Past 2^64 - 1 it is that.
+/// How many samples the subscribers of a service may hold at once: each open one the limit of a connection, for each existing
+/// publisher. At most as many more may be received. At most 2^64 - 1 is answered.
 pub fn samples_at_most<T: Copy, U: Copy>(ports: &ServicePorts<T, U>) -> u64
     ensures value { result ≡ min (samples_at_most ports.now) (2 ^ 64 - 1) }
     ensures enough { samples_left ports.now ≤ samples_at_most ports.now }
@@ -28,7 +28,7 @@ pub fn samples_at_most<T: Copy, U: Copy>(ports: &ServicePorts<T, U>) -> u64
     count
 }
 
-// How many samples a subscriber may hold at once.
+// How many samples the subscriber may hold at once.
 fn most_held<T: Copy, U: Copy>(ports: &ServicePorts<T, U>, port: &SubscriberPort) -> u64
     ensures { result ≡ min (most_held ports.now.sizes.subscriber_max_borrowed_samples port.now ports.now.publishers) (2 ^ 64 - 1) }
 {
@@ -38,7 +38,7 @@ fn most_held<T: Copy, U: Copy>(ports: &ServicePorts<T, U>, port: &SubscriberPort
     held_by_one(ports)
 }
 
-/// How many samples a subscriber that comes to a service may hold at once, of the publishers that are there. Past 2^64 - 1 it is that.
+/// How many samples a new subscriber of the service may hold at once, of the existing publishers. At most 2^64 - 1 is answered.
 pub fn held_by_one<T: Copy, U: Copy>(ports: &ServicePorts<T, U>) -> u64
     ensures { result ≡ min (held_by_one ports.now) (2 ^ 64 - 1) }
 {
@@ -47,8 +47,8 @@ pub fn held_by_one<T: Copy, U: Copy>(ports: &ServicePorts<T, U>) -> u64
     )
 }
 
-/// How many samples of a publisher that comes to a service may be held at once, by the subscribers that are there. Past 2^64 - 1 it
-/// is that.
+/// How many samples of a new publisher of the service may be held at once, by the existing subscribers. At most 2^64 - 1 is
+/// answered.
 pub fn held_of_one<T: Copy, U: Copy>(ports: &ServicePorts<T, U>) -> u64
     ensures { result ≡ min (held_of_one ports.now) (2 ^ 64 - 1) }
 {
@@ -57,10 +57,10 @@ pub fn held_of_one<T: Copy, U: Copy>(ports: &ServicePorts<T, U>) -> u64
     )
 }
 
-/// What the subscribers of a service may still receive beside what they hold: nothing in a new service; and each call makes no
-/// more possible than it gives back, and than may be held by a subscriber, or of a publisher, that comes by it, while each sample
-/// that comes is one less that may come, whatever override and handlers answer. So who reserves as many samples for each port that
-/// comes never lacks one.
+/// How many more samples the subscribers of a service may receive, beyond those that they hold. In a new service it is none.
+/// Each call makes at most as many more possible as it releases and as the port that it creates brings, less the sample that it
+/// receives. This holds whatever the override and the handlers answer. So a caller that reserves room for as many samples as
+/// each new port brings never lacks room for one. This is a theorem: the function does nothing.
 pub fn samples_left_by_calls<T, U, O: Overrides, B: Decides + Degrades>(
     _overriding: &O,
     _handlers: &B,

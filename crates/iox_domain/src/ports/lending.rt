@@ -1,4 +1,4 @@
-//! A publisher lends a slot, what is to be sent is written there, and a loan is given up.
+//! A publisher loans a slot, what is to be sent is written there, and a loan is dropped.
 ghost use Rattle.std.specs.Prelude.{◌≡◌, ℕ, length, is_some, None, option_copied, option_map};
 ghost use Rattle.std.specs.Borrow.{sem};
 ghost use Rattle.std.specs.Option.{option_copied_mut};
@@ -18,9 +18,9 @@ use std::alloc::Global;
 impl<T: Copy, U: Copy> ServicePorts<T, U> {
     ghost use Rattle.iox_domain.specs.LendingLends.{LendsValue, LendsUserHeader};
 
-    /// The publisher lends a slot for so many values: `PublisherPort::loan` says when that is refused and what changes. The header of
-    /// the message says so many elements, and `blank` fills a new segment. None, and nothing happens, where the number is none of a
-    /// publisher that exists, and while a send of it waits.
+    /// The publisher loans a slot for `values` values: `PublisherPort::loan` says when that fails and what changes. The header
+    /// of the message says `elements` elements, and `blank` fills a new segment. The call answers None, and nothing happens, if
+    /// no open publisher has this number, and while a send of it waits.
     ///
     /// Ported from `iceoryx2::port::publisher::Publisher::loan_slice_uninit`.
     pub fn loan(
@@ -39,7 +39,7 @@ impl<T: Copy, U: Copy> ServicePorts<T, U> {
         Some(lent)
     }
 
-    /// Writes a value at a place of the loan in a slot; answers whether a loan of the publisher is there that has this place.
+    /// Writes a value at this place of the loan in this slot; answers whether the publisher has such a loan with this place.
     ///
     /// Ported from writing through `iceoryx2::sample_mut_uninit::SampleMutUninit::payload_mut`.
     pub fn write(&mut self, number: u64, slot: usize, place: usize, value: T) -> bool
@@ -53,7 +53,7 @@ impl<T: Copy, U: Copy> ServicePorts<T, U> {
         }
     }
 
-    /// Writes all values of the loan in a slot at once; answers whether a loan of the publisher of as many is there.
+    /// Writes all values of the loan in this slot at once; answers whether the publisher has such a loan of that many values.
     ///
     /// Ported from `iceoryx2::sample_mut_uninit::SampleMutUninit::write_from_slice`, which panics at another length.
     pub fn write_from_slice(&mut self, number: u64, slot: usize, values: &[T]) -> bool
@@ -67,7 +67,7 @@ impl<T: Copy, U: Copy> ServicePorts<T, U> {
         }
     }
 
-    /// Writes the one value of the loan in a slot; answers whether a loan of the publisher of one value is there.
+    /// Writes the one value of the loan in this slot; answers whether the publisher has such a loan of one value.
     ///
     /// Ported from `iceoryx2::sample_mut_uninit::SampleMutUninit::write_payload`.
     pub fn write_payload(&mut self, number: u64, slot: usize, value: T) -> bool
@@ -80,7 +80,7 @@ impl<T: Copy, U: Copy> ServicePorts<T, U> {
         }
     }
 
-    /// Writes the user header of the loan in a slot; answers whether a loan of the publisher is there.
+    /// Writes the user header of the loan in this slot; answers whether the publisher has such a loan.
     ///
     /// Ported from writing through `iceoryx2::sample_mut_uninit::SampleMutUninit::user_header_mut`.
     pub fn write_user_header(&mut self, number: u64, slot: usize, user_header: U) -> bool
@@ -94,7 +94,8 @@ impl<T: Copy, U: Copy> ServicePorts<T, U> {
         }
     }
 
-    /// The value at a place of the loan in a slot, if a loan of the publisher is there that has this place, and it is written.
+    /// The value at this place of the publisher's loan in this slot; None if there is no such loan, or if it doesn't have this
+    /// place, or if the value there isn't written.
     pub fn value(&self, number: u64, slot: usize, place: usize) -> Option<&T>
         ensures { option_copied result ≡ value_at place (loan_in number slot self.now) }
     {
@@ -104,8 +105,8 @@ impl<T: Copy, U: Copy> ServicePorts<T, U> {
         }
     }
 
-    /// The value at a place of the loan in a slot, to be changed there, if a loan of the publisher is there that has this place, and it
-    /// is written.
+    /// A mutable reference to the value at this place of the publisher's loan in this slot; None if there is no such loan, or
+    /// if it doesn't have this place, or if the value there isn't written.
     ///
     /// Ported from changing it through `iceoryx2::sample_mut::SampleMut::payload_mut`.
     pub fn value_mut(&mut self, number: u64, slot: usize, place: usize) -> Option<&mut T>
@@ -118,7 +119,7 @@ impl<T: Copy, U: Copy> ServicePorts<T, U> {
         }
     }
 
-    /// The values of the loan in a slot, if a loan of the publisher is there of which each value is written.
+    /// The values of the publisher's loan in this slot; None if there is no such loan, or if one of its values isn't written.
     ///
     /// Ported from `iceoryx2::sample_mut::SampleMut::payload`.
     pub fn values(&self, number: u64, slot: usize) -> Option<&[T]>
@@ -130,7 +131,7 @@ impl<T: Copy, U: Copy> ServicePorts<T, U> {
         }
     }
 
-    /// The user header of the loan in a slot, if a loan of the publisher is there.
+    /// The user header of the publisher's loan in this slot; None if there is no such loan.
     ///
     /// Ported from `iceoryx2::sample_mut_uninit::SampleMutUninit::user_header`.
     pub fn loan_user_header(&self, number: u64, slot: usize) -> Option<&U>
@@ -142,7 +143,7 @@ impl<T: Copy, U: Copy> ServicePorts<T, U> {
         }
     }
 
-    /// The user header of the loan in a slot, to be changed there, if a loan of the publisher is there.
+    /// A mutable reference to the user header of the publisher's loan in this slot; None if there is no such loan.
     ///
     /// Ported from `iceoryx2::sample_mut_uninit::SampleMutUninit::user_header_mut`.
     pub fn user_header_mut(&mut self, number: u64, slot: usize) -> Option<&mut U>
@@ -155,7 +156,8 @@ impl<T: Copy, U: Copy> ServicePorts<T, U> {
         }
     }
 
-    /// What the header of the loan in a slot says, if a loan of the publisher is there. A loan has no number: its send gives it one.
+    /// What the header of the publisher's loan in this slot says; None if there is no such loan. A loan has no sequence number:
+    /// its send gives it one.
     ///
     /// Ported from `iceoryx2::sample_mut_uninit::SampleMutUninit::header`.
     pub fn loan_header(&self, number: u64, slot: usize) -> Option<Header>
@@ -171,7 +173,7 @@ impl<T: Copy, U: Copy> ServicePorts<T, U> {
         })
     }
 
-    /// Whether a loan of the publisher is in a slot of which each value is written: the condition of its send.
+    /// Whether the publisher has a loan in this slot each value of which is written, which sending it requires.
     pub fn is_written(&self, number: u64, slot: usize) -> bool
         ensures { result ≡ is_written_loan (loan_in number slot self.now) }
     {
@@ -181,7 +183,7 @@ impl<T: Copy, U: Copy> ServicePorts<T, U> {
         }
     }
 
-    /// Gives up the loan in a slot; answers whether a loan of the publisher stood there. A publisher that left is gone then if nothing
+    /// Drops the loan in this slot; answers whether the publisher had one there. A closed publisher is removed then if nothing
     /// else of it is in use.
     ///
     /// Ported from dropping an `iceoryx2::sample_mut::SampleMut`.
@@ -194,7 +196,7 @@ impl<T: Copy, U: Copy> ServicePorts<T, U> {
         was_there
     }
 
-    // Gives up the loan in a slot.
+    // Drops the loan in this slot.
     fn give_up_loan(&mut self, number: u64, slot: usize) -> bool
         ensures answer { result ≡ passes number (λ port. is_some (place_of slot port)) self.old }
         ensures after { self.new ≡ record self.old { publishers = changed number (given_up slot) self.old.publishers } }
@@ -206,7 +208,7 @@ impl<T: Copy, U: Copy> ServicePorts<T, U> {
     }
 }
 
-// A publisher that stands lends a slot.
+// An open publisher loans a slot.
 fn loan_one<T: Copy, U: Copy>(
     port: &mut PublisherPort<T, U>,
     alloc: Global,

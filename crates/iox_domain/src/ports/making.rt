@@ -1,4 +1,4 @@
-//! A publisher and a subscriber come.
+//! A publisher and a subscriber are created.
 ghost use Rattle.std.specs.Prelude.{◌≡◌, ◌+◌, ◌<◌, ◌^◌, Some, IfSome};
 ghost use Rattle.iox_domain_ports.specs.DomainValues.declared.degradation.DegradationCause.TheVariants as cause;
 ghost use Rattle.iox_domain_ports.specs.DomainValues.Sizes.{buffer_of};
@@ -17,41 +17,41 @@ use iox_domain_values::{
 };
 use std::alloc::{AllocError, Global};
 
-/// What a publisher is made with.
+/// With what a publisher is created.
 #[derive(Clone, Copy)]
 pub struct PublisherConfig {
-    /// Who it belongs to.
+    /// Its owner.
     pub owner: PortOwner,
-    /// How many loans may be out.
+    /// The maximum number of loans at once.
     pub max_loaned_samples: usize,
-    /// How many values are in a slot at first: 1 where a message is a single value.
+    /// The maximum number of values in a slot of the first segment: 1 if a message is a single value.
     pub values: usize,
-    /// How many values an element has: 1, but where the values are the bytes of a payload that only the description says.
+    /// How many values an element has: 1, except if the values are the bytes of a payload that only the description defines.
     pub unit: usize,
-    /// What a loan of more values does.
+    /// What a loan does that is too long for the slots.
     pub allocation: AllocationStrategy,
-    /// The number of its first message, where the service numbers them; 0 stands for 1.
+    /// The sequence number of its first message, if the service numbers messages; 0 counts as 1.
     pub first_sequence: u64,
 }
 
-/// What a subscriber is made with.
+/// With what a subscriber is created.
 #[derive(Clone, Copy)]
 pub struct SubscriberConfig {
-    /// Who it belongs to.
+    /// Its owner.
     pub owner: PortOwner,
-    /// How many messages may wait at a connection: 0 is 1, and as many as the service allows where none is named.
+    /// The maximum number of messages that wait in a connection: 0 counts as 1, and None is the service's limit.
     pub buffer_size: Option<usize>,
 }
 
 impl<T: Copy, U: Copy> ServicePorts<T, U> {
-    /// A publisher comes, and its number is the answer. It gets as many slots as it needs in the worst case, or fewer as `overriding`
-    /// answers; `blank` fills them, and a loan has this user header at first. Where the service numbers messages, its first one gets the
-    /// number that the config names. It is connected to the subscribers that are listed; where a connection isn't made `handler` is
-    /// asked, and it comes nevertheless.
+    /// Creates a publisher, and answers its number. It gets as many slots as it needs in the worst case, or fewer if
+    /// `overriding` says so; `blank` fills them, and a loan first has this user header. If the service numbers messages, the
+    /// first one gets the number that the config says. The publisher is connected to the listed subscribers; if a connection
+    /// fails the handler is asked, and the publisher is created nevertheless.
     ///
-    /// Refused with `UnableToCreateDataSegment` if the slots of the worst case or `values` are 2^32 or more; else with
-    /// `ExceedsMaxSupportedPublishers` if no place is free; else with `UnableToCreateDataSegment` where an allocation fails. Then
-    /// nothing has changed.
+    /// The call fails with `UnableToCreateDataSegment` if the worst case needs 2^32 slots or more, or `values` is 2^32 or more;
+    /// otherwise with `ExceedsMaxSupportedPublishers` if no place is free; otherwise with `UnableToCreateDataSegment` if an
+    /// allocation fails. Then nothing has changed.
     ///
     /// Ported from `iceoryx2::service::port_factory::publisher::PortFactoryPublisher::create`.
     pub fn create_publisher<O: Overrides, D: Degrades>(
@@ -80,7 +80,8 @@ impl<T: Copy, U: Copy> ServicePorts<T, U> {
         }
     }
 
-    /// Why a publisher of this config isn't made, if it isn't: where an allocation fails where nothing else forbids it.
+    /// Why a publisher with this config can't be created, if it can't: the error of a failed allocation, if nothing else
+    /// forbids it.
     pub fn publisher_refusal(&self, config: &PublisherConfig) -> PublisherCreateError
         ensures { result ≡ publisher_refusal (slots_needed config.now self.now) (publisher_place self.now) }
     {
@@ -102,7 +103,7 @@ impl<T: Copy, U: Copy> ServicePorts<T, U> {
         self.sizes.worst_case(config.max_loaned_samples)
     }
 
-    // The place that the next publisher gets, if there is one, and a number for it.
+    // The place of the next publisher, if one is free and there is a number for the publisher.
     fn publisher_place(&self) -> Option<usize>
         ensures place { result ≡ publisher_place self.now }
         ensures number { IfSome result (λ _. self.now.next_port + 1 < 2 ^ 64) }
@@ -113,7 +114,7 @@ impl<T: Copy, U: Copy> ServicePorts<T, U> {
         self.publisher_list.free_place()
     }
 
-    // A publisher comes at the place that is free.
+    // Creates a publisher at the free place.
     fn add_publisher<D: Degrades>(
         &mut self,
         alloc: Global,
@@ -144,7 +145,7 @@ impl<T: Copy, U: Copy> ServicePorts<T, U> {
         )?;
         let listed = self.subscriber_list.listed();
         let changes = self.subscriber_list.changes();
-        // It comes also where it isn't connected.
+        // The publisher is created even if a connection fails.
         let _ = port.update(alloc, listed, changes, handler);
         self.publishers.insert(number, port)?;
         let _ = self
@@ -154,7 +155,7 @@ impl<T: Copy, U: Copy> ServicePorts<T, U> {
         Ok(number)
     }
 
-    // Which port comes next.
+    // The identity of the next port.
     fn identity(&self, owner: PortOwner, place: usize) -> PortIdentity
         ensures { result ≡ identity_of owner place self.now }
     {
@@ -166,7 +167,7 @@ impl<T: Copy, U: Copy> ServicePorts<T, U> {
         }
     }
 
-    // How many messages a publisher and its connections may have.
+    // The capacities of a publisher and of its connections.
     fn sender_config(&self, config: &PublisherConfig, slots: usize) -> SenderConfig
         ensures config { result ≡ sender_config config.now slots self.now }
         ensures history { result.history < 2 ^ 32 }
@@ -185,11 +186,12 @@ impl<T: Copy, U: Copy> ServicePorts<T, U> {
         }
     }
 
-    /// A subscriber comes, and its number is the answer. It is connected to the publishers that are listed; where a connection isn't made
-    /// `handler` is asked, and it comes nevertheless.
+    /// Creates a subscriber, and answers its number. It is connected to the listed publishers; if a connection fails `handler`
+    /// is asked, and the subscriber is created nevertheless.
     ///
-    /// Refused with `BufferSizeExceedsMaxSupportedBufferSizeOfService` if more messages are to wait than the service allows; else with
-    /// `ExceedsMaxSupportedSubscribers` if no place is free; else with `OutOfMemory` where an allocation fails. Then nothing has changed.
+    /// The call fails with `BufferSizeExceedsMaxSupportedBufferSizeOfService` if more messages are to wait than the service
+    /// allows; otherwise with `ExceedsMaxSupportedSubscribers` if no place is free; otherwise with `OutOfMemory` if an
+    /// allocation fails. Then nothing has changed.
     ///
     /// Ported from `iceoryx2::service::port_factory::subscriber::PortFactorySubscriber::create`.
     pub fn create_subscriber<D: Degrades>(
@@ -211,7 +213,8 @@ impl<T: Copy, U: Copy> ServicePorts<T, U> {
         }
     }
 
-    /// Why a subscriber that asks for such a buffer isn't made, if it isn't: where an allocation fails where nothing else forbids it.
+    /// Why a subscriber with this buffer size can't be created, if it can't: the error of a failed allocation, if nothing else
+    /// forbids it.
     pub fn subscriber_refusal(&self, buffer_size: Option<usize>) -> SubscriberCreateError
         ensures { result ≡ subscriber_refusal (buffer_of buffer_size self.now.sizes) (subscriber_place self.now) }
     {
@@ -223,7 +226,7 @@ impl<T: Copy, U: Copy> ServicePorts<T, U> {
         }
     }
 
-    // The place that the next subscriber gets, if there is one, and a number for it.
+    // The place of the next subscriber, if one is free and there is a number for the subscriber.
     fn subscriber_place(&self) -> Option<usize>
         ensures place { result ≡ subscriber_place self.now }
         ensures number { IfSome result (λ _. self.now.next_port + 1 < 2 ^ 64) }
@@ -234,7 +237,7 @@ impl<T: Copy, U: Copy> ServicePorts<T, U> {
         self.subscriber_list.free_place()
     }
 
-    // A subscriber comes at the place that is free.
+    // Creates a subscriber at the free place.
     fn add_subscriber<D: Degrades>(
         &mut self,
         alloc: Global,
@@ -267,7 +270,7 @@ impl<T: Copy, U: Copy> ServicePorts<T, U> {
         Ok(number)
     }
 
-    // A subscriber follows the list of publishers for the first time. It comes also where it isn't connected.
+    // A new subscriber follows the list of publishers for the first time. It is created even if a connection fails.
     fn follow_first<D: Degrades>(&mut self, alloc: Global, number: u64, handler: &D)
         ensures { FollowsFirst (D.degrades handler.now cause.FailedToEstablishConnection)
             number (subscriber_of number self.old.subscribers) self.old self.new }
@@ -281,7 +284,7 @@ impl<T: Copy, U: Copy> ServicePorts<T, U> {
     }
 }
 
-// How many segments a publisher may have.
+// The maximum number of segments of a publisher.
 fn segments_of(allocation: AllocationStrategy) -> usize
     ensures segments { result ≡ segments_of allocation }
     ensures some { 0 < result }

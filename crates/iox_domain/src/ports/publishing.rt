@@ -1,4 +1,4 @@
-//! A publisher follows the subscribers, sends and leaves.
+//! A publisher follows the subscribers, sends and is closed.
 ghost use Rattle.std.specs.Prelude.{◌≡◌, None};
 ghost use Rattle.iox_domain_ports.specs.DomainValues.declared.degradation.DegradationCause.TheVariants as cause;
 ghost use Rattle.iox_domain_ports.specs.Publishers.{port_of};
@@ -12,8 +12,8 @@ use iox_domain_values::{ConnectionFailure, Decides, Degrades, SendError};
 use std::alloc::Global;
 
 impl<T: Copy, U: Copy> ServicePorts<T, U> {
-    /// The publisher follows the list of subscribers: `PublisherPort::update` says what that does and when it fails. None, and nothing
-    /// happens, where the number is none of a publisher that exists, and while a send of it waits.
+    /// The publisher follows the list of subscribers: `PublisherPort::update` says what that does and when it fails. The call
+    /// answers None, and nothing happens, if no open publisher has this number, and while a send of it waits.
     ///
     /// Ported from `iceoryx2::port::publisher::Publisher::update_connections`.
     pub fn update_publisher<D: Degrades>(
@@ -31,8 +31,9 @@ impl<T: Copy, U: Copy> ServicePorts<T, U> {
         Some(outcome)
     }
 
-    /// The publisher sends the written loan in a slot: `PublisherPort::send` says what that does and answers. None, and nothing happens,
-    /// where the number is none of a publisher, no written loan of it is in the slot, or another send of it waits.
+    /// The publisher sends the written loan in this slot: `PublisherPort::send` says what that does and answers. The call
+    /// answers None, and nothing happens, if no publisher has this number, if it has no written loan in the slot, or if another
+    /// send of it waits.
     ///
     /// Ported from `iceoryx2::sample_mut::SampleMut::send`.
     pub fn send<B: Decides + Degrades>(
@@ -51,10 +52,11 @@ impl<T: Copy, U: Copy> ServicePorts<T, U> {
         Some(outcome)
     }
 
-    /// Tries the place again at which the publisher's send waits, after so many nanoseconds, and goes on. Answers as `send` does. None,
-    /// and nothing happens, where the number is none of a publisher, and where no send of it waits.
+    /// Tries the place at which the publisher's send waits once more, `elapsed` nanoseconds after its mailbox was first found
+    /// full, and continues; answers as `send` does. The call answers None, and nothing happens, if no publisher has this
+    /// number, or no send of it waits.
     ///
-    /// This port's own: `iceoryx2::port::publisher::Publisher::send` waits itself.
+    /// Not in `iceoryx2`: `iceoryx2::port::publisher::Publisher::send` waits itself.
     pub fn retry<B: Decides>(
         &mut self,
         number: u64,
@@ -70,10 +72,10 @@ impl<T: Copy, U: Copy> ServicePorts<T, U> {
         Some(outcome)
     }
 
-    /// Ends the publisher's send that waits, and answers how many connections took its message. None, and nothing happens, where the
-    /// number is none of a publisher, and where no send of it waits.
+    /// Gives up the publisher's waiting send, and answers how many connections took its message. The call answers None, and
+    /// nothing happens, if no publisher has this number, or no send of it waits.
     ///
-    /// This port's own.
+    /// Not in `iceoryx2`.
     pub fn give_up(&mut self, number: u64) -> Option<usize>
         ensures { AtPublisher number GivesUpOne (port_of number self.old.publishers) self.old result self.new }
     {
@@ -83,9 +85,9 @@ impl<T: Copy, U: Copy> ServicePorts<T, U> {
         Some(delivered)
     }
 
-    /// The publisher leaves: it is listed no longer and sends no more. What it sent stays to be read; its connections end as their
-    /// subscribers find out. Answers false, and nothing happens, where the number is none of a publisher that exists, and while a
-    /// send of it waits.
+    /// Closes the publisher: it is removed from the list and sends no more. What it sent can still be read; its connections end
+    /// when their subscribers notice. The call answers false, and nothing happens, if no open publisher has this number, and
+    /// while a send of it waits.
     ///
     /// Ported from dropping an `iceoryx2::port::publisher::Publisher`.
     pub fn leave_publisher(&mut self, number: u64) -> bool
@@ -119,7 +121,7 @@ fn update_one<T: Copy, U: Copy, D: Degrades>(
     Some(port.update(alloc, list.listed(), list.changes(), handler))
 }
 
-// A publisher sends the loan in a slot.
+// A publisher sends the loan in this slot.
 pub(crate) fn send_one<T: Copy, U: Copy, B: Decides + Degrades>(
     port: &mut PublisherPort<T, U>,
     alloc: Global,
@@ -134,7 +136,7 @@ pub(crate) fn send_one<T: Copy, U: Copy, B: Decides + Degrades>(
     port.send(alloc, slot, list.listed(), list.changes(), handlers)
 }
 
-// A publisher tries its send again, if one waits.
+// A publisher tries its waiting send again, if there is one.
 fn retry_one<T: Copy, U: Copy, B: Decides>(
     port: &mut PublisherPort<T, U>,
     elapsed: u64,
@@ -149,7 +151,7 @@ fn retry_one<T: Copy, U: Copy, B: Decides>(
     Some(port.retry(elapsed, handlers))
 }
 
-// A publisher gives its send up, if one waits.
+// A publisher gives up its waiting send, if there is one.
 fn give_up_one<T: Copy, U: Copy>(port: &mut PublisherPort<T, U>) -> Option<usize>
     ensures gives_up { GivesUpOne port.old result port.new }
     ensures none { result ≡ None → port.new ≡ port.old }
@@ -160,7 +162,7 @@ fn give_up_one<T: Copy, U: Copy>(port: &mut PublisherPort<T, U>) -> Option<usize
     Some(port.give_up())
 }
 
-// A publisher leaves, if it stands and no send of it waits; answers the place where it was listed.
+// A publisher is closed, if it is open and no send of it waits; answers the place at which it was listed.
 fn leave_one<T: Copy, U: Copy>(port: &mut PublisherPort<T, U>) -> Option<usize>
     ensures leaves { LeavesOne port.old result port.new }
     ensures none { result ≡ None → port.new ≡ port.old }

@@ -1,4 +1,4 @@
-//! A publisher lends as many values as it is handed, writes them and sends them, at once.
+//! A publisher loans as many values as it is given, writes them and sends them, at once.
 ghost use Rattle.std.specs.Prelude.{◌≡◌, true, false, None, Some, IsSome};
 ghost use Rattle.iox_domain_ports.specs.DomainValues.declared.degradation.DegradationCause.TheVariants as cause;
 ghost use Rattle.iox_domain_ports.specs.Loaning.{Loans};
@@ -15,10 +15,11 @@ use iox_domain_values::{Decides, Degrades, LoanError, SendError};
 use std::alloc::Global;
 
 impl<T: Copy, U: Copy> ServicePorts<T, U> {
-    /// The publisher lends as many values, writes them and sends them: as `loan`, `write_from_slice` and `send` in turn, but its number
-    /// is looked up once. A loan that is refused is `SendError::LoanError`, and nothing is sent; `blank` fills a new segment.
+    /// The publisher loans as many values as given, writes them and sends them, like `loan`, `write_from_slice` and `send` one
+    /// after the other, but its number is looked up once. If the loan fails the error is `SendError::LoanError`, and nothing is
+    /// sent; `blank` fills a new segment.
     ///
-    /// None, and nothing happens, where the number is none of a publisher that exists, and while a send of it waits.
+    /// The call answers None, and nothing happens, if no open publisher has this number, and while a send of it waits.
     ///
     /// Ported from `iceoryx2::port::publisher::Publisher::send_copy`, for slices.
     /// Example: `let sent = ports.put(alloc, number, &[7, 8], 0, handlers);`
@@ -33,13 +34,13 @@ impl<T: Copy, U: Copy> ServicePorts<T, U> {
         ensures { AtPublisher number (PutsOne (B.degrades handlers.now cause.FailedToEstablishConnection) (B.decides handlers.now)
             self.old.subscriber_list values.now) (port_of number self.old.publishers) self.old result self.new }
     {
-        // One that exists stays, whatever it sends: no look at whether it is over.
+        // An open publisher isn't over, whatever it sends, so that isn't checked.
         let port = self.publishers.get_mut(number)?;
         put_one(port, alloc, values, blank, &self.subscriber_list, handlers)
     }
 }
 
-// A publisher puts values, if it exists and no send of it waits.
+// A publisher puts values, if it is open and no send of it waits.
 #[tactic(auto, using(crate::proofs::Putting::puts_free, crate::proofs::Putting::puts_none))]
 fn put_one<T: Copy, U: Copy, B: Decides + Degrades>(
     port: &mut PublisherPort<T, U>,
@@ -60,7 +61,7 @@ fn put_one<T: Copy, U: Copy, B: Decides + Degrades>(
     Some(put_free(port, alloc, values, blank, list, handlers))
 }
 
-// A publisher that exists, and of which no send waits, puts values.
+// An open publisher, of which no send waits, puts values.
 #[tactic(auto, using(crate::proofs::Putting::refused_stands))]
 fn put_free<T: Copy, U: Copy, B: Decides + Degrades>(
     port: &mut PublisherPort<T, U>,
@@ -84,7 +85,7 @@ fn put_free<T: Copy, U: Copy, B: Decides + Degrades>(
     }
 }
 
-// A publisher of which no send waits lends a slot for so many values.
+// A publisher of which no send waits loans a slot for `count` values.
 fn lend_free<T: Copy, U: Copy>(
     port: &mut PublisherPort<T, U>,
     alloc: Global,

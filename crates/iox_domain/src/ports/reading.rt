@@ -1,4 +1,4 @@
-//! What is read of a sample. It can be read until it is released, also when its publisher and its subscriber left.
+//! What is read of a sample. A sample can be read until it is released, also if its publisher and its subscriber are closed.
 ghost use Rattle.std.specs.Prelude.{◌≡◌, option_copied, option_map};
 ghost use Rattle.iox_domain.specs.Reading.{sample_in, header_in};
 
@@ -8,7 +8,7 @@ use iox_domain_ports::Taken;
 use iox_domain_ports::reading::{elements_at, payload_at, sequence_at, user_header_at};
 
 impl<T: Copy, U: Copy> ServicePorts<T, U> {
-    /// The values of a sample that is held, as they were when it was sent. None where no such sample is held.
+    /// The values of a held sample, as they were when it was sent; None if no such sample is held.
     ///
     /// Ported from `iceoryx2::sample::Sample::payload`.
     pub fn payload(&self, sample: Taken) -> Option<&[T]>
@@ -20,7 +20,7 @@ impl<T: Copy, U: Copy> ServicePorts<T, U> {
         }
     }
 
-    /// The user header of a sample that is held, as it was when it was sent. None where no such sample is held.
+    /// The user header of a held sample, as it was when it was sent; None if no such sample is held.
     ///
     /// Ported from `iceoryx2::sample::Sample::user_header`.
     pub fn user_header(&self, sample: Taken) -> Option<&U>
@@ -32,8 +32,8 @@ impl<T: Copy, U: Copy> ServicePorts<T, U> {
         }
     }
 
-    /// What the header of a sample that is held says: also the number of its message, where the service numbers them. None where no such
-    /// sample is held.
+    /// What the header of a held sample says, with the sequence number of its message if the service numbers messages; None if
+    /// no such sample is held.
     ///
     /// Ported from `iceoryx2::sample::Sample::header`.
     pub fn header(&self, sample: Taken) -> Option<Header>

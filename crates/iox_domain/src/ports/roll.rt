@@ -7,11 +7,12 @@ use iox_container::{Container, Member, OwnerId, ReleaseMode};
 use std::alloc::{AllocError, Global};
 use std::marker::Model;
 
-/// The list of the ports of one kind: who is at each place, and how often that changed so far. A new port takes the lowest free place.
+/// The list of the ports of one kind: which port is at each place, and how often the list changed so far. A new port takes the
+/// lowest free place.
 ///
-/// A place takes memory once it had a port, or one behind it.
+/// Memory is allocated up to the last place that ever had a port.
 ///
-/// Ported from `iceoryx2::service::dynamic_config::publish_subscribe::DynamicConfig`, of which it is one of the two lists.
+/// Ported from `iceoryx2::service::dynamic_config::publish_subscribe::DynamicConfig`, of which this is one of the two lists.
 #[derive(Drop)]
 pub struct Roll<V: Copy> {
     container: Container<V>,
@@ -30,11 +31,11 @@ impl<V: Copy> Model for Roll<V> {
 }
 
 impl<V: Copy> Roll<V> {
-    /// A list of so many places that lists nobody. It fails only where an allocation fails.
+    /// A list of `places` places at which no port is listed. The call fails only if an allocation fails.
     pub fn new(alloc: Global, places: usize) -> Result<Roll<V>, AllocError>
         ensures { IfOk result (λ roll. roll ≡ new_roll places) }
     {
-        // A container knows whose its members are, so that those of a process that died can be taken away: here nobody dies.
+        // A container knows the owner of each member, so that the members of a dead process can be removed; here no process dies.
         let Ok(owner) = OwnerId::new(1) else {
             return Err(AllocError);
         };
@@ -44,7 +45,8 @@ impl<V: Copy> Roll<V> {
         })
     }
 
-    /// The place that the next port gets: the lowest free one. None where each is taken, and once the list changed 2^64 - 1 times.
+    /// The place that the next port gets: the lowest free one. None if no place is free, and once the list changed 2^64 - 1
+    /// times.
     pub fn free_place(&self) -> Option<usize>
         ensures { result ≡ free_place self.now }
     {
@@ -54,7 +56,7 @@ impl<V: Copy> Roll<V> {
         self.container.lowest_free()
     }
 
-    /// Lists a port at the place that comes next, and answers that place; None, and nothing happens, where there is none.
+    /// Enters a port at the next place, and answers that place; None, and nothing happens, if there is none.
     pub fn enter(&mut self, port: V) -> Option<usize>
         ensures place { result ≡ free_place self.old }
         ensures listed { IfSome result (λ place. self.new ≡ entered place port self.old) }
@@ -69,7 +71,8 @@ impl<V: Copy> Roll<V> {
         }
     }
 
-    /// The port at a place isn't listed any longer. Nothing happens where there is none, and once the list changed 2^64 - 1 times.
+    /// Removes the port at this place from the list. Nothing happens if there is none, and once the list changed 2^64 - 1
+    /// times.
     pub fn leave(&mut self, place: usize)
         ensures { self.new ≡ left place self.old }
     {
@@ -79,11 +82,11 @@ impl<V: Copy> Roll<V> {
         let Some(handle) = self.container.handle(place) else {
             return;
         };
-        // It is the handle of a member that is in.
+        // The handle is that of a member, so the removal succeeds.
         let _ = self.container.remove(handle, ReleaseMode::Default);
     }
 
-    /// Who is listed, by place, up to the last place that ever listed somebody.
+    /// The entries of the list by place, up to the last place that ever had one.
     pub fn listed(&self) -> &[Option<Member<V>>]
         ensures whole { padded (length self.now.places) result.now ≡ self.now.places }
         ensures bound { length result.now ≤ length self.now.places }

@@ -15,22 +15,23 @@ use std::alloc::{AllocError, Global};
 pub struct ServicePorts<T, U> {
     /// The number of the service.
     pub service: u64,
-    /// How much it allows.
+    /// The limits of the service.
     pub sizes: ServiceSizes,
     /// The number that the next port gets: 1 at first, and each number once.
     pub next_port: u64,
-    /// Which publishers are listed.
+    /// The list of publishers.
     pub publisher_list: Roll<PublisherEntry>,
-    /// Which subscribers are listed.
+    /// The list of subscribers.
     pub subscriber_list: Roll<SubscriberEntry>,
-    /// The publishers, with their messages and connections. One that left stays until nothing of it is in use.
+    /// The publishers, with their messages and connections. A closed one stays until nothing of it is in use.
     pub publishers: Publishers<T, U>,
-    /// The subscribers. One that left stays until all samples that it received are released.
+    /// The subscribers. A closed one stays until all samples that it received are released.
     pub subscribers: Subscribers,
 }
 
 impl<T: Copy, U: Copy> ServicePorts<T, U> {
-    /// A service without ports. Its lists take no memory to speak of before a port comes. It fails only where an allocation fails.
+    /// A service without ports. Its lists take hardly any memory before a port is created. The call fails only if an allocation
+    /// fails.
     pub fn new(alloc: Global, service: u64, sizes: ServiceSizes) -> Result<Self, AllocError>
         ensures { IfOk result (λ ports. ports ≡ no_ports service sizes) }
     {

@@ -1,4 +1,4 @@
-//! The subscribers of a service, by number.
+//! The subscribers of a service by their numbers.
 ghost use Rattle.std.specs.Prelude.{◌≡◌, ◌-◌, ◌^◌, min, option_copied, OnOk, OnErr, []};
 ghost use Rattle.std.specs.Borrow.{sem};
 ghost use Rattle.std.specs.Map.Iter.{ShowsInOrder, deref_pair};
@@ -14,13 +14,13 @@ use std::collections::BTreeMap;
 use std::collections::btree_map::Iter;
 use std::marker::Model;
 
-/// The subscribers of a service. One that left stays until all samples that it received are released.
+/// The subscribers of a service. A closed one stays until all samples that it received are released.
 ///
-/// Contracts see each with its number, by rising number.
+/// Contracts see each subscriber with its number, by rising number.
 #[derive(Drop)]
 pub struct Subscribers {
     ports: BTreeMap<u64, SubscriberPort>,
-    // How much of each owner lives.
+    // How much of each owner is alive.
     census: Census,
 }
 
@@ -51,14 +51,14 @@ impl Subscribers {
         }
     }
 
-    /// The subscriber of a number, if there is one.
+    /// The subscriber with this number, if it exists.
     pub fn get(&self, number: u64) -> Option<&SubscriberPort>
         ensures { option_copied result ≡ subscriber_of number self.now }
     {
         self.ports.get(&number)
     }
 
-    /// The subscriber of a number, if there is one, to be changed in its place.
+    /// A mutable reference to the subscriber with this number, if it exists.
     pub fn get_mut(&mut self, number: u64) -> Option<&mut SubscriberPort>
         ensures* writes_back { sem 𝓛 (LendsSubscriber self.entry number result) }
         ensures value { option_copied_mut result ≡ subscriber_of number self.old }
@@ -75,8 +75,8 @@ impl Subscribers {
         self.ports.iter()
     }
 
-    /// Adds a subscriber under a number, in the place of one that had it. It fails only where an allocation fails, and then nothing has
-    /// changed.
+    /// Adds a subscriber under this number, in place of one that had it. The call fails only if an allocation fails; then
+    /// nothing has changed.
     pub fn insert(&mut self, number: u64, port: SubscriberPort) -> Result<(), AllocError>
         ensures ok { OnOk result (self.new ≡ subscriber_added number port self.old) }
         ensures err { OnErr result (self.new ≡ self.old) }
@@ -88,7 +88,7 @@ impl Subscribers {
         Ok(())
     }
 
-    /// Takes a subscriber away that left and of which no sample is held.
+    /// Removes the subscriber with this number if it is over: it is closed and holds no sample.
     pub fn settle(&mut self, number: u64)
         ensures { self.new ≡ settled number self.old }
     {
@@ -99,8 +99,8 @@ impl Subscribers {
         }
     }
 
-    /// How much lives of the subscribers of an owner, or of all where none is named: those that exist, and the samples that are held. Past
-    /// 2^64 - 1 it is that.
+    /// How much of the subscribers of the owner is alive, or of all subscribers if no owner is named: open subscribers, and
+    /// held samples. At most 2^64 - 1 is answered.
     pub fn living(&self, owner: Option<u64>) -> u64
         ensures { result ≡ min (living_subscribers owner self.now) (2 ^ 64 - 1) }
     {
@@ -111,7 +111,7 @@ impl Subscribers {
         }
     }
 
-    // How much lives of an owner, or of all where none is named, counted one by one.
+    // How much of the owner is alive, or of all if no owner is named, counted one by one.
     fn count_living(&self, owner: Option<u64>) -> u64
         ensures { result ≡ min (living_subscribers owner self.now) (2 ^ 64 - 1) }
     {
@@ -121,7 +121,7 @@ impl Subscribers {
             .fold(0, add)
     }
 
-    // Whether the subscriber of a number is over.
+    // Whether the subscriber with this number is over.
     fn is_over(&self, number: u64) -> bool
         ensures { result ≡ is_over_in number self.now }
     {
@@ -132,7 +132,7 @@ impl Subscribers {
     }
 }
 
-// What counts of a subscriber.
+// The share of a subscriber.
 fn share_of(port: &SubscriberPort) -> Share
     ensures { result ≡ subscriber_share port.now }
 {
@@ -142,7 +142,7 @@ fn share_of(port: &SubscriberPort) -> Share
     }
 }
 
-// What counts of the subscriber of a number; nothing where there is none.
+// The share of the subscriber with this number, or `no_share` if there is none.
 fn share_in(ports: &BTreeMap<u64, SubscriberPort>, number: u64) -> Share
     ensures { result ≡ share_at subscriber_share (subscriber_of number ports.now.entries) }
 {
@@ -152,7 +152,7 @@ fn share_in(ports: &BTreeMap<u64, SubscriberPort>, number: u64) -> Share
     }
 }
 
-// Notes that a subscriber is lent. What the one that was lent before has become is counted.
+// Notes that a subscriber is handed out. The current share of the one handed out before is counted.
 fn note_lent(census: &mut Census, ports: &BTreeMap<u64, SubscriberPort>, number: u64)
     requires { IsCensusOf subscriber_share census.old ports.now.entries }
     ensures tells { IsCensusOf subscriber_share census.new ports.now.entries }

@@ -1,4 +1,4 @@
-//! A subscriber follows the publishers, receives, releases and leaves.
+//! A subscriber follows the publishers, receives, releases and is closed.
 ghost use Rattle.std.specs.Prelude.{◌≡◌, None};
 ghost use Rattle.iox_domain_ports.specs.DomainValues.declared.degradation.DegradationCause.TheVariants as cause;
 ghost use Rattle.iox_domain.specs.Ports.{AtSubscriber};
@@ -13,8 +13,8 @@ use iox_domain_values::{ConnectionFailure, Degrades, ReceiveError};
 use std::alloc::Global;
 
 impl<T: Copy, U: Copy> ServicePorts<T, U> {
-    /// The subscriber follows the list of publishers: `SubscriberPort::update` says what that does and when it fails. None, and nothing
-    /// happens, where the number is none of a subscriber that exists.
+    /// The subscriber follows the list of publishers: `SubscriberPort::update` says what that does and when it fails. The call
+    /// answers None, and nothing happens, if no open subscriber has this number.
     ///
     /// Ported from `iceoryx2::port::subscriber::Subscriber::update_connections`.
     pub fn update_subscriber<D: Degrades>(
@@ -36,8 +36,9 @@ impl<T: Copy, U: Copy> ServicePorts<T, U> {
         )
     }
 
-    /// Whether some connection of the subscriber has data, after it followed the list of publishers: `SubscriberPort::has_samples` says
-    /// when it fails. None, and nothing happens, where the number is none of a subscriber that exists.
+    /// Whether some connection of the subscriber has data, after it followed the list of publishers:
+    /// `SubscriberPort::has_samples` says when that fails. The call answers None, and nothing happens, if no open subscriber
+    /// has this number.
     ///
     /// Ported from `iceoryx2::port::subscriber::Subscriber::has_samples`.
     pub fn has_samples<D: Degrades>(
@@ -59,8 +60,8 @@ impl<T: Copy, U: Copy> ServicePorts<T, U> {
         )
     }
 
-    /// The subscriber receives: `SubscriberPort::receive` says which message comes, and when it is refused. A message that came is held
-    /// until it is released. None, and nothing happens, where the number is none of a subscriber that exists.
+    /// The subscriber receives: `SubscriberPort::receive` says which message it gets, and when that fails. A received message
+    /// is held until it is released. The call answers None, and nothing happens, if no open subscriber has this number.
     ///
     /// Ported from `iceoryx2::port::subscriber::Subscriber::receive`.
     pub fn receive<D: Degrades>(
@@ -82,9 +83,10 @@ impl<T: Copy, U: Copy> ServicePorts<T, U> {
         )
     }
 
-    /// Releases a sample that the subscriber holds, also one that left. Its publisher is gone if it left and nothing else of it is in
-    /// use, and so is a subscriber that left and held just this sample. Answers false, and nothing happens, where the number is none of
-    /// a subscriber, where another subscriber received the sample, and where no such sample is borrowed.
+    /// Releases a sample that the subscriber holds, also if the subscriber is closed. The sample's publisher is removed then if
+    /// it is closed and nothing else of it is in use, and so is the subscriber if it is closed and held only this sample. The
+    /// call answers false, and nothing happens, if no subscriber has this number, if another subscriber received the sample, or
+    /// if no such sample is borrowed.
     ///
     /// Ported from dropping an `iceoryx2::sample::Sample`.
     pub fn release(&mut self, number: u64, sample: Taken) -> bool
@@ -103,7 +105,7 @@ impl<T: Copy, U: Copy> ServicePorts<T, U> {
         true
     }
 
-    // The subscriber holds one sample less.
+    // Counts one sample less that the subscriber holds; a subscriber that is over then is removed.
     fn let_go(&mut self, number: u64)
         ensures { self.new ≡ let_go number self.old }
     {
@@ -113,9 +115,9 @@ impl<T: Copy, U: Copy> ServicePorts<T, U> {
         self.subscribers.settle(number);
     }
 
-    /// The subscriber leaves: it is listed no longer and receives no more. The samples that it holds stay to be read and released; what
-    /// waits for it is lost as its publishers find out. Answers false, and nothing happens, where the number is none of a subscriber
-    /// that exists.
+    /// Closes the subscriber: it is removed from the list and receives no more. Samples that it holds can still be read and
+    /// released; messages that wait for it are lost when its publishers notice. The call answers false, and nothing happens, if
+    /// no open subscriber has this number.
     ///
     /// Ported from dropping an `iceoryx2::port::subscriber::Subscriber`.
     pub fn leave_subscriber(&mut self, number: u64) -> bool
@@ -171,7 +173,7 @@ fn has_samples_one<T: Copy, U: Copy, D: Degrades>(
     Some(port.has_samples(alloc, list.listed(), list.changes(), handler, publishers))
 }
 
-// A subscriber receives, and counts what it holds.
+// A subscriber receives, and counts the samples that it holds.
 fn receive_one<T: Copy, U: Copy, D: Degrades>(
     port: &mut SubscriberPort,
     alloc: Global,
@@ -192,7 +194,7 @@ fn receive_one<T: Copy, U: Copy, D: Degrades>(
     Some(outcome)
 }
 
-// A subscriber holds one sample more, if one came.
+// Counts one more sample that the subscriber holds, if it received one.
 fn count(port: &mut SubscriberPort, outcome: &Result<Option<Taken>, ReceiveError>)
     ensures { port.new ≡ counted_by outcome.now port.old }
 {
@@ -201,7 +203,7 @@ fn count(port: &mut SubscriberPort, outcome: &Result<Option<Taken>, ReceiveError
     }
 }
 
-// A subscriber leaves, if it stands; answers the place where it was listed.
+// A subscriber is closed, if it is open; answers the place at which it was listed.
 fn leave_one<T: Copy, U: Copy>(
     port: &mut SubscriberPort,
     publishers: &mut Publishers<T, U>,

@@ -1,4 +1,4 @@
-//! The types that stand for any payload and any user header.
+//! The types that match any payload and any user header.
 ghost use Rattle.std.specs.Prelude.{◌<◌, ◌^◌, [], ◌∷◌, slice_index, codes, refl};
 ghost use Rattle.std.proofs.Common.{ap};
 ghost use Rattle.iox_queues_base.specs.Coding.{narrowed, narrowed-same};
@@ -6,7 +6,7 @@ ghost use Rattle.iox_queues_base.specs.Coding.{narrowed, narrowed-same};
 use iox_describe_base::{TypeDetail, TypeVariant, ZeroCopySend};
 use iox_queues_base::Words;
 
-/// A byte of a payload whose type only the description tells.
+/// A byte of a payload whose type only the description defines.
 ///
 /// Ported from `iceoryx2::service::builder::CustomPayloadMarker`.
 #[derive(Clone, Copy, Debug, PartialEq, Eq)]
@@ -15,7 +15,7 @@ pub struct CustomPayloadMarker {
     pub byte: u8,
 }
 
-/// A user header whose type only the description tells, and which isn't reached.
+/// A user header whose type only the description defines, and which can't be accessed.
 ///
 /// Ported from `iceoryx2::service::builder::CustomHeaderMarker`.
 #[derive(Clone, Copy, Debug, PartialEq, Eq)]
@@ -45,7 +45,7 @@ impl ZeroCopySend for CustomHeaderMarker {
     }
 }
 
-/// It has one value.
+/// The type has one value.
 impl Default for CustomHeaderMarker {
     ghost is_default = { λ made. Unit {0} };
 

@@ -1,4 +1,4 @@
-//! Whether the messages that a description tells of can hold values of given types.
+//! Whether the messages that a description defines can hold values of given types.
 ghost use Rattle.std.specs.Prelude.{◌≡◌, ◌↔◌, IsTrue};
 ghost use Rattle.iox_describe_settings.specs.DescribeBase.Detail.{detail};
 ghost use Rattle.iox_describe_settings.specs.DescribeBase.declared.type_detail.TypeVariant.TheVariants.{FixedSize};
@@ -8,9 +8,9 @@ use crate::settings::custom::{CustomHeaderMarker, CustomPayloadMarker};
 use iox_describe_base::{Header, MessageTypeDetails, TypeDetail, TypeVariant, ZeroCopySend};
 use iox_describe_settings::{Description, Settings};
 
-/// Whether ports over values of `T`, or slices of them, with user headers of `U` can be made by a description: it is that of a
-/// publish-subscribe service within the limits of a description, and a builder over `T` or `Slice<T>` and `U` finds its types
-/// compatible. `CustomPayloadMarker` stands for any payload, `CustomHeaderMarker` for any user header.
+/// Whether ports over values of `T`, or slices of them, with user headers of `U` can be created from this description: it is
+/// that of a publish-subscribe service within the limits of a description, and a builder over `T` or `Slice<T>` and `U` finds
+/// its types compatible. `CustomPayloadMarker` matches any payload, `CustomHeaderMarker` any user header.
 pub fn fits<T: ZeroCopySend, U: ZeroCopySend>(description: &Description) -> bool
     ensures { IsTrue result ↔ Fits (detail FixedSize T.name T.size T.alignment) (detail FixedSize U.name U.size U.alignment)
         description.now.settings }
@@ -28,7 +28,7 @@ pub fn fits<T: ZeroCopySend, U: ZeroCopySend>(description: &Description) -> bool
     }
 }
 
-// Whether a builder over values or slices of a type with such user headers finds types compatible.
+// Whether a builder for values or slices of a type with this user header finds the types compatible.
 fn fit_types(payload: TypeDetail, user_header: TypeDetail, types: &MessageTypeDetails) -> bool
     ensures { IsTrue result ↔ FitTypes payload user_header types.now }
 {
@@ -46,7 +46,7 @@ fn fit_types(payload: TypeDetail, user_header: TypeDetail, types: &MessageTypeDe
         || asked_types(TypeVariant::Dynamic, &payload, user_header).is_compatible_to(types)
 }
 
-// What is asked, or what is given where the type that stands for any is asked.
+// The given type, if the type that matches any is asked for; otherwise the type that is asked for.
 fn stood_for(any: TypeDetail, asked: TypeDetail, given: TypeDetail) -> TypeDetail
     ensures { result ≡ stood_for any asked given }
 {

@@ -1,12 +1,12 @@
-//! Laws of what fits, in other words. They are the contracts of functions that do nothing.
+//! Theorems about which types fit. They are the contracts of functions that do nothing.
 ghost use Rattle.iox_domain.specs.Laws.{FitMeans, WhatFitsHasSizes};
 
-/// What it means that the types of messages fit: what is equal, what is at most, and what the markers leave open.
+/// What it means that the types of messages fit: which properties are equal, which is at most, and what the markers leave open.
 pub fn fit_means()
     ensures { FitMeans }
 {}
 
-/// What fits has sizes: `sizes_of` gives them for each description that `fits` accepts.
+/// Settings that fit have sizes: `sizes_of` gives them for each description that `fits` accepts.
 pub fn what_fits_has_sizes()
     ensures { WhatFitsHasSizes }
 {}

@@ -1,4 +1,4 @@
-//! How much a description allows to its ports.
+//! The limits that a description sets for ports.
 ghost use Rattle.std.specs.Prelude.{◌≡◌};
 ghost use Rattle.iox_domain.specs.Sizes.{sizes, SizesOf};
 ghost use Rattle.iox_describe_settings.specs.PublishSubscribeSettings.{IsWithinLimits};
@@ -7,9 +7,9 @@ use iox_describe_settings::publish_subscribe::StaticConfig;
 use iox_describe_settings::{Description, Settings};
 use iox_domain_values::ServiceSizes;
 
-/// How much a description allows to its ports, where so many connections may wait to be read after their publishers left, or as many
-/// as samples of one connection may be held, whichever is more. None if it isn't that of a publish-subscribe service, or has numbers
-/// past the limits of a description.
+/// The limits that a description sets for ports. A subscriber keeps as many connections of closed publishers as
+/// `expired_connection_buffer` says, and at least as many as samples of one connection may be held. None if the description
+/// isn't that of a publish-subscribe service, or has numbers past the limits of a description.
 ///
 /// Ported from what `iceoryx2::port::publisher::Publisher::new` and `iceoryx2::port::subscriber::Subscriber::new` read of a
 /// `StaticConfig`.
@@ -25,7 +25,7 @@ pub fn sizes_of(description: &Description, expired_connection_buffer: u32) -> Op
     }
 }
 
-// The numbers of a publish-subscribe service.
+// The limits of a publish-subscribe service.
 fn sizes(config: &StaticConfig, expired_connection_buffer: u32) -> ServiceSizes
     requires { IsWithinLimits config.now }
     ensures { result ≡ sizes expired_connection_buffer config.now }

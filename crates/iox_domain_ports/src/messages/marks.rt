@@ -9,7 +9,7 @@ use crate::messages::rows::Rows;
 use std::alloc::{AllocError, Global};
 use std::marker::Model;
 
-/// How the values of a slot are marked: most loans are written all at once, and then there is nothing to be marked one by one.
+/// How the values of a slot are marked. Most loans are written all at once, and then no value needs a mark of its own.
 #[derive(Clone, Copy)]
 pub enum Marking {
     /// None of them is written.
@@ -27,7 +27,7 @@ pub enum Marking {
 /// Contracts see a mark for each value.
 #[derive(Drop)]
 pub struct Marks {
-    // As long as the slots' values; it tells the marks only where each value has its own.
+    // Rows as long as the slots' values; a row has the marks only if each value of its slot has its own.
     rows: Payloads<bool>,
     markings: Vec<Marking>,
 }
@@ -42,13 +42,13 @@ impl Model for Marks {
 
     ghost view = { λ m. record m.rows { payloads = all_marks m.markings.items m.rows.payloads } };
 
-    // The slots of segments to come have room, and a mark for each value.
+    // The slots of future segments have markings already, each of them `EachMarked`.
     ghost invariant = { λ m. (length m.rows.payloads + (m.rows.most_segments - m.rows.segments) * m.rows.size ≤ length m.markings.items)
         × ((slot : ℕ) → length m.rows.payloads ≤ slot → get_or m.markings.items slot EachMarked ≡ EachMarked) };
 }
 
 impl Marks {
-    /// No slots, to come in at most so many segments of this size. It fails only where an allocation fails.
+    /// No slots yet; they come in at most `most_segments` segments of this size. The call fails only if an allocation fails.
     pub fn new(alloc: Global, size: usize, most_segments: usize) -> Result<Marks, AllocError>
         ensures { IfOk result (λ made. made
             ≡ record { size = size; segments = 0; most_segments = most_segments; room = 0; payloads = [] }) }
@@ -72,7 +72,7 @@ impl Marks {
         self.rows.push(segment);
     }
 
-    /// Gives a slot of the last segment so many values, whichever of them are marked.
+    /// Sets the number of values of a slot of the last segment to `count`, whatever their marks are.
     pub fn set_length(&mut self, slot: usize, count: usize)
         requires slot { slot < length self.old.payloads }
         requires last { length self.old.payloads ≤ slot + self.old.size }
@@ -101,7 +101,7 @@ impl Marks {
         self.markings[slot] = Marking::EachMarked;
     }
 
-    /// Whether a value of a slot is marked; one that there isn't isn't.
+    /// Whether the value at this place of a slot is marked; false if the slot has no such place.
     pub fn is_marked(&self, slot: usize, place: usize) -> bool
         requires { slot < length self.now.payloads }
         ensures { result ≡ get_or (payload_at slot self.now) place false }
@@ -126,7 +126,7 @@ impl Marks {
     }
 }
 
-// How a slot is marked of which each value has this mark.
+// The marking of a slot each value of which has this mark.
 fn marking_of(mark: bool) -> Marking
     ensures { (row : List Bool) → marks_of result row ≡ replicate (length row) mark }
 {
@@ -149,7 +149,7 @@ fn write_out(marking: Marking, rows: &mut Payloads<bool>, slot: usize)
     }
 }
 
-// Whether there is such a place, and it is set.
+// Whether there is such a place, and its mark is set.
 fn is_marked(marks: &[bool], place: usize) -> bool
     ensures { result ≡ get_or marks.now place false }
 {
@@ -159,7 +159,7 @@ fn is_marked(marks: &[bool], place: usize) -> bool
     }
 }
 
-// Whether all of these are set.
+// Whether all of these marks are set.
 fn all_marked(marks: &[bool]) -> bool
     ensures { result ≡ list_all (λ mark. mark) marks.now }
 {

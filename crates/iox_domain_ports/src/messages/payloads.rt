@@ -7,7 +7,7 @@ use crate::messages::rows::Rows;
 use std::alloc::{AllocError, Global};
 use std::marker::Model;
 
-/// The values of each slot. Slots come in segments: those of one have the same room, in one block of memory.
+/// The values of each slot. Slots come in segments; those of one segment have the same room, in one block of memory.
 ///
 /// Contracts see the values of each slot.
 #[derive(Drop)]
@@ -38,7 +38,7 @@ impl<T> Model for Payloads<T> {
 impl<T: Copy> Payloads<T> {
     ghost use Rattle.iox_domain_ports.specs.PayloadsLends.{LendsInSlot};
 
-    /// No slots, to come in at most so many segments of this size. It fails only where an allocation fails.
+    /// No slots yet; they come in at most `most_segments` segments of this size. The call fails only if an allocation fails.
     pub fn new(alloc: Global, size: usize, most_segments: usize) -> Result<Payloads<T>, AllocError>
         ensures { IfOk result (λ made. made
             ≡ record { size = size; segments = 0; most_segments = most_segments; room = 0; payloads = [] }) }
@@ -60,7 +60,7 @@ impl<T: Copy> Payloads<T> {
         self.segments.push_reserved(segment);
     }
 
-    /// Gives a slot of the last segment so many values, whichever are there.
+    /// Sets the number of values of a slot of the last segment to `count`, whatever values these are.
     pub fn set_length(&mut self, slot: usize, count: usize)
         requires slot { slot < length self.old.payloads }
         requires last { length self.old.payloads ≤ slot + self.old.size }
@@ -73,7 +73,7 @@ impl<T: Copy> Payloads<T> {
         segment.set_length(row, count);
     }
 
-    /// Puts these values into a slot, in the place of as many that are there.
+    /// Replaces the values of a slot by these, which must be as many.
     pub fn copy(&mut self, slot: usize, values: &[T])
         requires slot { slot < length self.old.payloads }
         requires length { length values.now ≡ length (payload_at slot self.old) }
@@ -84,7 +84,7 @@ impl<T: Copy> Payloads<T> {
         segment.copy(row, values);
     }
 
-    /// Puts a value at a place of a slot.
+    /// Writes a value at this place of a slot.
     pub fn write(&mut self, slot: usize, place: usize, value: T)
         requires { place < length (payload_at slot self.old) }
         ensures { self.new ≡ with_payload slot (set (payload_at slot self.old) place value) self.old }
@@ -94,7 +94,7 @@ impl<T: Copy> Payloads<T> {
         segment.write(row, place, value);
     }
 
-    /// The value at a place of a slot, to be changed there.
+    /// A mutable reference to the value at this place of a slot.
     pub fn value_mut(&mut self, slot: usize, place: usize) -> &mut T
         requires { place < length (payload_at slot self.old) }
         ensures* writes_back { sem 𝓛 (LendsInSlot T.row self.entry slot place result) }
@@ -115,7 +115,7 @@ impl<T: Copy> Payloads<T> {
         segment.row(row)
     }
 
-    /// How many values may be in a slot of the last segment.
+    /// The maximum number of values in a slot of the last segment; 0 if there is no segment.
     pub fn room(&self) -> usize
         ensures { result ≡ self.now.room }
     {
@@ -132,7 +132,7 @@ impl<T: Copy> Payloads<T> {
         self.size
     }
 
-    /// How many segments more there may be.
+    /// How many more segments may be added.
     pub fn segments_left(&self) -> usize
         ensures { result ≡ self.now.most_segments - self.now.segments }
     {
@@ -141,7 +141,7 @@ impl<T: Copy> Payloads<T> {
 }
 
 impl Payloads<bool> {
-    /// Puts this mark at each place of a slot.
+    /// Writes this mark at each place of a slot.
     pub fn fill(&mut self, slot: usize, mark: bool)
         requires { slot < length self.old.payloads }
         ensures { self.new ≡ with_payload slot (replicate (length (payload_at slot self.old)) mark) self.old }

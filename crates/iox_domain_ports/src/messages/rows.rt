@@ -6,7 +6,7 @@ ghost use Rattle.iox_domain_ports.specs.Rows.{RowsState, row_at, with_row};
 use std::alloc::{AllocError, Global};
 use std::marker::Model;
 
-/// Rows of values, each in as much room as the others, in one block of memory.
+/// Rows of values, each with the same room, in one block of memory.
 ///
 /// Contracts see the values of each row.
 #[derive(Drop)]
@@ -30,7 +30,7 @@ impl<T> Model for Rows<T> {
 impl<T: Copy> Rows<T> {
     ghost use Rattle.iox_domain_ports.specs.RowsLends.{LendsInRow};
 
-    /// Rows without a value, with this room each. It fails only where an allocation fails.
+    /// `rows` rows without values, each with room for `room` values. The call fails only if an allocation fails.
     pub fn new(alloc: Global, rows: usize, room: usize, blank: T) -> Result<Rows<T>, AllocError>
         ensures { IfOk result (λ made. made ≡ record { room = room; rows = replicate rows [] }) }
     {
@@ -44,14 +44,14 @@ impl<T: Copy> Rows<T> {
         })
     }
 
-    /// How many values may be in a row.
+    /// The maximum number of values in a row.
     pub fn room(&self) -> usize
         ensures { result ≡ self.now.room }
     {
         self.room
     }
 
-    /// Gives a row so many values, whichever are there.
+    /// Sets the number of values of a row to `count`, whatever values these are.
     pub fn set_length(&mut self, row: usize, count: usize)
         requires row { row < length self.old.rows }
         requires room { count ≤ self.old.room }
@@ -61,7 +61,7 @@ impl<T: Copy> Rows<T> {
         self.lengths[row] = count;
     }
 
-    /// Puts these values into a row, in the place of as many that are there.
+    /// Replaces the values of a row by these, which must be as many.
     pub fn copy(&mut self, row: usize, values: &[T])
         requires row { row < length self.old.rows }
         requires length { length values.now ≡ length (row_at row self.old) }
@@ -71,7 +71,7 @@ impl<T: Copy> Rows<T> {
         put(&mut self.values, start, values);
     }
 
-    /// Puts a value at a place of a row.
+    /// Writes a value at this place of a row.
     pub fn write(&mut self, row: usize, place: usize, value: T)
         requires { place < length (row_at row self.old) }
         ensures { self.new ≡ with_row row (set (row_at row self.old) place value) self.old }
@@ -80,7 +80,7 @@ impl<T: Copy> Rows<T> {
         self.values[at] = value;
     }
 
-    /// The value at a place of a row, to be changed there.
+    /// A mutable reference to the value at this place of a row.
     pub fn value_mut(&mut self, row: usize, place: usize) -> &mut T
         requires { place < length (row_at row self.old) }
         ensures* writes_back { sem 𝓛 (LendsInRow T.row self.entry row place result) }
@@ -100,7 +100,7 @@ impl<T: Copy> Rows<T> {
 }
 
 impl Rows<bool> {
-    /// Puts this mark at each place of a row.
+    /// Writes this mark at each place of a row.
     pub fn fill(&mut self, row: usize, mark: bool)
         requires { row < length self.old.rows }
         ensures { self.new ≡ with_row row (replicate (length (row_at row self.old)) mark) self.old }
@@ -110,7 +110,7 @@ impl Rows<bool> {
     }
 }
 
-// Puts values from a place on.
+// Writes values from place `start` on.
 fn put<T: Copy>(all: &mut [T], start: usize, values: &[T])
     requires { start + length values.now ≤ length all.old }
     ensures { all.new ≡ take start all.old ++ (values.now ++ drop (start + length values.now) all.old) }
@@ -119,7 +119,7 @@ fn put<T: Copy>(all: &mut [T], start: usize, values: &[T])
     all[start..end].copy_from_slice(values);
 }
 
-// Puts a mark at so many places from one on.
+// Writes a mark at `count` places from `start` on.
 fn mark_part(all: &mut [bool], start: usize, count: usize, mark: bool)
     requires { start + count ≤ length all.old }
     ensures { all.new ≡ take start all.old ++ (replicate count mark ++ drop (start + count) all.old) }
@@ -128,7 +128,7 @@ fn mark_part(all: &mut [bool], start: usize, count: usize, mark: bool)
     all[start..end].fill(mark);
 }
 
-// So many values from a place on.
+// `count` values from place `start` on.
 fn part<T>(values: &[T], start: usize, count: usize) -> &[T]
     requires { start + count ≤ length values.now }
     ensures { result.now ≡ take count (drop start values.now) }

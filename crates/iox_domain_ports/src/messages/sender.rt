@@ -24,7 +24,7 @@ use iox_domain_slots::{SlotUses, Slots};
 use std::alloc::{AllocError, Global};
 use std::marker::Model;
 
-/// One publisher: its loans, its history, the message that it sends, and what its connections hold, by what they are.
+/// One publisher: its loans, its history, the message that it sends, and what its connections hold, by their contents.
 ///
 /// Ported from `iceoryx2::port::details::sender::Sender`.
 #[derive(Drop)]
@@ -52,7 +52,7 @@ impl<T: Copy, U: Copy> Sender<T, U> {
     ghost use Rattle.iox_domain_ports.specs.SenderLends.{LendsValue, LendsUserHeader};
 
     /// A publisher with one segment of slots, of which none is in use. `blank` fills the slots, and a new loan has this user
-    /// header. It fails only where an allocation fails.
+    /// header. The call fails only if an allocation fails.
     pub fn new(
         alloc: Global,
         config: SenderConfig,
@@ -110,8 +110,9 @@ impl<T: Copy, U: Copy> Sender<T, U> {
         })
     }
 
-    /// Makes a loan of so many values, of which none is written; None if each slot of the current segment is in use. With as many
-    /// slots as the worst case needs, one is always free.
+    /// Makes a loan of `values` values, of which none is written, and answers its slot; None if each slot of the current
+    /// segment is in use. With at least as many slots in a segment as the worst case needs, and no send going on, a slot is
+    /// always found.
     pub fn loan(&mut self, values: usize, elements: u64) -> Option<usize>
         requires room { values ≤ self.old.room }
         requires loans { length self.old.uses.loans < self.old.uses.most_loans }
@@ -130,7 +131,7 @@ impl<T: Copy, U: Copy> Sender<T, U> {
         Some(slot)
     }
 
-    /// Writes a value at a place of the loan in this slot.
+    /// Writes a value at this place of the loan in this slot.
     pub fn write(&mut self, slot: usize, place: usize, value: T)
         requires { has_place slot place self.old.uses ≡ true }
         ensures { self.new ≡ with_uses (change_loan slot (write_value place value) self.old.uses) self.old }
@@ -156,21 +157,21 @@ impl<T: Copy, U: Copy> Sender<T, U> {
         self.headers[slot].user_header = user_header;
     }
 
-    /// Whether a loan is in this slot of which each value is written: the condition of its send.
+    /// Whether a loan is in this slot and each of its values is written, which sending it requires.
     pub fn is_written(&self, slot: usize) -> bool
         ensures { result ≡ is_written_loan (loan_at slot self.now.uses) }
     {
         self.has_loan(slot) && self.written.are_all(slot)
     }
 
-    /// Whether a loan is in this slot: the condition of writing its user header.
+    /// Whether a loan is in this slot, which writing its user header requires.
     pub fn has_loan(&self, slot: usize) -> bool
         ensures { result ≡ has_loan slot self.now.uses }
     {
         self.uses.slots().has_loan(slot)
     }
 
-    /// Whether a loan is in this slot and has this place: the condition of writing there.
+    /// Whether a loan is in this slot and has this place, which writing there requires.
     pub fn has_place(&self, slot: usize, place: usize) -> bool
         ensures { result ≡ has_place slot place self.now.uses }
     {
@@ -180,7 +181,7 @@ impl<T: Copy, U: Copy> Sender<T, U> {
         place < self.values.values(slot).len()
     }
 
-    /// Whether a loan of so many values stands in this slot: the condition of writing all of them at once.
+    /// Whether a loan of `count` values is in this slot, which writing all of them at once requires.
     pub fn has_length(&self, slot: usize, count: usize) -> bool
         ensures { result ≡ has_length slot count self.now.uses }
     {
@@ -190,7 +191,7 @@ impl<T: Copy, U: Copy> Sender<T, U> {
         count == self.values.values(slot).len()
     }
 
-    /// The value at a place of the loan in this slot, if it is written.
+    /// The value at this place of the loan in this slot, if it is written.
     pub fn value(&self, slot: usize, place: usize) -> Option<&T>
         requires { has_place slot place self.now.uses ≡ true }
         ensures { (at : ℕ) (loan : Loan T U) → slice_get self.now.uses.loans at ≡ Some loan → loan.slot ≡ slot
@@ -202,14 +203,14 @@ impl<T: Copy, U: Copy> Sender<T, U> {
         Some(&self.values.values(slot)[place])
     }
 
-    /// Whether a loan is in this slot of which the value at this place is written: the condition of changing it there.
+    /// Whether a loan is in this slot and its value at this place is written, which changing it there requires.
     pub fn has_value(&self, slot: usize, place: usize) -> bool
         ensures { result ≡ has_value slot place self.now.uses }
     {
         self.has_loan(slot) && self.written.is_marked(slot, place)
     }
 
-    /// The written value at a place of the loan in this slot, to be changed there.
+    /// A mutable reference to the written value at this place of the loan in this slot.
     pub fn value_mut(&mut self, slot: usize, place: usize) -> &mut T
         requires { has_value slot place self.old.uses ≡ true }
         ensures* writes_back { sem 𝓛 (LendsValue T.row U.row self.entry slot place result) }
@@ -236,7 +237,7 @@ impl<T: Copy, U: Copy> Sender<T, U> {
         &self.headers[slot].user_header
     }
 
-    /// The user header of the loan in this slot, to be changed there.
+    /// A mutable reference to the user header of the loan in this slot.
     pub fn user_header_mut(&mut self, slot: usize) -> &mut U
         requires { has_loan slot self.old.uses ≡ true }
         ensures* writes_back { sem 𝓛 (LendsUserHeader T.row U.row self.entry slot result) }
@@ -255,8 +256,8 @@ impl<T: Copy, U: Copy> Sender<T, U> {
         self.values.values(slot)
     }
 
-    /// Begins the send of the written loan in this slot, and gives its message this number: it is no loan any longer, but in use until
-    /// the send is finished, and the newest of the history.
+    /// Begins the send of the written loan in this slot, and gives its message this sequence number. The message is no loan any
+    /// longer, stays in use until the send is finished, and is the newest of the history.
     pub fn begin_send(&mut self, slot: usize, sequence: Option<u64>)
         requires alone { self.old.uses.sending ≡ None }
         requires written { is_written_loan (loan_at slot self.old.uses) ≡ true }
@@ -267,8 +268,8 @@ impl<T: Copy, U: Copy> Sender<T, U> {
         self.uses.begin_send(slot);
     }
 
-    /// Sends a message again, in its slot of the current segment, whether it is in use or nothing is in this slot: it is in use until the
-    /// send is finished. Neither history nor connections have it by this.
+    /// Begins to send this message in this slot of the current segment, whether the message is in use there or nothing is. The
+    /// message is in use until the send is finished; this call puts it neither into the history nor into a connection.
     pub fn begin_again(
         &mut self,
         slot: usize,
@@ -302,7 +303,8 @@ impl<T: Copy, U: Copy> Sender<T, U> {
         self.uses.begin_again(slot);
     }
 
-    /// Makes the message that is being sent the newest of the history; of more than may be kept the oldest leaves.
+    /// Makes the message that is being sent, if one is, the newest of the history. A history of `kept` messages drops its
+    /// oldest.
     pub fn remember(&mut self)
         ensures sent { (message : Message T U) → self.old.uses.sending ≡ Some message →
             self.new ≡ with_uses (record self.old.uses { history = newest self.old.uses.kept (self.old.uses.history ++ message ∷ []) })
@@ -312,7 +314,7 @@ impl<T: Copy, U: Copy> Sender<T, U> {
         self.uses.remember();
     }
 
-    /// Whether there is such a slot: the condition of reading what is there.
+    /// Whether the slot exists, which reading its message requires.
     pub fn has_slot(&self, slot: usize) -> bool
         ensures { result ≡ nat_lt slot (self.now.uses.first + self.now.uses.size) }
     {
@@ -345,7 +347,7 @@ impl<T: Copy, U: Copy> Sender<T, U> {
         self.headers[slot].elements
     }
 
-    /// The number of the message in this slot.
+    /// The sequence number of the message in this slot.
     pub fn sequence(&self, slot: usize) -> Option<u64>
         requires { slot < self.now.uses.first + self.now.uses.size }
         ensures borrowed { (index at : ℕ) (message : Message T U)
@@ -373,8 +375,9 @@ impl<T: Copy, U: Copy> Sender<T, U> {
         &self.headers[slot].user_header
     }
 
-    /// Opens a segment of as many slots, in which loans may have so many values; only its slots are lent from now on, and each of them
-    /// is free. What is in use stays as it is. It fails only where an allocation fails, and then nothing has changed.
+    /// Opens a segment of as many slots as before, each with room for `room` values. Only its slots are loaned from now on, and
+    /// none of them is in use. What is in use stays as it is. The call fails only if an allocation fails; then nothing has
+    /// changed.
     pub fn open_segment(&mut self, alloc: Global, room: usize, blank: T) -> Result<(), AllocError>
         requires { self.old.segments < self.old.most_segments }
         ensures opened { IfOk result (λ _. self.new ≡ opened_for room self.old) }
@@ -390,14 +393,14 @@ impl<T: Copy, U: Copy> Sender<T, U> {
         Ok(())
     }
 
-    /// How many segments more there may be.
+    /// How many more segments may be opened.
     pub fn segments_left(&self) -> usize
         ensures { result ≡ self.now.most_segments - self.now.segments }
     {
         self.values.segments_left()
     }
 
-    /// Gives up the loan in this slot.
+    /// Drops the loan in this slot.
     pub fn drop_loan(&mut self, slot: usize)
         requires { has_loan slot self.old.uses ≡ true }
         ensures { self.new ≡ with_uses (dropped (place_in slot self.old.uses) self.old.uses) self.old }
@@ -405,14 +408,14 @@ impl<T: Copy, U: Copy> Sender<T, U> {
         self.uses.drop_loan(slot);
     }
 
-    /// Finishes the send: its message is in use only where the history or a connection has it.
+    /// Finishes the send: its message stays in use only where the history or a connection has it.
     pub fn finish_send(&mut self)
         ensures { self.new ≡ with_uses (finished self.old.uses) self.old }
     {
         self.uses.finish_send();
     }
 
-    /// Puts the message that is being sent into the mailbox of a connection; answers whether it found room.
+    /// Puts the message that is being sent into the mailbox of a connection, and answers whether the mailbox accepted it.
     pub fn offer(&mut self, index: usize) -> bool
         requires sending { is_some self.old.uses.sending ≡ true }
         requires live { (connection_at index self.old.uses).stage ≡ stage.Live }
@@ -424,7 +427,7 @@ impl<T: Copy, U: Copy> Sender<T, U> {
         self.uses.offer(index)
     }
 
-    /// Borrows the oldest message that waits at the connection, and answers its slot.
+    /// Borrows the oldest waiting message of the connection, and answers its slot.
     pub fn take(&mut self, index: usize) -> usize
         requires data { 0 < length (connection_at index self.old.uses).waiting }
         requires room { length (connection_at index self.old.uses).borrowed < self.old.uses.most_borrowed }
@@ -434,7 +437,7 @@ impl<T: Copy, U: Copy> Sender<T, U> {
         self.uses.take(index)
     }
 
-    /// Gives back the oldest message in this slot that is borrowed of the connection.
+    /// Releases the oldest message in this slot that is borrowed from the connection.
     pub fn give_back(&mut self, index: usize, slot: usize)
         requires { has_borrowed slot (connection_at index self.old.uses) ≡ true }
         ensures { self.new ≡ with_uses (with_connection index
@@ -444,7 +447,7 @@ impl<T: Copy, U: Copy> Sender<T, U> {
         self.uses.give_back(index, slot);
     }
 
-    /// Ends the connection: what waits is lost, what is borrowed stays in use until it is given back.
+    /// Ends the connection: what waits is lost, and what is borrowed stays in use until it is released.
     pub fn end(&mut self, index: usize)
         requires { (connection_at index self.old.uses).stage ≡ stage.Live }
         ensures { self.new ≡ with_uses (with_connection index (ended (connection_at index self.old.uses)) self.old.uses) self.old }
@@ -452,7 +455,7 @@ impl<T: Copy, U: Copy> Sender<T, U> {
         self.uses.end(index);
     }
 
-    /// Loses all that waits at the connection, which goes on.
+    /// Drops all messages that wait in the connection, which stays as it is otherwise.
     pub fn lose_waiting(&mut self, index: usize)
         requires { is_there (connection_at index self.old.uses) ≡ true }
         ensures { self.new ≡ with_uses (with_connection index (emptied (connection_at index self.old.uses)) self.old.uses) self.old }
@@ -460,8 +463,8 @@ impl<T: Copy, U: Copy> Sender<T, U> {
         self.uses.lose_waiting(index);
     }
 
-    /// Makes a connection where at most `limit` messages may wait, and answers its index, at which there was none. It fails where
-    /// an allocation fails, and then nothing has changed.
+    /// Makes a connection in which at most `limit` messages may wait, and answers its index, at which none existed. The call
+    /// fails only if an allocation fails or if there are 2^29 connections; then nothing has changed.
     pub fn connect(&mut self, alloc: Global, limit: usize) -> Result<usize, AllocError>
         requires { limit ≤ self.old.uses.most_waiting }
         ensures vacant { IfOk result (λ index. connection_at index self.old.uses ≡ nobody) }
@@ -473,7 +476,7 @@ impl<T: Copy, U: Copy> Sender<T, U> {
         self.uses.connect(alloc, limit)
     }
 
-    /// The connection of an index, if there is one.
+    /// The connection at this index, if one exists.
     pub fn link(&self, index: usize) -> Option<&Link>
         ensures none { IfNone result (connection_at index self.now.uses ≡ nobody) }
         ensures there { IfSome result (λ link. is_there (connection_at index self.now.uses) ≡ true) }
@@ -486,7 +489,7 @@ impl<T: Copy, U: Copy> Sender<T, U> {
         self.uses.link(index)
     }
 
-    /// Its slots: how many there are, how many loans are out, and how long the history is.
+    /// Its slots: how many there are, how many loans exist, and how many messages the history has.
     pub fn slots(&self) -> &Slots
         ensures first { result.now.first ≡ self.now.uses.first }
         ensures size { result.now.size ≡ self.now.uses.size }
@@ -498,7 +501,7 @@ impl<T: Copy, U: Copy> Sender<T, U> {
         self.uses.slots()
     }
 
-    /// The slot of the message that waits at this place of the connection, the oldest at 0.
+    /// The slot of the message that waits at place `at` of the connection; the oldest is at 0.
     pub fn waiting_slot(&self, index: usize, at: usize) -> usize
         requires there { is_there (connection_at index self.now.uses) ≡ true }
         requires waits { at < length (connection_at index self.now.uses).waiting }
@@ -508,7 +511,7 @@ impl<T: Copy, U: Copy> Sender<T, U> {
         self.uses.waiting_slot(index, at)
     }
 
-    /// The slot of the message at this place of the history, the oldest at 0.
+    /// The slot of the message at this place of the history; the oldest is at 0.
     pub fn remembered(&self, place: usize) -> usize
         requires { place < length self.now.uses.history }
         ensures slot { slice_get (map (λ message. message.slot) self.now.uses.history) place ≡ Some result }
@@ -517,14 +520,14 @@ impl<T: Copy, U: Copy> Sender<T, U> {
         self.uses.slots().remembered(place)
     }
 
-    /// Forgets the history: its messages are in use only where something else has them.
+    /// Clears the history: its messages stay in use only where something else has them.
     pub fn forget_history(&mut self)
         ensures { self.new ≡ with_uses (record self.old.uses { history = [] }) self.old }
     {
         self.uses.forget_history();
     }
 
-    /// Whether a message in this slot is borrowed of the connection.
+    /// Whether a message in this slot is borrowed from the connection.
     pub fn has_borrowed(&self, index: usize, slot: usize) -> bool
         requires { is_there (connection_at index self.now.uses) ≡ true }
         ensures answer { result ≡ has_borrowed slot (connection_at index self.now.uses) }
@@ -533,7 +536,7 @@ impl<T: Copy, U: Copy> Sender<T, U> {
         self.uses.has_borrowed(index, slot)
     }
 
-    /// How many indices the connections have: one more than the last that ever stood.
+    /// How many indices the connections have, also those at which none exists any longer: at most 2^29.
     pub fn indices(&self) -> usize
         ensures value { result ≡ length self.now.uses.connections }
         ensures few { result ≤ 2 ^ 29 }
@@ -541,7 +544,7 @@ impl<T: Copy, U: Copy> Sender<T, U> {
         self.uses.links().len()
     }
 
-    /// How many values a new loan may have at most.
+    /// The maximum number of values of a new loan.
     pub fn room(&self) -> usize
         ensures { result ≡ self.now.room }
     {
@@ -555,21 +558,21 @@ impl<T: Copy, U: Copy> Sender<T, U> {
         self.uses.sending().is_some()
     }
 
-    /// How many messages may wait at a connection at most.
+    /// The highest limit of waiting messages that a connection may have.
     pub fn most_waiting(&self) -> usize
         ensures { result ≡ self.now.uses.most_waiting }
     {
         self.uses.links().most_waiting()
     }
 
-    /// How many messages may be borrowed of a connection.
+    /// The maximum number of messages borrowed from one connection.
     pub fn most_borrowed(&self) -> usize
         ensures { result ≡ self.now.uses.most_borrowed }
     {
         self.uses.links().most_borrowed()
     }
 
-    /// Gives a new connection as much of the history as may wait there, the oldest first.
+    /// Gives a new connection the newest messages of the history, as many as may wait there, the oldest first.
     pub fn welcome(&mut self, index: usize)
         requires live { (connection_at index self.old.uses).stage ≡ stage.Live }
         requires empty { (connection_at index self.old.uses).waiting ≡ [] }
@@ -580,7 +583,7 @@ impl<T: Copy, U: Copy> Sender<T, U> {
     }
 }
 
-// The slots of a first segment, without a value.
+// The slots of a first segment, which have no values yet.
 fn first_values<T: Copy>(
     alloc: Global,
     config: SenderConfig,
@@ -594,7 +597,7 @@ fn first_values<T: Copy>(
     Ok(values)
 }
 
-// The marks of a first segment, without a value.
+// The marks of a first segment, which has no values yet.
 fn first_marks(alloc: Global, config: SenderConfig) -> Result<Marks, AllocError>
     requires { 0 < config.most_segments }
     ensures { IfOk result (λ made. made ≡ first_slots config.slots config.most_segments config.room) }
@@ -604,7 +607,8 @@ fn first_marks(alloc: Global, config: SenderConfig) -> Result<Marks, AllocError>
     Ok(written)
 }
 
-// Opens a segment of so many slots, with as many blank headers. It fails only where an allocation fails, and then nothing has changed.
+// Opens a segment of `count` slots, with as many blank headers. The call fails only if an allocation fails; then nothing has
+// changed.
 fn open_slots<U: Copy>(
     alloc: Global,
     count: usize,
@@ -620,7 +624,7 @@ fn open_slots<U: Copy>(
     let before = headers.len();
     headers.reserve(count)?;
     uses.open_segment(alloc)?;
-    // Its room is there.
+    // `reserve` allocated the memory.
     let _resized = headers.resize(before + count, blank);
     Ok(())
 }

@@ -1,22 +1,22 @@
-//! How a publisher is made.
+//! The capacities of a publisher.
 
-/// How many messages a publisher and its connections may have.
+/// The capacities of a publisher and of its connections.
 #[derive(Clone, Copy)]
 pub struct SenderConfig {
-    /// Whether a full mailbox lets its oldest message go for a new one.
+    /// Whether a full mailbox drops its oldest message for a new one.
     pub overflows: bool,
     /// How many slots a segment has.
     pub slots: usize,
-    /// How many segments there may be, at least 1.
+    /// The maximum number of segments, at least 1.
     pub most_segments: usize,
-    /// How many values are in a slot of the first segment at most.
+    /// The maximum number of values in a slot of the first segment.
     pub room: usize,
-    /// How many loans may be out.
+    /// The maximum number of loans at once.
     pub most_loans: usize,
-    /// How many messages the history keeps.
+    /// The maximum number of messages in the history.
     pub history: usize,
-    /// How many messages may wait at a connection at most.
+    /// The highest limit of waiting messages that a connection may have.
     pub most_waiting: usize,
-    /// How many messages may be borrowed of a connection.
+    /// The maximum number of messages borrowed from one connection.
     pub most_borrowed: usize,
 }

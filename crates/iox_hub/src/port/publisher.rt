@@ -1,2 +1,2 @@
-//! A publisher of single values, and what its sends come to.
+//! A publisher of single values, and the results of its sends.
 pub use iox_delivery::{BlockedSend, Publisher, Sent};

@@ -1,4 +1,4 @@
-//! What calls of a recorded hub do to the hub, and how things get their numbers.
+//! What calls of a recorded hub do to the hub, and how values get their numbers.
 ghost use Rattle.std.specs.Prelude.{◌≡◌, ◌&&◌, List, is_ok};
 ghost use Rattle.std.specs.Result.{result_ok};
 ghost use Rattle.iox_command.specs.declared.command.Command.TheVariants as command;
@@ -31,7 +31,7 @@ use iox_hub_commands::{PublisherHandlers, SubscriberHandler, first_length};
 use iox_queues_base::Words;
 use std::alloc::Global;
 
-// A publisher lends slots for these values, writes and sends them, if it may lend.
+// Loans a slot of a publisher for these values, writes and sends them, if it may loan.
 pub(crate) fn put_if<T: Copy, U: Copy, H: Home<T, U>>(
     home: &mut H,
     alloc: Global,
@@ -53,7 +53,7 @@ pub(crate) fn put_if<T: Copy, U: Copy, H: Home<T, U>>(
     Some(publisher.send_slice(alloc, home, values))
 }
 
-// A send is tried again if it waits, else handed back.
+// Tries a send again if it is blocked; otherwise hands it back.
 pub(crate) fn retry_if<T: Copy, U: Copy, H: Home<T, U>>(
     home: &mut H,
     blocked: BlockedSend<T, U>,
@@ -70,7 +70,7 @@ pub(crate) fn retry_if<T: Copy, U: Copy, H: Home<T, U>>(
     }
 }
 
-// A publisher follows the list of subscribers, if it may lend.
+// Updates the connections of a publisher, if it may loan.
 pub(crate) fn update_publisher_if<T: Copy, U: Copy, H: Home<T, U>>(
     home: &mut H,
     alloc: Global,
@@ -89,7 +89,7 @@ pub(crate) fn update_publisher_if<T: Copy, U: Copy, H: Home<T, U>>(
     Some(publisher.update_connections(alloc, home))
 }
 
-// A subscriber follows the list of publishers, if it stands.
+// Updates the connections of a subscriber, if it is open.
 pub(crate) fn update_subscriber_if<T: Copy, U: Copy, H: Home<T, U>>(
     home: &mut H,
     alloc: Global,
@@ -106,7 +106,7 @@ pub(crate) fn update_subscriber_if<T: Copy, U: Copy, H: Home<T, U>>(
     }
 }
 
-// It is told whether messages wait for a subscriber, if it stands.
+// Whether messages wait for a subscriber, if it is open.
 pub(crate) fn has_samples_if<T: Copy, U: Copy, H: Home<T, U>>(
     home: &mut H,
     alloc: Global,
@@ -123,7 +123,7 @@ pub(crate) fn has_samples_if<T: Copy, U: Copy, H: Home<T, U>>(
     }
 }
 
-// A subscriber receives, if it stands.
+// Receives by a subscriber, if it is open.
 pub(crate) fn receive_if<T: Copy, U: Copy, H: Home<T, U>>(
     home: &mut H,
     alloc: Global,
@@ -140,7 +140,7 @@ pub(crate) fn receive_if<T: Copy, U: Copy, H: Home<T, U>>(
     }
 }
 
-// Whether it is known that all messages fit in vectors, this one too.
+// Whether it is known that all messages fit in vectors, this one included.
 pub(crate) fn newest_is_known<
     T: Words + ZeroCopySend + Default,
     U: Copy + ZeroCopySend + Default,
@@ -171,7 +171,7 @@ pub(crate) fn is_known<
     sample.holds(hub) && sample.payload(hub).len() < 9_223_372_036_854_775_808
 }
 
-// The history, where a publisher of this number was asked to send these values.
+// The history, if a publisher with this number was asked to send these values.
 pub(crate) fn told_put<T: Words + ZeroCopySend + Default, U: Copy + ZeroCopySend + Default>(
     history: &History<T>,
     number: &Number,
@@ -187,7 +187,7 @@ pub(crate) fn told_put<T: Words + ZeroCopySend + Default, U: Copy + ZeroCopySend
     History::told(history, number, &came, &())
 }
 
-// The history that its caller says, where a subscriber of this number received so, and the hub is this then.
+// The history that its caller states, if a subscriber with this number received so, and this is the hub afterwards.
 pub(crate) fn told_received<
     T: Words + ZeroCopySend + Default,
     U: Copy + ZeroCopySend + Default,
@@ -213,7 +213,7 @@ pub(crate) fn most_waiting(factory: &PortFactory<PublishSubscribe>) -> usize
     factory.static_config().subscriber_max_buffer_size as usize
 }
 
-// The publisher that came under a number to a domain, as a value.
+// The publisher that was created in a domain with a number, as a value.
 pub(crate) fn publisher_of<T: Copy, U: Copy>(
     domain: DomainId,
     options: &PublisherOptions,
@@ -234,7 +234,7 @@ pub(crate) fn publisher_of<T: Copy, U: Copy>(
     }
 }
 
-// The subscriber that came under a number to a domain, as a value.
+// The subscriber that was created in a domain with a number, as a value.
 pub(crate) fn subscriber_of<T: Copy, U: Copy>(
     domain: DomainId,
     options: &SubscriberOptions,
@@ -256,7 +256,7 @@ pub(crate) fn subscriber_of<T: Copy, U: Copy>(
     }
 }
 
-// What was made, with the number by which it goes.
+// The value that was made, with its number.
 pub(crate) fn with_number<S, E>(
     answer: Option<Result<S, E>>,
     number: Number,
@@ -270,7 +270,7 @@ pub(crate) fn with_number<S, E>(
     }
 }
 
-// What was received, with the number by which it goes.
+// The value that was received, with its number.
 pub(crate) fn received_with_number<S, E>(
     answer: Option<Result<Option<S>, E>>,
     number: Number,
@@ -285,7 +285,7 @@ pub(crate) fn received_with_number<S, E>(
     }
 }
 
-// What was handed back, with the number by which it goes.
+// The value that was handed back, with its number.
 pub(crate) fn back_with_number<A, S>(left: Result<A, S>, number: Number) -> Result<A, Named<S>>
     ensures { result ≡ back_by number left }
 {
@@ -295,7 +295,7 @@ pub(crate) fn back_with_number<A, S>(left: Result<A, S>, number: Number) -> Resu
     }
 }
 
-// What a send came to, without the send that waits.
+// The result of a send, without a blocked send.
 fn put_came<T: Copy, U: Copy>(
     answer: &Option<Result<Sent<T, U>, SendError>>,
 ) -> Option<Result<Option<usize>, SendError>>
@@ -309,7 +309,7 @@ fn put_came<T: Copy, U: Copy>(
     }
 }
 
-// What a send came to that was begun or tried again, without the send that waits; None where what it spends was handed back.
+// The result of a send that was begun or tried again, without a blocked send; None if what it spends was handed back.
 pub(crate) fn sent_came<T: Copy, U: Copy, W>(
     answer: &Result<Result<Sent<T, U>, SendError>, W>,
 ) -> Option<Result<Option<usize>, SendError>>
@@ -323,7 +323,7 @@ pub(crate) fn sent_came<T: Copy, U: Copy, W>(
     }
 }
 
-// Whether a port left, or a loan was sent.
+// Whether a port was closed, or a loan was sent.
 pub(crate) fn has_left<A, S>(left: &Result<A, S>) -> bool
     ensures { result ≡ is_ok left.now }
 {

@@ -1,12 +1,12 @@
-//! What was asked of a hub, and what it answered, which only proofs read.
+//! What a hub was asked, and what it answered; only proofs read it.
 ghost use Rattle.std.specs.Prelude.{◌≡◌};
 ghost use Rattle.iox_hub.specs.Recorded.{Calls};
 
 use std::marker::{Model, PhantomData};
 
-/// What was asked of a hub, and what it answered. It takes no memory, and nothing is done with it at run time.
+/// What a hub was asked, and what it answered. It takes no memory, and nothing is done with it at run time.
 ///
-/// This port's own.
+/// Not in `iceoryx2`.
 #[derive(Drop)]
 pub(crate) struct History<T> {
     of: PhantomData<T>,
@@ -20,7 +20,7 @@ impl<T> Model for History<T> {
 }
 
 impl<T> History<T> {
-    // The history that its caller says: from what was before, what was asked, what was answered, and what the hub is then.
+    // The history that its caller states: from the one before, the command, the answer, and the hub afterwards.
     pub(crate) fn told<A, B, C, D>(_before: &A, _asked: &B, _answer: &C, _after: &D) -> History<T>
         ghost calls: { Calls T }
         ensures { result.calls ≡ calls }

@@ -1,4 +1,4 @@
-//! Loans of a recorded hub: they are lent, written, given up and sent.
+//! Loans of a recorded hub: how they are made, written, dropped and sent.
 ghost use Rattle.std.specs.Prelude.{◌≡◌, List, false, Some, IfSome, IfOk, IfErr, MatchResult, length, if◌then◌else◌};
 ghost use Rattle.std.specs.Option.{option_map};
 ghost use Rattle.iox_command.specs.declared.command.Command.TheVariants as command;
@@ -37,8 +37,8 @@ impl<
     B: PublisherHandlers,
     D: SubscriberHandler,
 > RecordedHub<T, U, B, D> {
-    /// A publisher lends so many values to be written: the command `LoanUninit`. None, and the command is skipped, where the publisher
-    /// doesn't stand, or a send of it waits. Other loans keep their numbers.
+    /// Loans so many unwritten values of a publisher: the command `LoanUninit`. None, and the command is skipped, if the publisher isn't
+    /// open, or a send of it is blocked. Other loans keep their numbers.
     ///
     /// Refused as the machine refuses it.
     /// Example: `let Some(Ok(loan)) = hub.loan_slice_uninit(alloc, &publisher, 4) else { return None; };`
@@ -68,8 +68,8 @@ impl<
         calls::with_number(answer, number)
     }
 
-    /// A publisher lends so many values that are written, each a default: the command `Loan`. None, and the command is skipped, where the
-    /// publisher doesn't stand, or a send of it waits. Other loans keep their numbers.
+    /// Loans so many values of a publisher, each written with a default value: the command `Loan`. None, and the command is skipped, if the
+    /// publisher isn't open, or a send of it is blocked. Other loans keep their numbers.
     ///
     /// Refused as the machine refuses it.
     /// Example: `let Some(Ok(sample)) = hub.loan_slice(alloc, &publisher, 4) else { return None; };`
@@ -99,8 +99,8 @@ impl<
         calls::with_number(answer, number)
     }
 
-    /// All values of a loan are written: the command `Fill`. There are as many as were lent. The answer is the loan, and whether it is
-    /// written: where it isn't, the command is skipped.
+    /// Writes all values of a loan: the command `Fill`. There must be as many as were loaned. Returns the loan, and whether it is written;
+    /// if it isn't, the command is skipped.
     /// Example: `let (sample, is_written) = hub.write_from_slice(loan, &[7, 8]);`
     pub fn write_from_slice(
         &mut self,
@@ -122,7 +122,7 @@ impl<
         (Named { it: sample, number }, filled)
     }
 
-    /// A loan is given up: the command `Drop`. It is told as done, and its number is spent.
+    /// Drops a loan: the command `Drop`. The command is recorded as done, and its number names nothing any longer.
     /// Example: `hub.drop_loan(loan);`
     pub fn drop_loan<S: LoanState<T, U, Slice> + Copy>(&mut self, loan: Named<Loan<T, U, Slice, S>>)
         requires { value_at self.old.calls.made.loans loan.number.value ≡ Some (record { port = loan.it.port; slot = loan.it.slot }) }
@@ -138,8 +138,8 @@ impl<
         self.history = History::told(&self.history, &number, &(), &());
     }
 
-    /// A loan is sent: the command `Send`. Its number is spent, also where the send waits or is refused. It is handed back, and the command
-    /// is skipped, where some value of it isn't written, or a send of its publisher waits.
+    /// Sends a loan: the command `Send`. Its number names nothing any longer, even if the send is blocked or refused. The loan is handed
+    /// back, and the command is skipped, if some value isn't written, or a send of its publisher is blocked.
     ///
     /// Refused as the machine refuses it.
     /// Example: `let sent = hub.send(alloc, sample).ok()?;`
@@ -172,7 +172,7 @@ impl<
     }
 }
 
-// A publisher lends so many values to be written, if it may lend.
+// Loans so many values of a publisher to be written, if it may loan.
 fn lend_uninit_if<T: Copy, U: Copy, H: Home<T, U>>(
     home: &mut H,
     alloc: Global,
@@ -191,7 +191,7 @@ fn lend_uninit_if<T: Copy, U: Copy, H: Home<T, U>>(
     Some(publisher.loan_slice_uninit(alloc, home, len))
 }
 
-// A publisher lends so many defaults, if it may lend.
+// Loans so many default values of a publisher, if it may loan.
 fn lend_if<T: Copy + Default, U: Copy, H: Home<T, U>>(
     home: &mut H,
     alloc: Global,
@@ -213,7 +213,7 @@ fn lend_if<T: Copy + Default, U: Copy, H: Home<T, U>>(
     Some(publisher.loan_slice(alloc, home, len))
 }
 
-// All values of a loan are written, if it has as many; it is told whether it is written so.
+// Writes all values of a loan, if it has as many; returns whether it is written so.
 fn write_all<T: Copy, U: Copy, H: Home<T, U>>(
     home: &mut H,
     loan: slice::SampleMutUninit<T, U>,
@@ -242,7 +242,7 @@ fn is_written_with<T: Copy, U: Copy, H: Home<T, U>>(
     sample.holds(home) && sample.payload(home).len() == count
 }
 
-// The history that its caller says, where a publisher of this number was asked for a loan of so many values.
+// The history that its caller states, if a publisher with this number was asked for a loan of so many values.
 fn told_lent<T: Words + ZeroCopySend + Default, U: Copy + ZeroCopySend + Default, S>(
     history: &History<T>,
     number: &Number,
@@ -255,7 +255,7 @@ fn told_lent<T: Words + ZeroCopySend + Default, U: Copy + ZeroCopySend + Default
     History::told(history, number, &(), &())
 }
 
-// The history, where a loan of this number was to be filled with these values.
+// The history, if a loan with this number was to be filled with these values.
 fn told_filled<T: Words + ZeroCopySend + Default>(
     history: &History<T>,
     number: &Number,
@@ -270,7 +270,7 @@ fn told_filled<T: Words + ZeroCopySend + Default>(
     History::told(history, number, &filled, &())
 }
 
-// A loan is sent if it is written, and no send of its publisher waits; else it is handed back.
+// Sends a loan if it is written, and no send of its publisher is blocked; otherwise hands it back.
 fn send_if<T: Copy, U: Copy, H: Home<T, U>>(
     home: &mut H,
     alloc: Global,

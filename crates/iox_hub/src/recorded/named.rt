@@ -1,11 +1,11 @@
-//! Ports, factories, loans and samples with the numbers by which the machine has them.
+//! Ports, factories, loans and samples with their numbers in the machine.
 ghost use Rattle.std.specs.Prelude.{ℕ, ◌≡◌};
 
 use std::marker::Model;
 
 /// A number that only proofs read. It takes no memory.
 ///
-/// This port's own.
+/// Not in `iceoryx2`.
 #[derive(Drop)]
 pub struct Number {
     pub ghost value: { ℕ },
@@ -18,7 +18,7 @@ impl Model for Number {
 }
 
 impl Number {
-    // The number that its caller says, from what is at hand.
+    // The number that its caller states, from the values at hand.
     pub(crate) fn given<A>(_from: &A) -> Number
         ghost value: { ℕ }
         ensures { result.value ≡ value }
@@ -27,13 +27,13 @@ impl Number {
     }
 }
 
-/// A port, a factory, a loan or a sample of a recorded hub, and its number there, which only proofs read.
+/// A port, a factory, a loan or a sample of a recorded hub, with its number there, which only proofs read.
 ///
-/// This port's own.
+/// Not in `iceoryx2`.
 #[derive(Drop)]
 pub struct Named<S> {
-    /// What it is.
+    /// The value itself.
     pub it: S,
-    /// By which number commands name it.
+    /// The number by which commands name it.
     pub number: Number,
 }

@@ -1,4 +1,4 @@
-//! A hub that records what is asked of it, and what it answers, for proofs alone.
+//! A hub that records what it is asked and what it answers, for proofs alone.
 ghost use Rattle.std.specs.Prelude.{◌≡◌, ◌+◌, ◌<◌, ◌^◌, ◌++◌, ◌∷◌, [], true, false, Some, IfSome, IfOk, IfErr, IsOkAnd, IsSome};
 ghost use Rattle.std.specs.Prelude.{MatchOption, MatchResult, Ok, length};
 ghost use Rattle.std.specs.List.{AllByRecursion};
@@ -65,11 +65,11 @@ use iox_queues_base::Words;
 use std::alloc::Global;
 use std::marker::Model;
 
-/// A hub of slices, whose proofs know what was asked of it, in the words of commands, and what it answered.
+/// A hub of slices whose proofs know what it was asked, as commands, and what it answered.
 ///
-/// Each call says which command it is, and what it is answered: one that can't be made is told as a command that is skipped. That these are
-/// a run of the machine says `answers_as_machine`. At run time it is a hub, and whether all that was received fits in a vector. This port's
-/// own.
+/// Each call says which command it is, and what its answer is; a call that can't be made is recorded as a command that is skipped.
+/// `answers_as_machine` says that commands and answers are a run of the machine. At run time it is a hub, and a flag whether all that was
+/// received fits in a vector. Not in `iceoryx2`.
 #[derive(Drop)]
 pub struct RecordedHub<
     T: Words + ZeroCopySend + Default,
@@ -79,7 +79,7 @@ pub struct RecordedHub<
 > {
     pub(crate) hub: Hub<T, U, B, D>,
     pub(crate) history: History<T>,
-    // Whether it is known that each message that was received fits in a vector.
+    // Whether it is known that each received message fits in a vector.
     fit: bool,
 }
 
@@ -113,7 +113,7 @@ impl<
     B: PublisherHandlers,
     D: SubscriberHandler,
 > RecordedHub<T, U, B, D> {
-    /// A hub without nodes and services, of which nothing was asked. It takes no memory.
+    /// A hub without nodes and services, which wasn't asked anything yet. It takes no memory.
     /// Example: `let mut hub = RecordedHub::<u64, ()>::new(alloc, config);`
     pub fn new(alloc: Global, config: HubConfig) -> Self
         ensures begun { result.calls ≡ record {
@@ -133,7 +133,7 @@ impl<
         }
     }
 
-    /// Nothing happens. What was asked and answered is a run of a new machine, by the premises in the definition.
+    /// Does nothing. Its contract says that what was asked and answered is a run of a new machine, under the premises in the definition.
     /// Example: `hub.answers_as_machine();`
     pub fn answers_as_machine(&self)
         ensures answers { AreFollowed B.fixed (λ handlers. B.degrades handlers) (λ handlers. B.decides handlers) D.fixed
@@ -144,8 +144,7 @@ impl<
         let _ = &self.hub;
     }
 
-    /// Whether it is known that each message that was received fits in a vector, one of the premises. By `AreFollowed` it is: a slice of
-    /// 2^63 values or more was never received, and each sample that came was held then.
+    /// Whether it is known that each received message fits in a vector, which is one of the premises. Under `AreFollowed` it is known.
     /// Example: `let is_known = hub.received_fit();`
     pub fn received_fit(&self) -> bool
         ensures fit { result ≡ true → AllByRecursion (λ values. length values < 2 ^ 63) self.now.calls.received }
@@ -155,7 +154,7 @@ impl<
         self.fit
     }
 
-    /// One more node: the command `Node`. It is always made.
+    /// Makes one more node: the command `Node`. It never fails.
     /// Example: `let Ok(node) = hub.new_node() else { return None; };`
     pub fn new_node(&mut self) -> Result<NodeHandle, HubError>
         ensures node { IsOkAnd result (λ node. self.new.calls ≡ asked_too command.Node (reply.NodeMade node.number) self.old.calls) }
@@ -168,9 +167,9 @@ impl<
         answer
     }
 
-    /// A node creates the service of a name, as the options ask, with these attributes: the command `Create`, with no steps of nodes
-    /// outside the hub. The node is one of this hub. None, and the command is skipped, where none of its number was made. What is agreed of
-    /// the service is just what is asked. The others keep their numbers.
+    /// A node of this hub creates the service of a name, as the options ask, with these attributes: the command `Create`, without actions
+    /// of other nodes. None, and the command is skipped, if no node of its number was made. The service's agreement is exactly what is
+    /// asked. The other factories keep their numbers.
     ///
     /// Refused as the machine refuses it.
     /// Example: `let Some(Ok(service)) = hub.create(alloc, &node, name, &options, &AttributeSpecifier::new()) else { return None; };`
@@ -209,9 +208,9 @@ impl<
         calls::with_number(answer, number)
     }
 
-    /// A node opens the service of a name that stands, if it is as the options ask: the command `Open`, with no steps of nodes outside the
-    /// hub. The node is one of this hub. None, and the command is skipped, where none of its number was made. What is agreed of the service
-    /// meets what is asked. The others keep their numbers.
+    /// A node of this hub opens the existing service of a name, if it is as the options ask: the command `Open`, without actions of other
+    /// nodes. None, and the command is skipped, if no node of its number was made. The service's agreement meets what is asked. The other
+    /// factories keep their numbers.
     ///
     /// Refused as the machine refuses it.
     /// Example: `let Some(Ok(service)) = hub.open(alloc, &node, name, &options, AttributeVerifier::new()) else { return None; };`
@@ -259,9 +258,9 @@ impl<
         calls::with_number(answer, number)
     }
 
-    /// A node opens the service of a name, as the options ask, or creates it where none stands: the command `OpenOrCreate`, with no steps
-    /// of nodes outside the hub. The node is one of this hub. None, and the command is skipped, where none of its number was made. What is
-    /// agreed of the service meets what is asked, or is just that. The others keep their numbers.
+    /// A node of this hub opens the service of a name, as the options ask, or creates it if it doesn't exist: the command `OpenOrCreate`,
+    /// without actions of other nodes. None, and the command is skipped, if no node of its number was made. The service's agreement meets
+    /// what is asked, or is exactly that. The other factories keep their numbers.
     ///
     /// Refused as the machine refuses it.
     /// Example: `let Some(Ok(service)) = hub.open_or_create(alloc, &node, name, &options, AttributeVerifier::new()) else { return None; };`
@@ -304,8 +303,8 @@ impl<
         calls::with_number(answer, number)
     }
 
-    /// A factory is closed: the command `Close`. It is spent, also where something is left behind; while it is in use it is handed back. It
-    /// is one of this hub.
+    /// Closes a factory of this hub: the command `Close`. The factory is spent, even if its description or segment couldn't be removed;
+    /// while it is in use it is handed back.
     ///
     /// Refused as the machine refuses it.
     /// Example: `let refused = hub.close(service).err();`
@@ -335,8 +334,8 @@ impl<
         services::closed_with_number(closed, number)
     }
 
-    /// Nodes outside the hub do steps on the service of a pattern and a name, one after the other: the command `Foreign`. It is refused at
-    /// the first step that finds no memory; those before it stay done.
+    /// Does actions of other nodes on the service of a pattern and a name, one after the other: the command `Foreign`. It is refused at the
+    /// first action that runs out of memory; those before it stay done.
     /// Example: `let done = hub.foreign(alloc, MessagingPattern::PublishSubscribe, name, &[ForeignStep::Lock(1)]);`
     pub fn foreign(
         &mut self,
@@ -354,8 +353,8 @@ impl<
         answer
     }
 
-    /// A publisher of a service comes, as the options ask: the command `Publisher`. None, and the command is skipped, where the service
-    /// isn't here. The others keep their numbers.
+    /// Creates a publisher of a service, as the options ask: the command `Publisher`. None, and the command is skipped, if the service's
+    /// domain isn't in the hub. The others keep their numbers.
     ///
     /// Refused as the machine refuses it.
     /// Example: `let Some(Ok(publisher)) = hub.publisher(alloc, &service, &options) else { return None; };`
@@ -404,8 +403,8 @@ impl<
         calls::with_number(calls::publisher_of(domain, options, answer), number)
     }
 
-    /// A subscriber of a service comes, as the options ask: the command `Subscriber`. None, and the command is skipped, where the service
-    /// isn't here. The others keep their numbers.
+    /// Creates a subscriber of a service, as the options ask: the command `Subscriber`. None, and the command is skipped, if the service's
+    /// domain isn't in the hub. The others keep their numbers.
     ///
     /// Refused as the machine refuses it.
     /// Example: `let Some(Ok(subscriber)) = hub.subscriber(alloc, &service, &options) else { return None; };`
@@ -451,8 +450,8 @@ impl<
         )
     }
 
-    /// A publisher lends slots for these values, writes and sends them: the command `Put`. None, and the command is skipped, where the
-    /// publisher doesn't stand, or a send of it waits.
+    /// Loans a slot of a publisher for these values, writes and sends them: the command `Put`. None, and the command is skipped, if the
+    /// publisher isn't open, or a send of it is blocked.
     ///
     /// Refused as the machine refuses it.
     /// Example: `let sent = hub.send_slice(alloc, &publisher, &[7, 8])?;`
@@ -477,8 +476,8 @@ impl<
         answer
     }
 
-    /// A send of a publisher that waits is tried again: the command `Retry`. It is handed back, and the command is skipped, where none
-    /// waits.
+    /// Tries a blocked send of a publisher again: the command `Retry`. It is handed back, and the command is skipped, if no send is
+    /// blocked.
     ///
     /// Refused as the machine refuses it.
     /// Example: `let sent = hub.retry(&publisher, blocked, 1_000)?;`
@@ -506,8 +505,8 @@ impl<
         answer
     }
 
-    /// A send of a publisher that waits is given up: the command `GiveUp`. The answer is to how many it went; None, and the command is
-    /// skipped, where none waits.
+    /// Gives up a blocked send of a publisher: the command `GiveUp`. Returns how many mailboxes took the message; None, and the command is
+    /// skipped, if no send is blocked.
     /// Example: `let delivered = hub.give_up(&publisher, blocked)?;`
     pub fn give_up(
         &mut self,
@@ -527,8 +526,8 @@ impl<
         answer
     }
 
-    /// A publisher follows the list of subscribers: the command `Update`. None, and the command is skipped, where the publisher doesn't
-    /// stand, or a send of it waits.
+    /// Updates the connections of a publisher: the command `Update`. None, and the command is skipped, if the publisher isn't open, or a
+    /// send of it is blocked.
     ///
     /// Refused as the machine refuses it.
     /// Example: `let Some(Ok(())) = hub.update_publisher(alloc, &publisher) else { return None; };`
@@ -549,8 +548,8 @@ impl<
         answer
     }
 
-    /// A subscriber follows the list of publishers: the command `Update`. None, and the command is skipped, where the subscriber doesn't
-    /// stand: never by `AreFollowed`.
+    /// Updates the connections of a subscriber: the command `Update`. None, and the command is skipped, if the subscriber isn't open, which
+    /// `AreFollowed` excludes.
     ///
     /// Refused as the machine refuses it.
     /// Example: `let Some(Ok(())) = hub.update_subscriber(alloc, &subscriber) else { return None; };`
@@ -573,8 +572,8 @@ impl<
         answer
     }
 
-    /// Whether messages wait for a subscriber, which follows the list of publishers first: the command `Has`. None, and the command is
-    /// skipped, where the subscriber doesn't stand: never by `AreFollowed`.
+    /// Whether messages wait for a subscriber, after an update of its connections: the command `Has`. None, and the command is skipped, if
+    /// the subscriber isn't open, which `AreFollowed` excludes.
     ///
     /// Refused as the machine refuses it.
     /// Example: `let Some(Ok(has)) = hub.has_samples(alloc, &subscriber) else { return None; };`
@@ -597,8 +596,8 @@ impl<
         answer
     }
 
-    /// A subscriber receives the next message, if one waits: the command `Receive`. None, and the command is skipped, where the subscriber
-    /// doesn't stand: never by `AreFollowed`. Other samples keep their numbers.
+    /// Receives the next message of a subscriber, if one waits: the command `Receive`. None, and the command is skipped, if the subscriber
+    /// isn't open, which `AreFollowed` excludes. Other samples keep their numbers.
     ///
     /// Refused as the machine refuses it.
     /// Example: `let Some(Ok(Some(sample))) = hub.receive(alloc, &subscriber) else { return None; };`
@@ -627,9 +626,9 @@ impl<
         calls::received_with_number(answer, number)
     }
 
-    /// The values of a sample that is held: what the command `Read` is answered. They were put before, or sent as a loan, by a publisher of
-    /// the subscriber's own service, and that send began. None where the sample isn't held: never by `AreFollowed`, whatever ports left.
-    /// No call is recorded.
+    /// The values of a sample that is held: the answer to the command `Read`. They were put before, or sent as a loan, by a publisher of
+    /// the subscriber's own service, and that send began. None if the sample isn't held, which `AreFollowed` excludes, whichever ports were
+    /// closed. No call is recorded.
     /// Example: `let values = hub.payload(&sample)?;`
     pub fn payload(&self, sample: &Named<slice::Sample<T, U>>) -> Option<&[T]>
         requires { value_at self.now.calls.made.samples sample.now.number.value
@@ -664,8 +663,8 @@ impl<
         Some(sample.it.payload(&self.hub))
     }
 
-    /// The sequence number of the message of a sample that is held, if messages have any: what the command `Sequence` is answered. None
-    /// where the sample isn't held: never by `AreFollowed`, whatever ports left. No call is recorded.
+    /// The sequence number of the message of a sample that is held, if its service numbers messages: the answer to the command `Sequence`.
+    /// None if the sample isn't held, which `AreFollowed` excludes, whichever ports were closed. No call is recorded.
     /// Example: `let number = hub.sequence(&sample)?;`
     pub fn sequence(&self, sample: &Named<slice::Sample<T, U>>) -> Option<Option<u64>>
         requires { value_at self.now.calls.made.samples sample.now.number.value
@@ -688,8 +687,8 @@ impl<
         Some(sample.it.header(&self.hub).sequence)
     }
 
-    /// A sample is released: the command `Release`. It is told as done, and its number is spent. The answer is whether it was held: it was,
-    /// by `AreFollowed`, whatever ports left.
+    /// Releases a sample: the command `Release`. The command is recorded as done, and the sample's number names nothing any longer. Returns
+    /// whether the sample was held; it was, under `AreFollowed`, whichever ports were closed.
     /// Example: `hub.release(sample);`
     pub fn release(&mut self, sample: Named<slice::Sample<T, U>>) -> bool
         requires { value_at self.old.calls.made.samples sample.number.value
@@ -710,7 +709,7 @@ impl<
         was_held
     }
 
-    /// A subscriber leaves: the command `Leave`. It is handed back where it doesn't stand.
+    /// Closes a subscriber: the command `Leave`. It is handed back if it isn't open.
     /// Example: `let stays = hub.end_subscriber(subscriber).err();`
     pub fn end_subscriber(
         &mut self,
@@ -735,7 +734,7 @@ impl<
         calls::back_with_number(left, number)
     }
 
-    /// A publisher leaves: the command `Leave`. It is handed back where it doesn't stand, or a send of it waits.
+    /// Closes a publisher: the command `Leave`. It is handed back if it isn't open, or a send of it is blocked.
     /// Example: `let stays = hub.end_publisher(publisher).err();`
     pub fn end_publisher(
         &mut self,

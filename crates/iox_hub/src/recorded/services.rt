@@ -139,7 +139,7 @@ fn creates_as_asked<
     builder.create_with_attributes_in(alloc, attributes, hub, Vec::new(alloc))
 }
 
-// A node of a hub opens a service, if that node was made; and the history then.
+// A node of a hub opens a service, if that node was made; with the history afterwards.
 pub(crate) fn opened<
     T: Words + ZeroCopySend + Default,
     U: Copy + ZeroCopySend + Default,
@@ -251,7 +251,7 @@ fn opens_as_asked<P: Negotiated, T: Words + ZeroCopySend, U: Copy + ZeroCopySend
     builder.open_with_attributes_in(alloc, attributes, hub, Vec::new(alloc))
 }
 
-// A node of a hub opens a service, or creates it, if that node was made; and the history then.
+// A node of a hub opens a service, or creates it, if that node was made; with the history afterwards.
 pub(crate) fn opened_or_created<
     T: Words + ZeroCopySend + Default,
     U: Copy + ZeroCopySend + Default,
@@ -376,7 +376,7 @@ fn opens_or_creates_as_asked<
     builder.open_or_create_with_attributes_in(alloc, attributes, hub, Vec::new(alloc))
 }
 
-// The description of a factory is one, whoever agreed on it.
+// The description of a factory has the form of one, whoever made it.
 pub(crate) fn shows_form<E>(answer: &Result<PortFactory<PublishSubscribe>, E>)
     ensures { IfOk answer.now (λ factory. HasForm factory.service.membership.service.description) }
 {
@@ -385,7 +385,7 @@ pub(crate) fn shows_form<E>(answer: &Result<PortFactory<PublishSubscribe>, E>)
     }
 }
 
-// The history, where nodes outside the hub were to do these steps.
+// The history, if other nodes were to do these actions.
 pub(crate) fn told_foreign<T>(
     history: &History<T>,
     pattern: MessagingPattern,
@@ -401,7 +401,7 @@ pub(crate) fn told_foreign<T>(
     History::told(history, &(pattern, name), answer, &())
 }
 
-// A factory that is handed back, with the number by which it goes.
+// A factory that is handed back, with its number.
 pub(crate) fn closed_with_number(
     closed: Result<(), NotClosed<PublishSubscribe>>,
     number: Number,

@@ -1,4 +1,4 @@
-//! Loans and samples that come where there may be no room for one more.
+//! Loans and receives that first make capacity for one more number.
 ghost use Rattle.iox_domain.specs.Homes as homes;
 ghost use Rattle.std.specs.Prelude.{◌≡◌, ◌<◌, ◌+◌, ◌^◌, length, OnOk, OnErr, None, Ok};
 ghost use Rattle.iox_container.specs.NumberTable.{value_at};
@@ -14,9 +14,9 @@ use iox_domain_values::{LoanError, ReceiveError};
 use std::alloc::{AllocError, Global};
 
 impl Made {
-    /// As `loan_uninit`, and room is made first for one more loan, if there is none. Fails only where an allocation fails for
-    /// that; then nothing has changed. It answers None, whatever memory there is, where no publisher goes by the number, and where its
-    /// messages are single values and not one element is asked for.
+    /// Like `loan_uninit`, but first makes capacity for one more loan, if there is none. Fails only if an allocation fails for that; then
+    /// nothing has changed. Whatever memory there is, the answer is None if the number has no publisher, or if the publisher's messages are
+    /// single values and not one element is asked for.
     ///
     /// Example: `let lent = made.loan_uninit_growing(alloc, &mut home, publisher, 4)?;`
     #[tactic(auto, using(crate::proofs::Skipping::skips_loan_uninit))]
@@ -40,8 +40,8 @@ impl Made {
         Ok(self.loan_uninit(alloc, home, publisher, elements))
     }
 
-    /// As `loan`, and room is made first for one more loan, if there is none. Fails only where an allocation fails for that; then
-    /// nothing has changed. It answers None where `loan` does, whatever memory there is.
+    /// Like `loan`, but first makes capacity for one more loan, if there is none. Fails only if an allocation fails for that; then nothing
+    /// has changed. The answer is None if that of `loan` is, whatever memory there is.
     ///
     /// Example: `let lent = made.loan_growing(alloc, &mut home, publisher, 4, 0)?;`
     #[tactic(auto, using(crate::proofs::Skipping::skips_loan))]
@@ -68,9 +68,8 @@ impl Made {
         Ok(self.loan(alloc, home, publisher, elements, value))
     }
 
-    /// As `receive`, and room is made first for one more sample, if there is none. Fails only where an allocation fails for that;
-    /// then nothing has changed, and what waits is there still. It answers None, whatever memory there is, where no subscriber goes by
-    /// the number.
+    /// Like `receive`, but first makes capacity for one more sample, if there is none. Fails only if an allocation fails for that; then
+    /// nothing has changed, and what waited still waits. Whatever memory there is, the answer is None if the number has no subscriber.
     ///
     /// Example: `let received = made.receive_growing(alloc, &mut home, subscriber)?;`
     #[tactic(auto, using(crate::proofs::Skipping::skips_receive))]
@@ -95,7 +94,7 @@ impl Made {
     }
 }
 
-// Makes room for one value more, if there is none.
+// Makes capacity for one value more, if there is none.
 pub(crate) fn room_for_one<V>(numbers: &mut Numbered<V>) -> Result<(), AllocError>
     ensures same { SameNumbers numbers.old numbers.new }
     ensures room { OnOk result (length numbers.new.entries < numbers.new.room) }

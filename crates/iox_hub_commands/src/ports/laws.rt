@@ -1,4 +1,4 @@
-//! Laws of the calls by number, in other words than their steps. They are the contracts of functions that do nothing.
+//! Theorems about the calls by number: consequences of their steps. Each is the contract of a function that does nothing.
 ghost use Rattle.iox_domain.specs.Homes as homes;
 ghost use Rattle.iox_hub_commands.specs.Laws.{MisfitChangesNothing, AnswersWhereReady};
 
@@ -9,8 +9,8 @@ pub fn misfit_changes_nothing<T: Copy, U: Copy, H: Home<T, U>>()
     ensures { MisfitChangesNothing (homes.ports_of H.domain_of) (homes.with_ports H.changed) }
 {}
 
-/// `loan_uninit` answers or refuses just where `loan` does: where the publisher's domain is here, it didn't leave, and no send of
-/// it waits. Else both answer None, as `put` does.
+/// `loan_uninit` answers or refuses exactly if `loan` does: if the publisher's domain is in the home, it is open, and no send of it is
+/// blocked. Otherwise both answer None, as `put` does.
 pub fn answers_where_ready<T: Copy, U: Copy, H: Home<T, U>>()
     ensures { AnswersWhereReady (homes.ports_of H.domain_of) (homes.with_ports H.changed) }
 {}

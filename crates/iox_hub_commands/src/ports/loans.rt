@@ -1,4 +1,4 @@
-//! What is written into a loan; it is given up, or sent.
+//! How loans are written, dropped and sent.
 ghost use Rattle.iox_domain.specs.Homes as homes;
 ghost use Rattle.std.specs.Prelude.{◌≡◌, is_some, if◌then◌else◌};
 ghost use Rattle.iox_delivery.specs.Domain.Lending.{gave_up_in};
@@ -15,8 +15,8 @@ use iox_domain_values::SendError;
 use std::alloc::Global;
 
 impl Made {
-    /// Writes one value of a loan that is written, at this place, counted from 0. Answers false, and nothing happens, where no loan goes
-    /// by the number, where some value of it isn't written yet, where it has no such place, or where its domain isn't here.
+    /// Writes one value of a written loan, at this place, counted from 0. Answers false, and nothing happens, if the number has no loan, if
+    /// some value of the loan isn't written yet, if the loan has no such place, or if its domain isn't in the home.
     pub fn set<T: Copy, U: Copy, H: Home<T, U>>(
         &self,
         home: &mut H,
@@ -45,8 +45,8 @@ impl Made {
         true
     }
 
-    /// Writes all values of a loan. Answers false, and nothing happens, where no loan goes by the number, where it has another number of
-    /// values, or where its domain isn't here.
+    /// Writes all values of a loan. Answers false, and nothing happens, if the number has no loan, if the loan has another number of
+    /// values, or if its domain isn't in the home.
     pub fn fill<T: Copy, U: Copy, H: Home<T, U>>(
         &self,
         home: &mut H,
@@ -66,8 +66,8 @@ impl Made {
         }
     }
 
-    /// Gives a loan up, and its number is spent. Answers false, and nothing happens, where no loan goes by the number, or where its
-    /// domain isn't here.
+    /// Drops a loan, and its number names nothing any longer. Answers false, and nothing happens, if the number has no loan, or if the
+    /// loan's domain isn't in the home.
     pub fn drop_loan<T: Copy, U: Copy, H: Home<T, U>>(&mut self, home: &mut H, loan: u64) -> bool
         ensures answer { result ≡ is_some (loan_under (homes.ports_of H.domain_of) (value_at self.old.loans loan) home.old) }
         ensures home { home.new ≡ (if result then changed_under (homes.ports_of H.domain_of) (homes.with_ports H.changed) gave_up_in
@@ -85,9 +85,9 @@ impl Made {
         true
     }
 
-    /// Sends a loan, whose number is spent, also where the send waits or is refused. None, and nothing happens, where no loan goes by the
-    /// number, where some value of it isn't written yet, where a send of its publisher waits, or where its domain isn't here. Refused as
-    /// `calls::send` refuses it.
+    /// Sends a loan, whose number names nothing any longer, even if the send is blocked or refused. None, and nothing happens, if the
+    /// number has no loan, if some value of the loan isn't written yet, if a send of its publisher is blocked, or if its domain isn't in
+    /// the home. Refused as `calls::send` refuses it.
     pub fn send<T: Copy, U: Copy, H: Home<T, U>>(
         &mut self,
         alloc: Global,

@@ -1,4 +1,4 @@
-//! The tables: which port, loan or sample goes by a number.
+//! The tables: which port, loan or sample has a number.
 ghost use Rattle.iox_domain.specs.Homes as homes;
 ghost use Rattle.std.specs.Prelude.{◌≡◌, true, false, IfSome};
 ghost use Rattle.iox_delivery.specs.Holding.{publisher_stands, publisher_blocked};
@@ -15,40 +15,40 @@ use std::alloc::Global;
 /// A publisher, and whether its messages are slices.
 #[derive(Clone, Copy)]
 pub struct MadePublisher {
-    /// Which port it is.
+    /// The port's id.
     pub port: PortId,
-    /// Whether its messages are slices: else each is one value.
+    /// Whether its messages are slices; otherwise each is one value.
     pub holds_slices: bool,
 }
 
 /// A loan that is out.
 #[derive(Clone, Copy)]
 pub struct MadeLoan {
-    /// Of which publisher.
+    /// The loan's publisher.
     pub port: PortId,
-    /// In which of its slots.
+    /// The slot of the publisher.
     pub slot: usize,
 }
 
 /// A sample that is held.
 #[derive(Clone, Copy)]
 pub struct MadeSample {
-    /// By which subscriber.
+    /// The sample's subscriber.
     pub port: PortId,
-    /// Which of its samples.
+    /// Which of the subscriber's samples it is.
     pub taken: Taken,
 }
 
-/// The ports, loans and samples that a run of commands made, each kind under numbers that are counted from 1. A number is spent when what
-/// goes by it ends: the port leaves, the loan is sent or given up, the sample is released.
+/// The ports, loans and samples that a run of commands made, each kind by numbers that are counted from 1. A number names nothing any
+/// longer once its port is closed, its loan is sent or dropped, or its sample is released.
 ///
-/// Each call is handed a home, which holds the domains. Each answers None or false, and nothing happens, where a
-/// number stands for nothing. This port's own.
+/// Each call is handed a home, which contains the domains. Each answers None or false, and nothing happens, if a number names nothing. This
+/// port's own.
 #[derive(Drop)]
 pub struct Made {
-    /// The publishers that didn't leave.
+    /// The open publishers.
     pub publishers: Numbered<MadePublisher>,
-    /// The subscribers that didn't leave.
+    /// The open subscribers.
     pub subscribers: Numbered<PortId>,
     /// The loans that are out.
     pub loans: Numbered<MadeLoan>,
@@ -57,7 +57,7 @@ pub struct Made {
 }
 
 impl Made {
-    /// Nothing was made yet. It takes no memory.
+    /// Tables in which nothing was made yet. It takes no memory.
     pub fn new(alloc: Global) -> Self
         ensures { IsEmpty result }
     {
@@ -69,7 +69,7 @@ impl Made {
         }
     }
 
-    /// Which port goes by a publisher's number.
+    /// The port of the publisher with this number.
     pub fn publisher(&self, publisher: u64) -> Option<PortId>
         ensures { result ≡ port_under (value_at self.now.publishers publisher) }
     {
@@ -79,14 +79,14 @@ impl Made {
         }
     }
 
-    /// Which port goes by a subscriber's number.
+    /// The port of the subscriber with this number.
     pub fn subscriber(&self, subscriber: u64) -> Option<PortId>
         ensures { result ≡ value_at self.now.subscribers subscriber }
     {
         self.subscribers.get(subscriber).copied()
     }
 
-    /// Which port goes by a publisher's number, if its messages may have so many elements: where they aren't slices, they have one.
+    /// The port of the publisher with this number, if its messages may have so many elements; messages that aren't slices have one.
     pub fn lender(&self, publisher: u64, elements: u64) -> Option<PortId>
         ensures { result ≡ lender elements (value_at self.now.publishers publisher) }
     {
@@ -102,7 +102,7 @@ impl Made {
         }
     }
 
-    // The same, if that publisher may lend: its domain is here, it didn't leave, and no send of it waits.
+    // The port of the publisher, if it may also loan: its domain is in the home, it is open, and no send of it is blocked.
     pub(crate) fn ready_lender<T: Copy, U: Copy, H: Home<T, U>>(
         &self,
         home: &H,

@@ -1,4 +1,4 @@
-//! Ports come, and get numbers.
+//! How ports are created, and get numbers.
 ghost use Rattle.iox_domain.specs.Homes as homes;
 ghost use Rattle.std.specs.Prelude.{◌≡◌, ◌<◌, ◌+◌, ◌^◌, length, Err, option_map};
 ghost use Rattle.iox_delivery.specs.Domain.AtHomes.{MakesAt};
@@ -14,25 +14,26 @@ use iox_domain::{DomainId, Home, calls};
 use iox_domain_values::{Overrides, PublisherCreateError, SubscriberCreateError};
 use std::alloc::Global;
 
-/// What a publisher is made with.
+/// What a publisher is created with.
 #[derive(Drop)]
 pub struct PublisherParts<'a, U, B, O> {
-    /// What it is to have.
+    /// The configuration of the publisher.
     pub config: PublisherConfig,
-    /// The user header of a loan at first.
+    /// The user header with which each loan starts.
     pub user_header: U,
-    /// Who decides how many slots it gets.
+    /// What says how many slots the publisher gets.
     pub overriding: &'a O,
-    /// Who decides for it.
+    /// The handlers of the publisher.
     pub handlers: B,
-    /// Whether its messages are slices: else each is one value.
+    /// Whether its messages are slices; otherwise each is one value.
     pub holds_slices: bool,
 }
 
 impl Made {
-    /// A publisher comes to a domain, and the answer is its number here. It takes no memory for that: there must be room for one more.
+    /// Creates a publisher in a domain, and answers its number in this table. It takes no memory for the number: there must be capacity for
+    /// one more.
     ///
-    /// None, and nothing happens, where the domain isn't here. Refused as `calls::create_publisher` refuses it.
+    /// None, and nothing happens, if the domain isn't in the home. Refused as `calls::create_publisher` refuses it.
     pub fn create_publisher<T: Copy, U: Copy, O: Overrides, H: Home<T, U>>(
         &mut self,
         alloc: Global,
@@ -75,9 +76,10 @@ impl Made {
         }
     }
 
-    /// A subscriber comes to a domain, and the answer is its number here. It takes no memory for that: there must be room for one more.
+    /// Creates a subscriber in a domain, and answers its number in this table. It takes no memory for the number: there must be capacity
+    /// for one more.
     ///
-    /// None, and nothing happens, where the domain isn't here. Refused as `calls::create_subscriber` refuses it.
+    /// None, and nothing happens, if the domain isn't in the home. Refused as `calls::create_subscriber` refuses it.
     pub fn create_subscriber<T: Copy, U: Copy, H: Home<T, U>>(
         &mut self,
         alloc: Global,
@@ -100,10 +102,11 @@ impl Made {
         }
     }
 
-    /// As `create_publisher`, and room is made first for one more, if there is none: nothing else changes where the publisher doesn't come.
+    /// Like `create_publisher`, but first makes capacity for one more, if there is none. If the publisher isn't created nothing else
+    /// changes.
     ///
-    /// None, and only room may have grown, where the domain isn't here. Refused as `create_publisher` is, also where an allocation fails
-    /// for that room: with `ExceedsMaxSupportedPublishers` if no place is free, else with `UnableToCreateDataSegment`.
+    /// None, and only capacity may have grown, if the domain isn't in the home. Refused as `create_publisher` is, and if an allocation
+    /// fails for that capacity: with `ExceedsMaxSupportedPublishers` if no place is free, otherwise with `UnableToCreateDataSegment`.
     pub fn make_publisher<T: Copy, U: Copy, O: Overrides, H: Home<T, U>>(
         &mut self,
         alloc: Global,
@@ -125,12 +128,12 @@ impl Made {
         self.create_publisher(alloc, home, domain, parts)
     }
 
-    /// As `create_subscriber`, and room is made first for one more, if there is none: nothing else changes where the subscriber
-    /// doesn't come.
+    /// Like `create_subscriber`, but first makes capacity for one more, if there is none. If the subscriber isn't created nothing else
+    /// changes.
     ///
-    /// None, and only room may have grown, where the domain isn't here. Refused as `create_subscriber` is, also where an allocation fails
-    /// for that room: with `BufferSizeExceedsMaxSupportedBufferSizeOfService` if its buffer is larger than the service allows,
-    /// else with `ExceedsMaxSupportedSubscribers` if no place is free, else with `OutOfMemory`.
+    /// None, and only capacity may have grown, if the domain isn't in the home. Refused as `create_subscriber` is, and if an allocation
+    /// fails for that capacity: with `BufferSizeExceedsMaxSupportedBufferSizeOfService` if its buffer is larger than the service allows,
+    /// otherwise with `ExceedsMaxSupportedSubscribers` if no place is free, otherwise with `OutOfMemory`.
     pub fn make_subscriber<T: Copy, U: Copy, H: Home<T, U>>(
         &mut self,
         alloc: Global,
@@ -153,7 +156,7 @@ impl Made {
     }
 }
 
-// Why a publisher of this config doesn't come to a domain, if that is here.
+// Why a publisher with this configuration can't be created in a domain, if the domain is in the home.
 pub(crate) fn why_no_publisher<T: Copy, U: Copy, H: Home<T, U>>(
     home: &H,
     domain: DomainId,
@@ -165,7 +168,7 @@ pub(crate) fn why_no_publisher<T: Copy, U: Copy, H: Home<T, U>>(
     Some(Err(ports.publisher_refusal(config)))
 }
 
-// Why a subscriber of this config doesn't come to a domain, if that is here.
+// Why a subscriber with this configuration can't be created in a domain, if the domain is in the home.
 pub(crate) fn why_no_subscriber<T: Copy, U: Copy, H: Home<T, U>>(
     home: &H,
     domain: DomainId,

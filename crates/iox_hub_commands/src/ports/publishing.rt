@@ -1,4 +1,4 @@
-//! Publishers lend, put, wait, and leave.
+//! How publishers loan, put, retry, and are closed.
 ghost use Rattle.iox_domain.specs.Homes as homes;
 ghost use Rattle.std.specs.Prelude.{◌≡◌, ◌<◌, ◌+◌, ◌^◌, length};
 ghost use Rattle.iox_container.specs.NumberTable.{value_at};
@@ -14,11 +14,11 @@ use iox_domain_values::{ConnectionFailure, LoanError, SendError};
 use std::alloc::Global;
 
 impl Made {
-    /// A publisher lends a slot for so many elements, none of which is written; the answer is the loan's number. It takes no memory here:
-    /// there must be room for one more loan.
+    /// Loans a slot of a publisher for so many elements, none of which is written, and answers the loan's number. It takes no memory for
+    /// the number: there must be capacity for one more loan.
     ///
-    /// None, and nothing happens, where no publisher goes by the number, where its messages are single values and not one element is
-    /// asked for, where a send of it waits, or where its domain isn't here. Refused as `calls::loan` refuses it.
+    /// None, and nothing happens, if the number has no publisher, if the publisher's messages are single values and not one element is
+    /// asked for, if a send of it is blocked, or if its domain isn't in the home. Refused as `calls::loan` refuses it.
     pub fn loan_uninit<T: Copy, U: Copy, H: Home<T, U>>(
         &mut self,
         alloc: Global,
@@ -46,11 +46,11 @@ impl Made {
         }
     }
 
-    /// A publisher lends a slot for so many elements, each of which is written: this value. The answer is the loan's number, and
-    /// the loan may be sent at once. It takes no memory here: there must be room for one more loan.
+    /// Loans a slot of a publisher for so many elements, each written with this value, and answers the loan's number. The loan may be sent
+    /// at once. It takes no memory for the number: there must be capacity for one more loan.
     ///
-    /// None, and nothing happens, and refused as `loan_uninit` is: where no publisher goes by the number, where its messages are single
-    /// values and not one element is asked for, where a send of it waits, or where its domain isn't here.
+    /// None, and nothing happens, if the number has no publisher, if the publisher's messages are single values and not one element is
+    /// asked for, if a send of it is blocked, or if its domain isn't in the home. Refused as `loan_uninit` is.
     pub fn loan<T: Copy, U: Copy, H: Home<T, U>>(
         &mut self,
         alloc: Global,
@@ -72,11 +72,11 @@ impl Made {
         }
     }
 
-    /// A publisher lends as many values, writes them and sends them; the answer is what the send came to. No loan gets a number.
-    /// A loan that is refused is `SendError::LoanError`, and nothing is sent.
+    /// Loans a slot of a publisher for these values, writes and sends them, and answers what the send answers. No loan gets a number. A
+    /// loan that is refused is `SendError::LoanError`, and nothing is sent.
     ///
-    /// None, and nothing happens, where no publisher goes by the number, where its messages are single values and this isn't one, where a
-    /// send of it waits, or where its domain isn't here. Refused as `calls::send` refuses it.
+    /// None, and nothing happens, if the number has no publisher, if the publisher's messages are single values and this isn't one, if a
+    /// send of it is blocked, or if its domain isn't in the home. Refused as `calls::send` refuses it.
     pub fn put<T: Copy, U: Copy, H: Home<T, U>>(
         &self,
         alloc: Global,
@@ -94,8 +94,8 @@ impl Made {
         calls::put(home, alloc, port.domain, port.number, values)
     }
 
-    /// A publisher follows the list of subscribers. None, and nothing happens, where no publisher goes by the number, where a send of it
-    /// waits, or where its domain isn't here. Refused as `calls::update_publisher` refuses it.
+    /// Updates the connections of a publisher. None, and nothing happens, if the number has no publisher, if a send of it is blocked, or if
+    /// its domain isn't in the home. Refused as `calls::update_publisher` refuses it.
     pub fn update_publisher<T: Copy, U: Copy, H: Home<T, U>>(
         &self,
         alloc: Global,
@@ -110,8 +110,8 @@ impl Made {
         calls::update_publisher(home, alloc, port.domain, port.number)
     }
 
-    /// The send of a publisher that waits is tried again, after so many nanoseconds. None, and nothing happens, where no publisher goes by
-    /// the number, where no send of it waits, or where its domain isn't here. Refused as `calls::retry` refuses it.
+    /// Tries the blocked send of a publisher again, with so many nanoseconds elapsed. None, and nothing happens, if the number has no
+    /// publisher, if no send of it is blocked, or if its domain isn't in the home. Refused as `calls::retry` refuses it.
     pub fn retry<T: Copy, U: Copy, H: Home<T, U>>(
         &self,
         home: &mut H,
@@ -126,8 +126,8 @@ impl Made {
         calls::retry(home, port.domain, port.number, elapsed)
     }
 
-    /// The send of a publisher that waits ends; the answer is how many connections took its message. None, and nothing happens, where no
-    /// publisher goes by the number, where no send of it waits, or where its domain isn't here.
+    /// Gives up the blocked send of a publisher, and answers how many connections took its message. None, and nothing happens, if the
+    /// number has no publisher, if no send of it is blocked, or if its domain isn't in the home.
     pub fn give_up<T: Copy, U: Copy, H: Home<T, U>>(
         &self,
         home: &mut H,
@@ -140,8 +140,8 @@ impl Made {
         calls::ports_mut(home, port.domain)?.give_up(port.number)
     }
 
-    /// A publisher leaves, and its number is spent. Answers false, and nothing happens, where no publisher goes by the number, where a
-    /// send of it waits, or where its domain isn't here.
+    /// Closes a publisher, whose number names nothing any longer. Answers false, and nothing happens, if the number has no publisher, if a
+    /// send of it is blocked, or if its domain isn't in the home.
     pub fn leave_publisher<T: Copy, U: Copy, H: Home<T, U>>(
         &mut self,
         home: &mut H,

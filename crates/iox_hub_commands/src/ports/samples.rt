@@ -1,4 +1,4 @@
-//! A sample is read, and released, and the number of its message told.
+//! How samples are read and released, and their sequence numbers reported.
 ghost use Rattle.iox_domain.specs.Homes as homes;
 ghost use Rattle.std.specs.Prelude.{◌≡◌, option_copied};
 ghost use Rattle.iox_container.specs.NumberTable.{value_at};
@@ -11,7 +11,7 @@ use iox_delivery::subscribing;
 use iox_domain::{Home, calls};
 
 impl Made {
-    /// The values of a sample that is held. None where no sample goes by the number, or where its domain isn't here.
+    /// The values of a sample that is held. None if the number has no sample, or the sample's domain isn't in the home.
     pub fn read<'a, T: Copy, U: Copy, H: Home<T, U>>(
         &self,
         home: &'a H,
@@ -26,8 +26,8 @@ impl Made {
         calls::ports(home, held.port.domain)?.payload(held.taken)
     }
 
-    /// The sequence number of a sample's message, which is none where its service doesn't number messages. None where no sample goes by the
-    /// number, or where its domain isn't here.
+    /// The sequence number of a sample's message; the inner value is none if the service doesn't number messages. None if the number has no
+    /// sample, or the sample's domain isn't in the home.
     #[tactic(auto, using(crate::proofs::Sequences::header_sequence))]
     pub fn sequence<T: Copy, U: Copy, H: Home<T, U>>(
         &self,
@@ -41,8 +41,8 @@ impl Made {
         Some(ports.header(held.taken)?.sequence)
     }
 
-    /// A sample is released, and its number is spent. Answers false, and nothing happens, where no sample goes by the number, or where
-    /// its domain isn't here.
+    /// Releases a sample, whose number names nothing any longer. Answers false, and nothing happens, if the number has no sample, or the
+    /// sample's domain isn't in the home.
     pub fn release<T: Copy, U: Copy, H: Home<T, U>>(&mut self, home: &mut H, sample: u64) -> bool
         ensures answer { result ≡ is_held (homes.ports_of H.domain_of) (value_at self.old.samples sample) home.old }
         ensures home { ReleasesUnder (homes.ports_of H.domain_of) (homes.with_ports H.changed) (value_at self.old.samples sample)

@@ -1,4 +1,4 @@
-//! Subscribers follow, receive, and leave.
+//! How subscribers update, receive, and are closed.
 ghost use Rattle.iox_domain.specs.Homes as homes;
 ghost use Rattle.std.specs.Prelude.{◌≡◌, ◌<◌, ◌+◌, ◌^◌, length};
 ghost use Rattle.iox_container.specs.NumberTable.{value_at};
@@ -12,8 +12,8 @@ use iox_domain_values::{ConnectionFailure, ReceiveError};
 use std::alloc::Global;
 
 impl Made {
-    /// A subscriber follows the list of publishers. None, and nothing happens, where no subscriber goes by the number, or where its
-    /// domain isn't here. Refused as `calls::update_subscriber` refuses it.
+    /// Updates the connections of a subscriber. None, and nothing happens, if the number has no subscriber, or the subscriber's domain
+    /// isn't in the home. Refused as `calls::update_subscriber` refuses it.
     pub fn update_subscriber<T: Copy, U: Copy, H: Home<T, U>>(
         &self,
         alloc: Global,
@@ -28,8 +28,8 @@ impl Made {
         calls::update_subscriber(home, alloc, port.domain, port.number)
     }
 
-    /// Whether some connection of a subscriber has data, after an update. None, and nothing happens, where no subscriber goes by the
-    /// number, or where its domain isn't here. Refused as `calls::has_samples` refuses it.
+    /// Whether some connection of a subscriber has data, after an update. None, and nothing happens, if the number has no subscriber, or
+    /// the subscriber's domain isn't in the home. Refused as `calls::has_samples` refuses it.
     pub fn has_samples<T: Copy, U: Copy, H: Home<T, U>>(
         &self,
         alloc: Global,
@@ -44,11 +44,11 @@ impl Made {
         calls::has_samples(home, alloc, port.domain, port.number)
     }
 
-    /// A subscriber receives, after an update; the answer is the number of the sample that came, if one came. It takes no memory here:
-    /// there must be room for one more sample.
+    /// Receives by a subscriber, after an update, and answers the number of the received sample, if there is one. It takes no memory for
+    /// the number: there must be capacity for one more sample.
     ///
-    /// None, and nothing happens, where no subscriber goes by the number, or where its domain isn't here. Refused as `calls::receive`
-    /// refuses it.
+    /// None, and nothing happens, if the number has no subscriber, or the subscriber's domain isn't in the home. Refused as
+    /// `calls::receive` refuses it.
     pub fn receive<T: Copy, U: Copy, H: Home<T, U>>(
         &mut self,
         alloc: Global,
@@ -69,8 +69,8 @@ impl Made {
         }
     }
 
-    /// A subscriber leaves, and its number is spent. Answers false, and nothing happens, where no subscriber goes by the number, or where
-    /// its domain isn't here.
+    /// Closes a subscriber, whose number names nothing any longer. Answers false, and nothing happens, if the number has no subscriber, or
+    /// the subscriber's domain isn't in the home.
     pub fn leave_subscriber<T: Copy, U: Copy, H: Home<T, U>>(
         &mut self,
         home: &mut H,

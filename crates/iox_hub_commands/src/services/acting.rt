@@ -1,4 +1,4 @@
-//! Nodes of others act.
+//! Actions of other nodes.
 ghost use Rattle.iox_hub_commands.specs.Asked.{types_of};
 ghost use Rattle.iox_hub_commands.specs.Foreign.{ActsNamed};
 
@@ -8,12 +8,12 @@ use iox_describe_base::{MessagingPattern, ServiceName, ZeroCopySend};
 use iox_hub_base::Hub;
 use std::alloc::Global;
 
-/// Nodes of others do these steps on the service of this pattern and name, one after the other, as `Hub::foreign` does them.
+/// Does these actions of other nodes on the service of this pattern and name, one after the other, as `Hub::foreign` does them.
 ///
-/// Refused with `HubError::OutOfMemory` at the first step that finds no memory; the steps before it stay done. Also where an
-/// allocation fails for their list, and then nothing happens: no steps take none.
+/// Refused with `HubError::OutOfMemory` at the first action that runs out of memory; the actions before it stay done. Refused so, too, if
+/// an allocation fails for their list, and then nothing happens; an empty list takes no memory.
 ///
-/// This port's own.
+/// Not in `iceoryx2`.
 pub fn foreign<T: Copy + ZeroCopySend, U: Copy + ZeroCopySend, B: Drop, D: Drop>(
     alloc: Global,
     hub: &mut Hub<T, U, B, D>,

@@ -2,15 +2,15 @@
 use iox_command::ServiceOptions;
 use iox_describe_base::ServiceName;
 
-/// Which service a node asks for, and what is named of it.
+/// The service that a node asks for, and what it names of it.
 ///
-/// This port's own.
+/// Not in `iceoryx2`.
 #[derive(Clone, Copy)]
 pub struct ServiceAsked {
     /// The number of the node, counted from 1.
     pub node: u64,
     /// The name of the service.
     pub name: ServiceName,
-    /// Its pattern, and the settings that are named.
+    /// The service's pattern, and the settings that are named.
     pub options: ServiceOptions,
 }

@@ -1,4 +1,4 @@
-//! Factories are closed.
+//! How factories are closed.
 ghost use Rattle.iox_container.specs.NumberTable.{value_at};
 ghost use Rattle.iox_hub_commands.specs.Closing.{ClosesNumbered};
 
@@ -7,9 +7,9 @@ use iox_hub_base::Hub;
 use iox_negotiate_base::errors::CloseError;
 
 impl Factories {
-    /// Closes a factory, whose number is spent, also where something is left behind.
+    /// Closes a factory, whose number names nothing any longer, even if its description or segment couldn't be removed.
     ///
-    /// None, and nothing happens, where no factory of the hub goes by the number. Refused with `StillInUse`, and nothing happens, where
+    /// None, and nothing happens, if the number has no factory of this hub. Refused with `StillInUse`, and nothing happens, if
     /// `Hub::is_in_use` says so; with `UnableToRemoveDescription` and `UnableToRemoveSegment` as `Hub::close` refuses it.
     pub fn close<T: Copy, U: Copy, B: Drop, D: Drop>(
         &mut self,

@@ -1,4 +1,4 @@
-//! Services are created.
+//! How services are created.
 ghost use Rattle.std.specs.Prelude.{◌≡◌, ◌<◌, ◌+◌, ◌^◌, true, None, Some, Err};
 ghost use Rattle.iox_hub_base.specs.DescribeBase.Detail.{detail};
 ghost use Rattle.iox_hub_base.specs.DescribeBase.declared.type_detail.TypeVariant.TheVariants.{FixedSize};
@@ -25,15 +25,15 @@ use iox_queues_base::Words;
 use std::alloc::Global;
 
 impl Factories {
-    /// Creates a service with these attributes, and answers the number of its factory. The steps of foreign nodes are done before the
+    /// Creates a service with these attributes, and answers the number of its factory. The actions of other nodes are done before the
     /// accesses that they name.
     ///
-    /// None, and nothing happens, where the hub has no node of the number. Refused as `HubBuilder::create_with_attributes_in` refuses it,
-    /// for its settings before anything else is done, whatever memory there is; then, whatever memory there is, where no step is named
-    /// before the first access: with `HangsInCreation` where its look finds that another is about to create the service, with
-    /// `AlreadyExists` where it finds that the service stands;
-    /// also with `OutOfMemory`, and nothing happens but that there may be more room, where an allocation fails for the lists of steps or
-    /// for room: it takes none for that where no steps are named and there is room.
+    /// None, and nothing happens, if the hub has no node with the number. Refused as `HubBuilder::create_with_attributes_in` refuses it:
+    /// for impossible settings before anything else is done, whatever memory there is; then, whatever memory there is, if no action is
+    /// named before the first access, with `HangsInCreation` if the first look finds that another node is about to create the service, and
+    /// with `AlreadyExists` if it finds that the service exists. Refused with `OutOfMemory`, too, if an allocation fails for the lists of
+    /// actions or for capacity; then nothing happens, except that there may be more capacity. No memory is taken for that if no actions are
+    /// named and there is capacity.
     ///
     /// Example: `let created = factories.create(alloc, &mut hub, &asked, &attributes, &[]);`
     pub fn create<T: Words + ZeroCopySend, U: Copy + ZeroCopySend, B: Drop, D: Drop>(
@@ -66,7 +66,7 @@ impl Factories {
     }
 }
 
-// The refusal where no memory is found before the first access.
+// The refusal if memory runs out before the first access.
 pub(crate) fn create_lacking(options: &ServiceOptions) -> Refusal
     ensures { result ≡ create_lacking options.now }
 {

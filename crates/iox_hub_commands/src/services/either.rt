@@ -1,4 +1,4 @@
-//! Services are opened, or created.
+//! How services are opened or created.
 ghost use Rattle.std.specs.Prelude.{◌≡◌, ◌<◌, ◌+◌, ◌^◌, true, Some, Err};
 ghost use Rattle.iox_hub_base.specs.DescribeBase.Detail.{detail};
 ghost use Rattle.iox_hub_base.specs.DescribeBase.declared.type_detail.TypeVariant.TheVariants.{FixedSize};
@@ -24,16 +24,15 @@ use iox_queues_base::Words;
 use std::alloc::Global;
 
 impl Factories {
-    /// Opens a service if it has these attributes too, or creates it with the required pairs where none exists, and answers the
-    /// number of its factory. The steps of foreign nodes are done before the accesses that they name.
+    /// Opens a service if it also has these attributes, or creates it with the required pairs if it doesn't exist, and answers the number
+    /// of its factory. The actions of other nodes are done before the accesses that they name.
     ///
-    /// None, and nothing happens, where the hub has no node of the number. Refused as
-    /// `HubBuilder::open_or_create_with_attributes_in` refuses it: before anything else is done, whatever memory there is, where no step is
-    /// named before the first access and its look finds that no service stands, for the settings, and with the `HangsInCreation` of the
-    /// pattern's error of opening where it finds that another is about to create the service;
-    /// also with the `OutOfMemory` of the pattern's error of opening,
-    /// and nothing happens but that there may be more room, where an allocation fails for the lists of steps or for room: it
-    /// takes none for that where no steps are named and there is room.
+    /// None, and nothing happens, if the hub has no node with the number. Refused as `HubBuilder::open_or_create_with_attributes_in`
+    /// refuses it. Before anything else is done, whatever memory there is, and if no action is named before the first access, it is refused
+    /// for impossible settings if the first look finds that the service doesn't exist, and with the `HangsInCreation` of the pattern's
+    /// error of opening if that look finds that another node is about to create the service. Refused with the `OutOfMemory` of the
+    /// pattern's error of opening, too, if an allocation fails for the lists of actions or for capacity; then nothing happens, except that
+    /// there may be more capacity. No memory is taken for that if no actions are named and there is capacity.
     ///
     /// Example: `let opened = factories.open_or_create(alloc, &mut hub, &asked, attributes, &[]);`
     pub fn open_or_create<T: Words + ZeroCopySend, U: Copy + ZeroCopySend, B: Drop, D: Drop>(
@@ -65,7 +64,7 @@ impl Factories {
     }
 }
 
-// The refusal where no memory is found before the first access.
+// The refusal if memory runs out before the first access.
 pub(crate) fn either_lacking(options: &ServiceOptions) -> Refusal
     ensures { result ≡ either_lacking options.now }
 {

@@ -1,4 +1,4 @@
-//! The table: which factory goes by a number.
+//! The table: which factory has a number.
 ghost use Rattle.std.specs.Prelude.{◌≡◌, ◌+◌, ◌<◌, ◌^◌, length, option_map, OnOk};
 ghost use Rattle.std.specs.Result.{result_map_both};
 ghost use Rattle.iox_negotiate_table.specs.Describe.Within.{HasForm};
@@ -16,19 +16,19 @@ use iox_hub_base::PortFactory;
 use iox_negotiate_table::StepList;
 use std::alloc::{AllocError, Global};
 
-/// The factories that a run of commands opened and didn't close yet, under numbers that are counted from 1. A number is spent when its
-/// factory is closed.
+/// The factories that a run of commands opened and that aren't closed yet, by numbers that are counted from 1. A number names nothing any
+/// longer once its factory is closed.
 ///
-/// The calls are made of a hub, which is handed in. Each answers None, and nothing happens, where a number stands for nothing: where it
-/// isn't that of a node of the hub, or not that of a factory of it. This port's own.
+/// Each call is handed the hub. Each answers None, and nothing happens, if a number names nothing: no node of the hub, or no factory of it.
+/// Not in `iceoryx2`.
 #[derive(Drop)]
 pub struct Factories {
-    /// The factories that aren't closed.
+    /// The open factories.
     pub made: Numbered<MadeFactory>,
 }
 
 impl Factories {
-    /// Nothing was opened yet. It takes no memory.
+    /// A table in which nothing was opened yet. It takes no memory.
     pub fn new(alloc: Global) -> Self
         ensures { result.made ≡ no_factories }
     {
@@ -37,7 +37,7 @@ impl Factories {
         }
     }
 
-    /// The factory of a publish-subscribe service that goes by a number, if one does.
+    /// The factory of a publish-subscribe service with this number, if there is one.
     pub fn publish_subscribe(&self, number: u64) -> Option<&PortFactory<PublishSubscribe>>
         ensures { option_map (λ factory. (factory.now.service.membership, factory.now.owner)) result
             ≡ publish_subscribe_in (value_at self.now.made number) }
@@ -48,8 +48,8 @@ impl Factories {
         }
     }
 
-    // Makes ready what a call that opens needs: room for one factory more, and the lists of steps. It takes no memory where there is
-    // room and no steps are named.
+    // Prepares what a call that opens needs: capacity for one factory more, and the lists of actions. It takes no memory if there is
+    // capacity and no actions are named.
     pub(crate) fn prepare(
         &mut self,
         alloc: Global,
@@ -65,7 +65,7 @@ impl Factories {
         step_lists(alloc, name, types, steps)
     }
 
-    // The factory gets the next number; its description is one, whoever agreed on it.
+    // Gives the factory the next number; its description has the form of one, whoever made it.
     pub(crate) fn number(&mut self, factory: MadeFactory) -> u64
         requires room { length self.old.made.entries < self.old.made.room }
         requires number { self.old.made.next + 1 < 2 ^ 64 }
@@ -77,7 +77,7 @@ impl Factories {
         self.made.insert_next(factory)
     }
 
-    // Makes room for one factory more, where there is none.
+    // Makes capacity for one factory more, if there is none.
     fn make_room(&mut self) -> Result<(), AllocError>
         ensures { MakesRoom self.old.made result self.new.made }
     {

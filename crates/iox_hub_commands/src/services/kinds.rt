@@ -1,4 +1,4 @@
-//! The patterns of the services that commands create and open: what options of each ask, and how its errors are told.
+//! The patterns of the services that commands create and open: what options of each ask, and how its errors are reported.
 ghost use Rattle.std.specs.Prelude.{◌≡◌};
 ghost use Rattle.iox_command.specs.declared.refusal.Refusal.{Refusal};
 ghost use Rattle.iox_hub_base.specs.DescribeBase.declared.message_type.MessageTypeDetails.{MessageTypeDetails};
@@ -19,31 +19,31 @@ pub(crate) trait CommandPattern: Negotiated {
     /// The options of a service that a command names.
     type Options;
 
-    // what options ask of a service whose messages are of these types
+    // the requirement of these options, for a service whose messages have these types
     ghost asks: { Self.Options → MessageTypeDetails → Self.Requirement };
 
-    // the refusal of a service that isn't created
+    // the refusal if a service isn't created
     ghost create_refusal: { Self.CreateError → Refusal };
 
-    // the refusal of a service that isn't opened
+    // the refusal if a service isn't opened
     ghost open_refusal: { Self.OpenError → Refusal };
 
-    // the refusal of a service that is neither opened nor created
+    // the refusal if a service is neither opened nor created
     ghost either_refusal: { Self.OpenOrCreateError → Refusal };
 
-    /// What options ask of a service whose messages are of these types.
+    /// The requirement of these options, for a service whose messages have these types.
     fn requirement(options: &Self::Options, types: MessageTypeDetails) -> Self::Requirement
         ensures { result ≡ asks options.now types };
 
-    /// The refusal of a service that isn't created.
+    /// The refusal if a service isn't created.
     fn create_refusal(error: Self::CreateError) -> Refusal
         ensures { result ≡ create_refusal error };
 
-    /// The refusal of a service that isn't opened.
+    /// The refusal if a service isn't opened.
     fn open_refusal(error: Self::OpenError) -> Refusal
         ensures { result ≡ open_refusal error };
 
-    /// The refusal of a service that is neither opened nor created.
+    /// The refusal if a service is neither opened nor created.
     fn either_refusal(error: Self::OpenOrCreateError) -> Refusal
         ensures { result ≡ either_refusal error };
 }

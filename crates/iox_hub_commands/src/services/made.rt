@@ -13,7 +13,7 @@ use iox_negotiate_base::errors::CloseError;
 
 /// A service that is open, by its pattern.
 ///
-/// This port's own.
+/// Not in `iceoryx2`.
 #[derive(Drop)]
 pub enum MadeFactory {
     /// A publish-subscribe service.
@@ -25,7 +25,7 @@ pub enum MadeFactory {
 }
 
 impl MadeFactory {
-    /// What the nodes of the service agree on.
+    /// The description of the service, on which its nodes agree.
     pub fn description(&self) -> &Description
         ensures value { result.now ≡ (parts_of self.now).0.service.description }
         ensures form { HasForm (parts_of self.now).0.service.description }
@@ -37,7 +37,7 @@ impl MadeFactory {
         }
     }
 
-    /// Whether it is of this hub.
+    /// Whether the service is of this hub.
     pub fn is_of<T: Copy, U: Copy, B: Drop, D: Drop>(&self, hub: &Hub<T, U, B, D>) -> bool
         ensures { result ≡ nat_eq (parts_of self.now).0.storage hub.now.table.id }
     {
@@ -48,7 +48,7 @@ impl MadeFactory {
         }
     }
 
-    /// Whether something lives that keeps it from being closed in its hub.
+    /// Whether something keeps the service from being closed in its hub.
     pub fn is_in_use<T: Copy, U: Copy, B: Drop, D: Drop>(&self, hub: &Hub<T, U, B, D>) -> bool
         requires { (parts_of self.now).0.storage ≡ hub.now.table.id }
         ensures { result ≡ in_use (parts_of self.now).0.service.number (parts_of self.now).1 hub.now }
@@ -60,7 +60,7 @@ impl MadeFactory {
         }
     }
 
-    /// Closes it in its hub, where nothing keeps it from that. It is spent, whatever the answer.
+    /// Closes the service in its hub, if nothing keeps it from being closed. It is spent, whatever the answer.
     ///
     /// Refused with `UnableToRemoveDescription` and `UnableToRemoveSegment` as `Hub::close` refuses it.
     pub fn close<T: Copy, U: Copy, B: Drop, D: Drop>(
@@ -79,7 +79,7 @@ impl MadeFactory {
     }
 }
 
-// Closes a factory that nothing keeps from that.
+// Closes a factory that nothing keeps from being closed.
 fn close_unused<P: Pattern, T: Copy, U: Copy, B: Drop, D: Drop>(
     factory: PortFactory<P>,
     hub: &mut Hub<T, U, B, D>,

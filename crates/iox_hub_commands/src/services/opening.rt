@@ -1,4 +1,4 @@
-//! Services are opened.
+//! How services are opened.
 ghost use Rattle.std.specs.Prelude.{◌≡◌, ◌<◌, ◌+◌, ◌^◌, true, Some, Err};
 ghost use Rattle.iox_hub_base.specs.DescribeBase.Detail.{detail};
 ghost use Rattle.iox_hub_base.specs.DescribeBase.declared.type_detail.TypeVariant.TheVariants.{FixedSize};
@@ -22,14 +22,14 @@ use iox_queues_base::Words;
 use std::alloc::Global;
 
 impl Factories {
-    /// Opens a service if it has these attributes too, and answers the number of its factory. The steps of foreign nodes are done
-    /// before the accesses that they name.
+    /// Opens a service if it also has these attributes, and answers the number of its factory. The actions of other nodes are done before
+    /// the accesses that they name.
     ///
-    /// None, and nothing happens, where the hub has no node of the number. Refused as `HubBuilder::open_with_attributes_in` refuses it:
-    /// with `DoesNotExist` or `HangsInCreation` before anything else is done, whatever memory there is, where no step is named before the
-    /// first access and its look finds that no service stands, or that another is about to create it;
-    /// also with `OutOfMemory`, and nothing happens but that there may be more room, where an allocation fails for the lists of steps or
-    /// for room: it takes none for that where no steps are named and there is room.
+    /// None, and nothing happens, if the hub has no node with the number. Refused as `HubBuilder::open_with_attributes_in` refuses it.
+    /// Before anything else is done, whatever memory there is, and if no action is named before the first access, it is refused with
+    /// `DoesNotExist` if the first look finds that the service doesn't exist, and with `HangsInCreation` if another node is about to create
+    /// it. Refused with `OutOfMemory`, too, if an allocation fails for the lists of actions or for capacity; then nothing happens, except
+    /// that there may be more capacity. No memory is taken for that if no actions are named and there is capacity.
     pub fn open<T: Words + ZeroCopySend, U: Copy + ZeroCopySend, B: Drop, D: Drop>(
         &mut self,
         alloc: Global,
@@ -51,7 +51,7 @@ impl Factories {
     }
 }
 
-// The refusal where no memory is found before the first access.
+// The refusal if memory runs out before the first access.
 pub(crate) fn open_lacking(options: &ServiceOptions) -> Refusal
     ensures { result ≡ open_lacking options.now }
 {

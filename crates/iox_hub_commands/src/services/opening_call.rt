@@ -1,4 +1,4 @@
-//! What the calls that create and open services have in common: their first look, and all that follows where it tells no refusal.
+//! What the calls that create and open services have in common: their first look, and what follows if it isn't a refusal.
 ghost use Rattle.std.specs.Prelude.{◌≡◌, ◌<◌, ◌+◌, ◌^◌, ℕ, true, Option, Result, Some, Err, length};
 ghost use Rattle.std.specs.List.{AllByRecursion};
 ghost use Rattle.std.specs.Result.{result_map_both};
@@ -39,16 +39,16 @@ use std::alloc::Global;
 /// A call that opens a service, by what it does.
 #[derive(Drop)]
 pub(crate) enum OpeningCall<'a> {
-    /// It creates the service with these attributes.
+    /// Creates the service with these attributes.
     Create(&'a AttributeSpecifier),
-    /// It opens the service if it has these attributes too.
+    /// Opens the service if it also has these attributes.
     Open(AttributeVerifier),
-    /// It opens the service if it has these attributes too, or creates it with the required pairs.
+    /// Opens the service if it also has these attributes, or creates it with the required pairs.
     OpenOrCreate(AttributeVerifier),
 }
 
 impl<'a> OpeningCall<'a> {
-    // The refusal where no memory is found before the first access.
+    // The refusal if memory runs out before the first access.
     fn lacking(&self, options: &ServiceOptions) -> Refusal
         ensures { result ≡ lacking_of self.now options.now }
     {
@@ -59,7 +59,7 @@ impl<'a> OpeningCall<'a> {
         }
     }
 
-    // Why it comes to nothing, if the settings or a first look that finds this tell it. One that only opens doesn't ask the settings.
+    // Why the call fails, if the settings or a first look that finds this decide it. A call that only opens doesn't depend on the settings.
     fn told<T: ZeroCopySend, U: ZeroCopySend>(
         &self,
         options: &ServiceOptions,
@@ -74,8 +74,8 @@ impl<'a> OpeningCall<'a> {
         }
     }
 
-    // Why it comes to nothing, if the settings or the first look tell it, unless a step is named before that look. Nothing changes, and
-    // it is told whatever memory there is. Settings are held by value here, and no longer once deeper calls are made.
+    // Why the call fails, if the settings or the first look decide it, unless an action is named before that look. Nothing changes, and the
+    // answer doesn't depend on memory. Settings are held by value here, and no longer once deeper calls are made.
     #[inline(never)]
     fn refusal_at_first_look<T: Copy + ZeroCopySend, U: Copy + ZeroCopySend, B: Drop, D: Drop>(
         &self,
@@ -91,8 +91,8 @@ impl<'a> OpeningCall<'a> {
         self.told::<T, U>(&asked.options, found)
     }
 
-    // What the steps publish, and what would be agreed of a service that the call creates, has the form of a description, which is told
-    // of each. It takes no memory.
+    // States that what the actions publish, and the agreement of a service that the call creates, have the form of a description. It takes
+    // no memory.
     fn asked_has_form<T: ZeroCopySend, U: ZeroCopySend>(
         &self,
         asked: &ServiceAsked,
@@ -122,7 +122,7 @@ impl<'a> OpeningCall<'a> {
 }
 
 impl Factories {
-    // The call for a service that is asked for. None, and nothing happens, where the hub has no node of the number.
+    // Makes the call for a service that is asked for. None, and nothing happens, if the hub has no node with the number.
     pub(crate) fn called<T: Words + ZeroCopySend, U: Copy + ZeroCopySend, B: Drop, D: Drop>(
         &mut self,
         alloc: Global,
@@ -153,7 +153,7 @@ impl Factories {
         }
     }
 
-    // The same, where the node is there, and the first look doesn't tell a refusal.
+    // Makes the call if the node exists and the first look doesn't refuse it.
     fn looked<T: Words + ZeroCopySend, U: Copy + ZeroCopySend, B: Drop, D: Drop>(
         &mut self,
         alloc: Global,
@@ -173,7 +173,7 @@ impl Factories {
         }
     }
 
-    // The same for a service of the pattern that is asked for, once there are lists of steps and room.
+    // Makes the call for a service of the pattern that is asked for, once there are lists of actions and capacity.
     fn prepared<T: Words + ZeroCopySend, U: Copy + ZeroCopySend, B: Drop, D: Drop>(
         &mut self,
         alloc: Global,
@@ -215,7 +215,7 @@ impl Factories {
     }
 }
 
-// The call for a service of a pattern, of which these options ask; its factory gets a number later, in whatever table.
+// Makes the call for a service of a pattern with these options; its factory gets a number later, in whatever table.
 fn built<P: CommandPattern, T: Words + ZeroCopySend, U: Copy + ZeroCopySend, B: Drop, D: Drop>(
     alloc: Global,
     hub: &mut Hub<T, U, B, D>,
@@ -269,7 +269,7 @@ fn built<P: CommandPattern, T: Words + ZeroCopySend, U: Copy + ZeroCopySend, B: 
     }
 }
 
-// The builder of a service of a pattern, of which these options ask, in a hub of this id.
+// The builder of a service of a pattern with these options, in a hub of this id.
 fn builder_in<P: CommandPattern, T: ZeroCopySend, U: ZeroCopySend>(
     hub: u64,
     asked: &ServiceAsked,

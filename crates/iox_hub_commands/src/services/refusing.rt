@@ -1,5 +1,5 @@
-//! Which services aren't created, whatever stands already: it is told of what is asked for alone, with no memory. And which calls come to
-//! nothing at their first look.
+//! Which settings no service can be created with, whatever exists already: that follows from the request alone, without memory. And which
+//! calls are refused at their first look.
 ghost use Rattle.std.specs.Prelude.{◌≡◌, Option};
 ghost use Rattle.iox_command.specs.NegotiateBase.declared.failure.CreateFailure.{CreateFailure};
 ghost use Rattle.iox_hub_commands.specs.Asked.{types_of};
@@ -18,8 +18,7 @@ use iox_hub_base::{HashState, Hub};
 use iox_negotiate::{Negotiated, settings_refusal};
 use iox_negotiate_base::{CreateFailure, OpenFailure, OpenOrCreateFailure};
 
-/// Why no service is created with the settings that are asked for, of messages that carry slices of `T` with a user header of `U`, if that
-/// is so.
+/// Why no service can be created with the settings that are asked for, if so. Messages are slices of `T` with a user header of `U`.
 /// Example: `let failure = uncreated::<u64, u64>(&asked.options);`
 pub fn uncreated<T: ZeroCopySend, U: ZeroCopySend>(
     options: &ServiceOptions,
@@ -29,7 +28,7 @@ pub fn uncreated<T: ZeroCopySend, U: ZeroCopySend>(
     uncreated_of(options, message_types::<T, U>())
 }
 
-// The same, for messages of these types.
+// Why no service can be created with the settings that are asked for, if so, for messages of these types.
 fn uncreated_of(options: &ServiceOptions, types: MessageTypeDetails) -> Option<CreateFailure>
     ensures { IsUncreated (settings_of types options.now) result }
 {
@@ -44,7 +43,7 @@ fn uncreated_of(options: &ServiceOptions, types: MessageTypeDetails) -> Option<C
     }
 }
 
-/// The refusal of the pattern that is asked for, where no service is created for this.
+/// The refusal of a creation that fails with this, by the pattern that is asked for.
 /// Example: `let refusal = create_refused(&asked.options, CreateFailure::InternalFailure);`
 pub fn create_refused(options: &ServiceOptions, failure: CreateFailure) -> Refusal
     ensures { result ≡ create_refused options.now failure }
@@ -60,7 +59,7 @@ pub fn create_refused(options: &ServiceOptions, failure: CreateFailure) -> Refus
     }
 }
 
-/// The refusal of the pattern that is asked for, where no service is opened, and none is created for this.
+/// The refusal of `open_or_create` if its creation fails with this, by the pattern that is asked for.
 /// Example: `let refusal = either_refused(&asked.options, CreateFailure::InternalFailure);`
 pub fn either_refused(options: &ServiceOptions, failure: CreateFailure) -> Refusal
     ensures { result ≡ either_refused options.now failure }
@@ -78,7 +77,7 @@ pub fn either_refused(options: &ServiceOptions, failure: CreateFailure) -> Refus
     }
 }
 
-// The refusal of the pattern that is asked for, of who opens where no service stands.
+// The refusal of an opening if the service doesn't exist, by the pattern that is asked for.
 fn open_absent(options: &ServiceOptions) -> Refusal
     ensures { result ≡ open_absent options.now }
 {
@@ -95,7 +94,7 @@ fn open_absent(options: &ServiceOptions) -> Refusal
     }
 }
 
-// That of who opens where another is about to create the service.
+// The refusal of an opening if another node is about to create the service.
 fn open_locked(options: &ServiceOptions) -> Refusal
     ensures { result ≡ open_locked options.now }
 {
@@ -112,7 +111,7 @@ fn open_locked(options: &ServiceOptions) -> Refusal
     }
 }
 
-// That of who opens or creates where another is about to create the service.
+// The refusal of `open_or_create` if another node is about to create the service.
 fn either_locked(options: &ServiceOptions) -> Refusal
     ensures { result ≡ either_locked options.now }
 {
@@ -133,7 +132,7 @@ fn either_locked(options: &ServiceOptions) -> Refusal
     }
 }
 
-// What the first look of a call finds, unless a step is named before it.
+// What the first look of a call finds, unless an action is named before it.
 pub(crate) fn first_look<T: Copy, U: Copy, B: Drop, D: Drop>(
     hub: &mut Hub<T, U, B, D>,
     asked: &ServiceAsked,
@@ -148,7 +147,7 @@ pub(crate) fn first_look<T: Copy, U: Copy, B: Drop, D: Drop>(
     Some(hub.state_under(asked.options.pattern(), &asked.name))
 }
 
-// Why nothing is opened, if a first look that finds this tells it.
+// Why nothing is opened, if a first look that finds this decides it.
 pub(crate) fn open_told(options: &ServiceOptions, found: Option<HashState>) -> Option<Refusal>
     ensures { result ≡ open_told options.now found }
 {
@@ -159,7 +158,7 @@ pub(crate) fn open_told(options: &ServiceOptions, found: Option<HashState>) -> O
     }
 }
 
-// Why nothing is created, if settings that are refused so, or a first look that finds this, tell it.
+// Why nothing is created, if settings that are refused so, or a first look that finds this, decide it.
 pub(crate) fn create_told(
     options: &ServiceOptions,
     refused: Option<CreateFailure>,
@@ -177,7 +176,7 @@ pub(crate) fn create_told(
     }
 }
 
-// Why nothing is opened or created, if a first look that finds this tells it, where it is so that these settings are refused.
+// Why nothing is opened or created, if a first look that finds this decides it, with settings that are refused so.
 pub(crate) fn either_told(
     options: &ServiceOptions,
     refused: Option<CreateFailure>,

@@ -1,14 +1,15 @@
-//! What a command asks of negotiation: requirements, descriptions and foreign steps, from the options that a command names.
+//! What a command asks of negotiation: requirements, descriptions and actions of other nodes, from the options that the command names.
 //!
 //! | Module | What it has |
 //! |---|---|
 //! | `asked` | what is asked of a service of each pattern |
-//! | `described` | the service that a foreign node publishes |
-//! | `steps` | the steps of foreign nodes before each access |
+//! | `described` | the service that another node publishes |
+//! | `steps` | the actions of other nodes before each access |
 //!
-//! Services of a hub over values of `T` carry slices of them, with a user header of `U`; those of request-response in both directions.
+//! The messages of a hub's services over values of `T` are slices of them, with a user header of `U`; those of request-response in both
+//! directions.
 //!
-//! First calls, of a publish-subscribe service. `Factories` makes them.
+//! First calls, with a publish-subscribe service. `Factories` makes them.
 //!
 //! ```
 //! let types = message_types::<u64, ()>();

@@ -1,7 +1,7 @@
 //! A store or a load of a single value, one access at a time.
 //!
-//! Two halves of the cells hold the value in turn, and a counter says which of them: a store fills the half that no load looks at,
-//! then moves the counter on; a load that finds the counter moved looks anew.
+//! The cells have two halves that hold the value alternately, and a counter says which half is current. A store fills the half that no load
+//! reads, and then moves the counter; a load that finds the counter moved tries again.
 ghost use Rattle.std.specs.Prelude.{◌≡◌, ◌<◌, ◌^◌};
 ghost use Rattle.iox_index_steps.specs.AtomicSteps.{call_begun, call_is_idle, call_is_over, call_next, call_take, fills_second, place};
 ghost use Rattle.iox_queues.specs.Values.{table_value};
@@ -9,42 +9,43 @@ ghost use Rattle.iox_queues.specs.Values.{table_value};
 use iox_queues::values::word_of;
 use iox_queues_steps::{Access, Word};
 
-/// A call that a party may begin: a store of the value of this number, or a load.
+/// A call that a party may begin: a store of the value with this number, or a load.
 #[derive(Clone, Copy)]
 pub enum Call {
     Store(usize),
     Load,
 }
 
-/// Where a call stands. Between its begin and `Done` it makes one access after the other.
+/// The stage of a call. Between its begin and `Done` the call makes one access after another.
 #[derive(Clone, Copy)]
 pub enum AtomicCall {
+    /// No call is in progress.
     Idle,
-    /// A store of this value looks at the counter.
+    /// A store of this value reads the counter.
     Store {
         number: usize,
     },
-    /// It saw this counter, stores word after word, and then moves the counter on.
+    /// The store has read this counter, stores word after word, and then moves the counter.
     Fill {
         number: usize,
         counter: u64,
         next: usize,
     },
-    /// A load looks at the counter.
+    /// A load reads the counter.
     Load,
-    /// It saw this counter, loads word after word, and then looks at the counter again.
+    /// The load has read this counter, loads word after word, and then reads the counter again.
     Gather {
         counter: u64,
         next: usize,
     },
-    /// The call did all that it asked for; its last step is to come.
+    /// The call has made all its accesses, and its last step is still to come.
     Done {
         call: Call,
     },
 }
 
 impl AtomicCall {
-    /// The call's first stage.
+    /// The first stage of the call.
     pub fn begin(call: Call) -> AtomicCall
         ensures { result ≡ call_begun call }
     {
@@ -54,7 +55,7 @@ impl AtomicCall {
         }
     }
 
-    /// The access that comes next, on a value of so many words.
+    /// The next access of the call, on a value of `width` words.
     pub fn next(&self, width: usize, values: &[Vec<u64>]) -> Access
         requires { width < 2 ^ 62 }
         ensures { result ≡ call_next width values.now self.now }
@@ -84,7 +85,7 @@ impl AtomicCall {
         }
     }
 
-    /// Where the call stands after the answer of that access.
+    /// The stage after the result of that access.
     pub fn take(self, width: usize, answer: u64) -> AtomicCall
         ensures { result ≡ call_take width self answer }
     {
@@ -134,14 +135,14 @@ impl AtomicCall {
         }
     }
 
-    /// No call is under way.
+    /// Whether no call is in progress.
     pub fn is_idle(&self) -> bool
         ensures { result ≡ call_is_idle self.now }
     {
         matches!(*self, AtomicCall::Idle)
     }
 
-    /// The next step is the last of its call.
+    /// Whether the next step is the last one of its call.
     pub fn is_over(&self) -> bool
         ensures { result ≡ call_is_over self.now }
     {
@@ -149,7 +150,7 @@ impl AtomicCall {
     }
 }
 
-// A store that saw this counter fills the second half.
+// Whether a store that read this counter fills the second half.
 fn fills_second(counter: u64) -> bool
     ensures { result ≡ fills_second counter }
 {

@@ -14,20 +14,22 @@ use iox_queues::values::value_of;
 use iox_queues_steps::{Access, Ring, Stepped};
 use std::alloc::{AllocError, Global};
 
-/// Where a party stands, and the number of its call's first step.
+/// The stage of a party's call, and the number of the call's first step.
 #[derive(Clone, Copy)]
 pub struct Seat {
+    /// The stage of the party's call.
     pub stage: AtomicCall,
+    /// The number of the first step of this call.
     pub first: u64,
 }
 
 #[derive(Drop)]
 pub(crate) struct State {
-    // The values that may be stored; the first is current at first, and each of as many words as it.
+    // The values that may be stored, each with as many words as the first, which is current at first.
     pub(crate) values: Vec<Vec<u64>>,
-    // Two halves that hold the value in turn, and a spare cell. The counter lies in the write position.
+    // Two halves that hold the value alternately, and a spare cell. The write position of the ring stores the counter.
     pub(crate) ring: Ring,
-    // The party whose store is under way.
+    // The party whose store is in progress.
     pub(crate) producer: Option<usize>,
     pub(crate) seats: Vec<Seat>,
     pub(crate) events: Vec<Event>,
@@ -108,7 +110,7 @@ impl State {
         }
     }
 
-    // Room for one step, and for a call that ends with it.
+    // Reserves memory for one step, and for the call that finishes with it.
     fn reserve(&mut self, ends: bool) -> Result<(), AllocError>
         ensures same { machine_of self.new ≡ machine_of self.old }
         ensures event { OnOk result (vec_len self.new.events < vec_capacity self.new.events) }
@@ -201,7 +203,7 @@ fn first_of(values: &[Vec<u64>]) -> &[u64]
     value_of(values, 0)
 }
 
-// Both halves hold these words, and the counter says that the first half does.
+// The initial words: both halves hold these words, and the counter says that the first half is current.
 fn ring_of(alloc: Global, words: &[u64]) -> Result<Ring, AllocError>
     ensures { IfOk result (λ ring. ring ≡ start_words words.now) }
 {
@@ -211,7 +213,7 @@ fn ring_of(alloc: Global, words: &[u64]) -> Result<Ring, AllocError>
     Ok(Ring::new(cells, 1, 0))
 }
 
-// Who produces after the party began a call.
+// The producer after the party began this call.
 fn producer_begun(producer: Option<usize>, party: usize, call: Call) -> Option<usize>
     ensures { result ≡ producer_begun producer party call }
 {
@@ -221,7 +223,7 @@ fn producer_begun(producer: Option<usize>, party: usize, call: Call) -> Option<u
     }
 }
 
-// Who produces after a party at this stage went on.
+// The producer after a party at this stage made its next step.
 fn producer_after(producer: Option<usize>, stage: AtomicCall) -> Option<usize>
     ensures { result ≡ producer_after producer stage }
 {
@@ -242,7 +244,7 @@ fn idle() -> Seat
     }
 }
 
-// Records the call, if it is over.
+// Records the call, if it is finished.
 fn end_call(finished: &mut Vec<Finished>, party: usize, seat: Seat, last: u64)
     requires { call_is_over seat.stage ≡ true → vec_len finished.old < vec_capacity finished.old }
     ensures { finished.new.items ≡ finished.old.items ++ call_ended party seat.first last seat.stage }

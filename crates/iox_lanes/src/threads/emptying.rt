@@ -1,4 +1,4 @@
-//! Publishers of a domain without messages.
+//! Makes publishers of a domain forget their messages.
 ghost use Rattle.std.specs.Prelude.{◌≡◌, length, slice_get, Some};
 ghost use Rattle.iox_domain_ports.specs.Publishers.{changed};
 ghost use Rattle.iox_lanes.specs.Emptied.{gone_on, gone_on_by, with_last, without_messages, AreWithout};
@@ -7,7 +7,7 @@ use iox_domain_ports::{PublisherPort, Publishers};
 use iox_lanes_opening::leaving::forget_messages;
 use iox_lanes_threads::LanePublisher;
 
-// A publisher forgets its messages.
+// Makes a publisher forget its messages.
 #[tactic(auto, using(crate::proofs::Forgetting::is_without))]
 fn forget<T: Copy, U: Copy>(port: &mut PublisherPort<T, U>)
     ensures { port.new ≡ without_messages port.old }
@@ -15,7 +15,7 @@ fn forget<T: Copy, U: Copy>(port: &mut PublisherPort<T, U>)
     forget_messages(&mut port.sender);
 }
 
-// So does the publisher of a number, if there is one.
+// Makes the publisher with this number forget its messages, if there is one.
 fn forget_at<T: Copy, U: Copy>(publishers: &mut Publishers<T, U>, number: u64)
     ensures { publishers.new ≡ changed number without_messages publishers.old }
 {
@@ -24,7 +24,7 @@ fn forget_at<T: Copy, U: Copy>(publishers: &mut Publishers<T, U>, number: u64)
     }
 }
 
-// So does each publisher of these numbers.
+// Makes each publisher with one of these numbers forget its messages.
 pub(crate) fn forget_all<T: Copy, U: Copy>(publishers: &mut Publishers<T, U>, numbers: &[u64])
     ensures { AreWithout numbers.now publishers.old publishers.new }
 {
@@ -33,14 +33,14 @@ pub(crate) fn forget_all<T: Copy, U: Copy>(publishers: &mut Publishers<T, U>, nu
     }
 }
 
-// A publisher goes on behind this number.
+// Sets the last sequence number of a publisher, after which it goes on.
 fn go_on<T: Copy, U: Copy>(port: &mut PublisherPort<T, U>, last: Option<u64>)
     ensures { port.new ≡ with_last last port.old }
 {
     port.last_sequence = last;
 }
 
-// So does the publisher of a number, if there is one.
+// Sets the last sequence number of the publisher with this number, if there is one.
 fn go_on_at<T: Copy, U: Copy>(publishers: &mut Publishers<T, U>, number: u64, last: Option<u64>)
     ensures { publishers.new ≡ changed number (with_last last) publishers.old }
 {
@@ -49,7 +49,7 @@ fn go_on_at<T: Copy, U: Copy>(publishers: &mut Publishers<T, U>, number: u64, la
     }
 }
 
-// So does the publisher of a port in threads, behind the number that this gave last.
+// Sets the last sequence number of the publisher of a port in threads to that of the port.
 fn go_on_behind<T: Copy, U: Copy>(
     publishers: &mut Publishers<T, U>,
     numbers: &[u64],
@@ -62,7 +62,7 @@ fn go_on_behind<T: Copy, U: Copy>(
     }
 }
 
-// So does that of the port at a place of these, if there is one.
+// Sets the last sequence number of the publisher of the port at this place to that of the port, if there is one.
 fn go_on_by<T: Copy, U: Copy>(
     publishers: &mut Publishers<T, U>,
     numbers: &[u64],
@@ -76,7 +76,7 @@ fn go_on_by<T: Copy, U: Copy>(
     }
 }
 
-// So do the publishers of these ports.
+// Sets the last sequence numbers of the publishers of these ports to those of the ports.
 pub(crate) fn go_on_all<T: Copy, U: Copy>(
     publishers: &mut Publishers<T, U>,
     numbers: &[u64],

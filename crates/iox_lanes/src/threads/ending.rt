@@ -21,7 +21,7 @@ fn has_all<T, U, B, D>(
     are_all(&board.board, publishers, subscribers)
 }
 
-// Some ports that aren't all those of a board: they come back.
+// Returns ports that aren't all those of a board.
 fn not_all<T, U, B, D>(
     board: DomainBoard<T, U, B, D>,
     publishers: Vec<LanePublisher>,
@@ -37,8 +37,8 @@ fn not_all<T, U, B, D>(
     (EndError::NotAllPorts, threads)
 }
 
-// A domain whose publishers have these numbers, by the places of their ports: without messages, and each goes on behind the number that its
-// port gave last.
+// The domain after its publishers forgot their messages and took over the last sequence numbers of their ports. `numbers` are the numbers
+// of the publishers, by place of their ports.
 fn emptied<T: Copy, U: Copy, B, D>(
     mut domain: Domain<T, U, B, D>,
     numbers: &[u64],
@@ -51,10 +51,10 @@ fn emptied<T: Copy, U: Copy, B, D>(
     domain
 }
 
-/// Ends all ports of a domain's board: the domain has the same ports again, and no messages. It is as it was when its lanes
-/// began, but nothing waits at a connection of its publishers, their histories are empty, and their numbers go on behind those that their
-/// ports gave last; loans and samples that were still out are void. It takes no memory. All come back as they were where a port is
-/// missing or is another board's (`NotAllPorts`). This port's own.
+/// Ends all ports of a domain's board: the domain has the same ports again, and no messages. It is as it was when its lanes began, except
+/// that the mailboxes and histories of its publishers are empty, and their sequence numbers go on after the last ones of their ports. Loans
+/// and samples that were still out are void. Nothing is allocated. If a port is missing or belongs to another board, it returns
+/// `NotAllPorts` with all ports and the board as they were. Not in `iceoryx2`.
 pub fn end<T: Copy, U: Copy, B, D>(
     board: DomainBoard<T, U, B, D>,
     publishers: Vec<LanePublisher>,
@@ -72,9 +72,10 @@ pub fn end<T: Copy, U: Copy, B, D>(
     Ok(emptied(domain, &numbers, &publishers))
 }
 
-/// Ends all ports of a domain's board as [`end`] does, where each port that the board knows by its number steps on the board's own words:
-/// so it is where no two boards have one number. Then what a subscriber has read of a sample that it has still is what its publisher
-/// knows of the slot, as long as the ports know that no write position came to 2^64 - 1. This port's own.
+/// Ends all ports of a domain's board as [`end`] does, with the same error. It requires that each port with the board's number steps on the
+/// board's own words, which holds if no two boards have the same number. In return it ensures that what a subscriber has read of a sample
+/// that it still holds is what the publisher knows of the slot, if the ports know that no write position came to 2^64 - 1.
+/// Not in `iceoryx2`.
 pub fn end_together<T: Copy, U: Copy, B, D>(
     board: DomainBoard<T, U, B, D>,
     publishers: Vec<LanePublisher>,

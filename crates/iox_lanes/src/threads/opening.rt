@@ -13,13 +13,13 @@ use iox_lanes_threads::{LaneThreads, OpenError};
 use iox_queues_base::Words;
 use std::alloc::Global;
 
-/// Threads take over from the lanes of a domain, as `open_threads` of `iox_lanes_threads` has it, and the board keeps the domain
-/// as it was when the lanes began. In threads no message is kept (`Lanes`); those that the lanes kept go.
+/// Opens the lanes of a domain for threads, as `open_threads` of `iox_lanes_threads` does; the board keeps the domain as it was when the
+/// lanes began. In threads no messages are kept as in `Lanes`; those that the lanes kept are dropped.
 ///
-/// The board has this number, by which it knows its ports: whoever opens two gives them two. The lanes come back as they were
-/// where a party is inside a call (`PartyInCall`), a loan or a sample is out (`SamplesOut`), more than 2^63 steps were made
-/// (`TooManySteps`), or an allocation fails (`OutOfMemory`), in this order. The ports take no memory from here on, and step on the
-/// board's own words, as `end_together` asks. This port's own.
+/// `board` is the number by which the board knows its ports; give two boards two numbers. The lanes come back as they were with an error if
+/// a party is inside a call (`PartyInCall`), a loan or a sample is out (`SamplesOut`), more than 2^63 steps were made (`TooManySteps`), or
+/// an allocation fails (`OutOfMemory`), checked in this order. From then on the ports allocate nothing, and they step on the board's own
+/// words, as `end_together` requires. Not in `iceoryx2`.
 pub fn open_threads<T: Words, U: Words>(
     alloc: Global,
     board: u64,
@@ -56,7 +56,7 @@ pub fn open_threads<T: Words, U: Words>(
     }
 }
 
-// The threads of lanes, with the domain and the numbers of its publishers beside the board.
+// The threads of lanes, whose board keeps the domain and the numbers of its publishers.
 fn with<T, U, B, D>(
     threads: LaneThreads,
     domain: Domain<T, U, B, D>,

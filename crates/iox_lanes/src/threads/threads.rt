@@ -8,15 +8,15 @@ use std::marker::Model;
 
 /// The board of a domain's ports in threads, with the domain as it was when its lanes began.
 ///
-/// This port's own.
+/// Not in `iceoryx2`.
 pub struct DomainBoard<T, U, B = Handlers, D = DegradationHandler> {
     pub(crate) board: Board,
     pub(crate) domain: Domain<T, U, B, D>,
-    // The numbers of the publishers, by their places.
+    // The numbers of the publishers, by place.
     pub(crate) publishers: Vec<u64>,
 }
 
-/// Said here once, so that no crate above proves it anew.
+/// Writes the drop out once, so that no crate above proves it anew.
 impl<T: Drop, U: Drop, B: Drop, D: Drop> Drop for DomainBoard<T, U, B, D> {
     fn drop(self) {
         let DomainBoard {
@@ -36,7 +36,7 @@ impl<T, U, B, D> Model for DomainBoard<T, U, B, D> {
 }
 
 impl<T, U, B, D> DomainBoard<T, U, B, D> {
-    // Its fields.
+    // Takes the board apart into its fields.
     pub(crate) fn into_fields(self) -> (Board, Domain<T, U, B, D>, Vec<u64>)
         ensures { (result.0 ≡ self.board) × (result.1 ≡ self.domain) × (result.2.items ≡ self.publishers) }
     {
@@ -48,7 +48,7 @@ impl<T, U, B, D> DomainBoard<T, U, B, D> {
         (board, domain, publishers)
     }
 
-    /// Whether the port is one of this board's: whether both were opened with one number.
+    /// Whether the port belongs to this board, that is, whether both were opened with the same number.
     pub fn knows<P: OnBoard>(&self, port: &P) -> bool
         ensures { result ≡ (P.board_of port.now == self.now.board.number) }
     {
@@ -63,15 +63,15 @@ impl<T, U, B, D> DomainBoard<T, U, B, D> {
     }
 }
 
-/// All ports of a domain, each with its share of the words, and the board with the domain.
+/// All ports of a domain in threads, each with its share of the words, and the board with the domain.
 ///
-/// This port's own.
+/// Not in `iceoryx2`.
 #[derive(Drop)]
 pub struct DomainThreads<T, U, B = Handlers, D = DegradationHandler> {
-    /// The board that they were opened on.
+    /// The board of these ports.
     pub board: DomainBoard<T, U, B, D>,
-    /// The publishers, by their places in the lanes.
+    /// The publishers, by place in the lanes.
     pub publishers: Vec<LanePublisher>,
-    /// The subscribers, by their places in the lanes.
+    /// The subscribers, by place in the lanes.
     pub subscribers: Vec<LaneSubscriber>,
 }

@@ -13,21 +13,21 @@ use iox_queues_steps::rings::overflowing::Push as OverflowingPush;
 use iox_queues_steps::rings::refusing::{Pop as RefusingPop, Push as RefusingPush};
 use iox_queues_steps::{End, PopAnswer, PushAnswer};
 
-/// To how many connections a message went so far.
+/// How many connections took or refused a message so far.
 #[derive(Clone, Copy, Debug, PartialEq, Eq)]
 pub struct Delivery {
-    /// How many took it.
+    /// How many connections took it.
     pub taken: u64,
-    /// How many were full and refused it.
+    /// How many connections were full and refused it.
     pub refused: u64,
 }
 
-/// Where a call of a publisher stands. Places are those of its list of connections.
+/// The stage of a publisher's call. A place is one in the publisher's list of connections.
 #[derive(Clone, Copy)]
 pub enum PublisherCall {
     /// No call is under way.
     Idle,
-    /// A loan takes back what came back at a connection.
+    /// A loan takes back the samples that came back at this connection.
     LoanReclaims {
         place: u64,
         route: Route,
@@ -55,14 +55,14 @@ pub enum PublisherCall {
     Remembering {
         slot: u64,
     },
-    /// A send takes back what came back at a connection.
+    /// A send takes back the samples that came back at this connection.
     SendReclaims {
         slot: u64,
         place: u64,
         route: Route,
         pop: RefusingPop,
     },
-    /// A send puts its message into the ring of a connection.
+    /// A send puts its message into the submission ring of this connection.
     Pushing {
         slot: u64,
         place: u64,
@@ -84,8 +84,9 @@ pub enum PublisherCall {
 /// What a step changes of what a publisher keeps for itself.
 #[derive(Clone, Copy)]
 pub enum PublisherChange {
+    /// Nothing changes.
     Nothing,
-    /// A free slot is lent, if there is one and fewer loans are out than may be.
+    /// A free slot is loaned, if there is one and fewer loans are out than may be.
     Lend,
     /// The loan of this slot is written.
     Mark { slot: u64 },
@@ -95,35 +96,35 @@ pub enum PublisherChange {
     TakenBack { place: u64, slot: u64 },
     /// The slot was put into the ring of the connection at this place.
     Put { place: u64, slot: u64 },
-    /// The oldest slot of that ring was handed out.
+    /// The oldest slot of that ring was dropped.
     LeftOut { place: u64, slot: u64 },
-    /// The loan of this slot is given up.
+    /// The loan of this slot is dropped.
     DropLoan { slot: u64 },
 }
 
 impl PublisherCall {
-    /// A loan over these connections.
+    /// The first stage of a loan over these connections.
     pub fn loan(routes: &[Route]) -> PublisherCall
         ensures { result ≡ loan_at routes.now 0 }
     {
         loan_at(routes, 0)
     }
 
-    /// A write of these words into the slot of a loan.
+    /// The first stage of a write of these words into the slot of a loan.
     pub fn write(words: &[u64], slot: u64) -> PublisherCall
         ensures { result ≡ write_at words.now slot 0 }
     {
         write_at(words, slot, 0)
     }
 
-    /// A send of the slot of a loan with these words of header and user header.
+    /// The first stage of a send of a loan's slot, which stores these words of header and user header.
     pub fn send(words: &[u64], slot: u64) -> PublisherCall
         ensures { result ≡ head_at words.now slot 0 }
     {
         head_at(words, slot, 0)
     }
 
-    /// The dropping of the slot of a loan.
+    /// The first stage of dropping the loan of a slot.
     pub fn drop_loan(slot: u64) -> PublisherCall
         ensures { result ≡ PublisherCall.Dropping slot }
     {
@@ -165,8 +166,8 @@ impl PublisherCall {
         }
     }
 
-    /// Goes on after the answer of that access, and tells what it changes of what the publisher keeps for itself. `routes` are
-    /// the publisher's connections, `words` those that a write or a send stores.
+    /// Goes on after the answer of that access, and returns what it changes of what the publisher keeps for itself. `routes` are the
+    /// publisher's connections, `words` the words that a write or a send stores.
     #[inline(always)]
     pub fn take(&mut self, answer: u64, routes: &[Route], words: &[u64]) -> PublisherChange
         ensures call { self.new ≡ publisher_take routes.now words.now self.old answer }
@@ -255,14 +256,14 @@ impl PublisherCall {
         }
     }
 
-    /// No call is under way.
+    /// Whether no call is under way.
     pub fn is_idle(&self) -> bool
         ensures { result ≡ publisher_is_idle self.now }
     {
         matches!(*self, PublisherCall::Idle)
     }
 
-    /// The next step is the last of its call.
+    /// Whether the next step is the last one of the call.
     pub fn is_over(&self) -> bool
         ensures { result ≡ publisher_is_over self.now }
     {
@@ -276,7 +277,7 @@ impl PublisherCall {
     }
 }
 
-// A word of header and user header, which lie one behind the other.
+// A word of header and user header, which lie one after the other.
 fn header_word(word: u64) -> SlotWord
     ensures { result ≡ header_word word }
 {
@@ -287,7 +288,7 @@ fn header_word(word: u64) -> SlotWord
     }
 }
 
-// A loan at the connection of a place; behind the last one it looks for a slot.
+// A loan at the connection of this place; after the last connection it looks for a slot.
 fn loan_at(routes: &[Route], place: u64) -> PublisherCall
     ensures { result ≡ loan_at routes.now place }
 {
@@ -301,7 +302,7 @@ fn loan_at(routes: &[Route], place: u64) -> PublisherCall
     }
 }
 
-// A write at a word; behind the last one it ends.
+// A write at this word; after the last word it ends.
 fn write_at(words: &[u64], slot: u64, word: u64) -> PublisherCall
     ensures { result ≡ write_at words.now slot word }
 {
@@ -315,7 +316,7 @@ fn write_at(words: &[u64], slot: u64, word: u64) -> PublisherCall
     }
 }
 
-// A send at a word of header and user header; behind the last one comes the history.
+// A send at this word of header and user header; after the last word comes the history.
 fn head_at(words: &[u64], slot: u64, word: u64) -> PublisherCall
     ensures { result ≡ head_at words.now slot word }
 {
@@ -329,7 +330,7 @@ fn head_at(words: &[u64], slot: u64, word: u64) -> PublisherCall
     }
 }
 
-// A send that takes back at the connection of a place; behind the last one it begins to push.
+// A send that takes back at the connection of this place; after the last connection it begins to push.
 fn sweep_at(routes: &[Route], slot: u64, place: u64) -> PublisherCall
     ensures { result ≡ sweep_at routes.now slot place }
 {
@@ -352,7 +353,7 @@ fn sweep_at(routes: &[Route], slot: u64, place: u64) -> PublisherCall
     }
 }
 
-// A send that pushes at the connection of a place; behind the last one it ends.
+// A send that pushes at the connection of this place; after the last connection it ends.
 fn push_at(routes: &[Route], slot: u64, place: u64, delivery: Delivery) -> PublisherCall
     ensures { result ≡ push_at routes.now slot place delivery }
 {
@@ -368,7 +369,7 @@ fn push_at(routes: &[Route], slot: u64, place: u64, delivery: Delivery) -> Publi
     }
 }
 
-// One connection more that took the message, or refused it.
+// The delivery with one connection more that took the message, or refused it.
 fn counted(delivery: Delivery, answer: PushAnswer) -> Delivery
     ensures { result ≡ counted delivery answer }
 {
@@ -384,7 +385,7 @@ fn counted(delivery: Delivery, answer: PushAnswer) -> Delivery
     }
 }
 
-// A slot that was popped is back.
+// A slot that was popped came back.
 fn taken_back(place: u64, pop: RefusingPop) -> PublisherChange
     ensures { result ≡ taken_back place (refusing_pop_answer pop) }
 {
@@ -394,7 +395,7 @@ fn taken_back(place: u64, pop: RefusingPop) -> PublisherChange
     }
 }
 
-// A push puts at its store of the write position, and hands the oldest out if it wins its exchange.
+// A push puts its slot when it stores the write position, and drops the oldest one if its exchange succeeds.
 fn push_change(place: u64, push: &Push, answer: u64) -> PublisherChange
     ensures { result ≡ push_change place push.now answer }
 {

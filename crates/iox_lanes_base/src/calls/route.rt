@@ -4,22 +4,22 @@ ghost use Rattle.iox_lanes_base.specs.Routes.{known_as, rerouted};
 
 use iox_queues_steps::rings::RingKind;
 
-/// A connection: its number, and the sizes of its two rings.
+/// A connection: its number, how many messages may wait there, and the sizes of its two rings.
 #[derive(Clone, Copy)]
 pub struct Route {
     /// The number of the connection.
     pub connection: u64,
-    /// What its full ring of messages does with one more.
+    /// What the submission ring does with one message more when it is full.
     pub kind: RingKind,
     /// How many messages may wait.
     pub limit: u64,
-    /// How many cells the ring of messages has.
+    /// How many cells the submission ring has.
     pub submission_cells: u64,
-    /// How many cells the ring of samples given back has, and how many of them may lie there.
+    /// How many cells the completion ring has; as many samples may be there.
     pub completion_cells: u64,
 }
 
-/// Each of a port's connections that has this one's number is this one from now on.
+/// Replaces each of a port's connections that has this one's number by this one.
 pub fn reroute(routes: &mut [Route], route: Route)
     ensures { routes.new ≡ rerouted route routes.old }
 {

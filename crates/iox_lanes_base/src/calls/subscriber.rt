@@ -12,14 +12,14 @@ use iox_queues_steps::rings::Pop;
 use iox_queues_steps::rings::refusing::Push as RefusingPush;
 use iox_queues_steps::{End, PopAnswer, PushAnswer};
 
-/// What a receive answers.
+/// The answer of a receive.
 #[derive(Clone, Copy, Debug, PartialEq, Eq)]
 pub enum Receipt {
     /// The message in this slot, from the connection at this place.
     Taken { place: u64, slot: u64 },
     /// No message waits.
     Nothing,
-    /// A message waits at a connection of which as many are borrowed as may be.
+    /// A message waits at a connection, but as many samples of that connection are borrowed as may be.
     ExceedsMaxBorrows,
 }
 
@@ -32,12 +32,12 @@ pub struct SlotExtent {
     pub payload_words: u64,
 }
 
-/// Where a call of a subscriber stands. Places are those of its list of connections.
+/// The stage of a subscriber's call. A place is one in the subscriber's list of connections.
 #[derive(Clone, Copy)]
 pub enum SubscriberCall {
     /// No call is under way.
     Idle,
-    /// A receive pops at a connection, or looks whether something waits there.
+    /// A receive pops at this connection, or only looks whether a message waits there. `waits` says whether an earlier look saw one.
     Receiving {
         place: u64,
         route: Route,
@@ -58,13 +58,13 @@ pub enum SubscriberCall {
     WasRead {
         slot: u64,
     },
-    /// A release puts its slot into the ring of what came back.
+    /// A release puts its slot into the completion ring of this connection.
     Releasing {
         place: u64,
         route: Route,
         push: RefusingPush,
     },
-    /// A release is about to end.
+    /// A release is about to end. `done` says whether the slot went back.
     Released {
         done: bool,
     },
@@ -73,31 +73,32 @@ pub enum SubscriberCall {
 /// What a step changes of what a subscriber keeps for itself.
 #[derive(Clone, Copy)]
 pub enum SubscriberChange {
+    /// Nothing changes.
     Nothing,
-    /// The slot is borrowed of the connection at this place.
+    /// The slot is borrowed from the connection at this place.
     Borrow { place: u64, slot: u64 },
-    /// Word `word` of what is read is this.
+    /// The word number `word` of what is read has this value.
     Note { word: u64, value: u64 },
     /// The slot went back to the connection at this place.
     GiveBack { place: u64, slot: u64 },
 }
 
 impl SubscriberCall {
-    /// A receive over these connections; `borrowed` says how many samples of each are borrowed, of at most `most`.
+    /// The first stage of a receive over these connections; `borrowed` says how many samples of each are borrowed, of at most `most`.
     pub fn receive(routes: &[Route], borrowed: &[u64], most: u64) -> SubscriberCall
         ensures { result ≡ receive_at routes.now borrowed.now most 0 false }
     {
         receive_at(routes, borrowed, most, 0, false)
     }
 
-    /// A read of the slot of a sample.
+    /// The first stage of a read of a sample's slot.
     pub fn read(slot: u64, extent: SlotExtent) -> SubscriberCall
         ensures { result ≡ read_at slot extent 0 }
     {
         read_at(slot, extent, 0)
     }
 
-    /// A release of a sample's slot to the connection at this place.
+    /// The first stage of a release of a sample's slot to the connection at this place.
     pub fn release(place: u64, route: Route, slot: u64) -> SubscriberCall
         ensures { result ≡ SubscriberCall.Releasing place route (RefusingPush.Begun route.completion_cells slot) }
     {
@@ -136,8 +137,8 @@ impl SubscriberCall {
         }
     }
 
-    /// Goes on after the answer of that access, and tells what it changes of what the subscriber keeps for itself. `routes` are
-    /// the subscriber's connections, `borrowed` how many samples of each are borrowed, of at most `most`.
+    /// Goes on after the answer of that access, and returns what it changes of what the subscriber keeps for itself. `routes` are the
+    /// subscriber's connections, `borrowed` says how many samples of each are borrowed, of at most `most`.
     #[inline(always)]
     pub fn take(
         &mut self,
@@ -205,14 +206,14 @@ impl SubscriberCall {
         }
     }
 
-    /// No call is under way.
+    /// Whether no call is under way.
     pub fn is_idle(&self) -> bool
         ensures { result ≡ subscriber_is_idle self.now }
     {
         matches!(*self, SubscriberCall::Idle)
     }
 
-    /// The next step is the last of its call.
+    /// Whether the next step is the last one of the call.
     pub fn is_over(&self) -> bool
         ensures { result ≡ subscriber_is_over self.now }
     {
@@ -225,7 +226,7 @@ impl SubscriberCall {
     }
 }
 
-// As many samples of the connection at a place are borrowed as may be.
+// Whether as many samples of the connection at this place are borrowed as may be.
 fn is_full_at(borrowed: &[u64], most: u64, place: u64) -> bool
     ensures { result ≡ is_full_at borrowed.now most place }
 {
@@ -235,7 +236,7 @@ fn is_full_at(borrowed: &[u64], most: u64, place: u64) -> bool
     }
 }
 
-// What a receive answers that got no message.
+// The receipt of a receive that got no message.
 fn nothing_received(waits: bool) -> Receipt
     ensures { result ≡ nothing_received waits }
 {
@@ -246,7 +247,7 @@ fn nothing_received(waits: bool) -> Receipt
     }
 }
 
-// A receive at the connection of a place; behind the last one it ends.
+// A receive at the connection of this place; after the last connection it ends.
 fn receive_at(
     routes: &[Route],
     borrowed: &[u64],
@@ -274,7 +275,7 @@ fn receive_at(
     }
 }
 
-// A word of header, user header and payload, which lie one behind the other.
+// A word of header, user header and payload, which lie one after the other.
 fn word_at(extent: SlotExtent, word: u64) -> SlotWord
     ensures { result ≡ word_at extent word }
 {
@@ -287,7 +288,7 @@ fn word_at(extent: SlotExtent, word: u64) -> SlotWord
     }
 }
 
-// A read at a word; behind the last one it ends.
+// A read at this word; after the last word it ends.
 fn read_at(slot: u64, extent: SlotExtent, word: u64) -> SubscriberCall
     ensures { result ≡ read_at slot extent word }
 {
@@ -311,7 +312,7 @@ fn borrowed_by(place: u64, pop: &Pop) -> SubscriberChange
     }
 }
 
-// A slot is given back at the store of the write position.
+// A slot goes back when a push stores the write position.
 fn given_back_by(place: u64, push: &RefusingPush) -> SubscriberChange
     ensures { result ≡ given_back_by place push.now }
 {

@@ -8,18 +8,18 @@ use iox_queues_steps::{Access, Word};
 /// What a step does with the shared words: it touches at most one of them.
 #[derive(Clone, Copy)]
 pub enum SharedAccess {
-    /// Reads the word; the answer is what it holds.
+    /// Reads the word; the answer is its value.
     Load(SharedWord),
     /// Writes the number into the word; the answer is 0.
     Store(SharedWord, u64),
-    /// Writes the second number if the word holds the first; the answer is what it held before.
+    /// Writes the second number if the word contains the first; the answer is the word's value before.
     Exchange(SharedWord, u64, u64),
     /// Touches no shared word; the answer is 0.
     Local,
 }
 
 impl SharedAccess {
-    /// The access of an end of a ring with so many cells, as one to the ring of this connection.
+    /// The access that an end of a ring with this many cells makes, as one to this ring of a connection.
     pub fn on_ring(
         connection: u64,
         ring: ConnectionRing,
@@ -41,7 +41,7 @@ impl SharedAccess {
     }
 }
 
-// The word of a ring; positions go round its cells.
+// A word of the ring as a shared word; positions go round its cells.
 fn in_ring(connection: u64, ring: ConnectionRing, cells: u64, word: Word) -> SharedWord
     ensures { result ≡ in_ring connection ring cells word }
 {
@@ -57,7 +57,7 @@ fn in_ring(connection: u64, ring: ConnectionRing, cells: u64, word: Word) -> Sha
     }
 }
 
-// The cell of a position; a ring without cells has none, and the position stays.
+// The cell of a position; if the ring has no cells, the position itself.
 #[tactic(auto, using(crate::proofs::Rounds::no_cells))]
 fn round(position: u64, cells: u64) -> u64
     ensures { result ≡ position % cells }

@@ -6,14 +6,14 @@ ghost use Rattle.iox_lanes_base.specs.declared.words.word.SharedWord.TheVariants
 use crate::words::word::{ConnectionRing, SharedWord, SlotWord};
 use iox_queues_steps::Word;
 
-/// How many connections and slots a service has, and how many words each of them.
+/// How many connections and slots a service has, and how many words each of these has.
 #[derive(Clone, Copy)]
 pub struct TableSizes {
     /// How many connections there are.
     pub connections: u64,
-    /// How many cells a ring of messages sent has at most.
+    /// How many cells a submission ring has at most.
     pub submission_cells: u64,
-    /// How many cells a ring of samples given back has at most.
+    /// How many cells a completion ring has at most.
     pub completion_cells: u64,
     /// How many slots all publishers have together.
     pub slots: u64,
@@ -24,7 +24,8 @@ pub struct TableSizes {
 }
 
 impl TableSizes {
-    /// How many words the table has, where that is a number of 64 bits. Its first one is no word of the service.
+    /// How many words the table has, with its first one, which isn't a word of the service. None if this count, or that of a connection or
+    /// a slot, is 2^64 or more.
     pub fn words(&self) -> Option<u64>
         ensures some { IfSome result (λ words. (words ≡ words_of self.now) × IsSmall self.now) }
         ensures none { result ≡ None → IsSmall self.now → ⊥ }
@@ -100,12 +101,12 @@ fn ring_word_number(word: Word) -> u64
     }
 }
 
-/// Each word has a number of its own.
+/// Theorem: no two words have the same number.
 pub fn words_are_apart()
     ensures { AreApart }
 {}
 
-/// Each word has its number in the table, and the table's first word is none of them.
+/// Theorem: each word has its number in the table, and none has number 0.
 pub fn words_are_within()
     ensures { AreWithin }
 {}

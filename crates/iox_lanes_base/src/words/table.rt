@@ -29,7 +29,7 @@ impl Model for WordTable {
 }
 
 impl WordTable {
-    /// A table whose words are all 0. It fails only where an allocation fails.
+    /// A table whose words are all 0. `AllocError` is returned only where an allocation fails.
     pub fn new(alloc: Global, sizes: TableSizes) -> Result<WordTable, AllocError>
         ensures { IfOk result (λ made. made ≡ record { sizes = sizes; words = replicate (words_of sizes) 0 }) }
     {
@@ -40,7 +40,7 @@ impl WordTable {
         Ok(WordTable { sizes, words })
     }
 
-    /// How many words it has of each kind.
+    /// How many words of each kind the table has.
     pub fn sizes(&self) -> TableSizes
         ensures value { result ≡ self.now.sizes }
         ensures small { IsSmall result }
@@ -48,14 +48,14 @@ impl WordTable {
         self.sizes
     }
 
-    /// All words, by their numbers.
+    /// All words, by number.
     pub fn words(&self) -> &[u64]
         ensures { result.now ≡ self.now.words }
     {
         &self.words
     }
 
-    /// What the word holds.
+    /// The value of the word.
     #[tactic(auto, using(crate::proofs::Numbering::within))]
     pub fn word(&self, word: SharedWord) -> u64
         requires { IsWord self.now.sizes word }
@@ -73,7 +73,7 @@ impl WordTable {
         self.words[at] = value;
     }
 
-    /// Makes the access, and gives its answer.
+    /// Makes the access, and returns its answer.
     pub fn apply(&mut self, access: SharedAccess) -> u64
         requires { IsOfTable self.old.sizes access }
         ensures answer { result ≡ shared_answer self.old access }

@@ -1,12 +1,12 @@
 //! The shared words of one service.
 use iox_queues_steps::Word;
 
-/// A ring of a connection.
+/// One of the two rings of a connection.
 #[derive(Clone, Copy)]
 pub enum ConnectionRing {
-    /// The messages that the publisher sent: the numbers of their slots.
+    /// The submission ring: the slots of the messages that the publisher sent.
     Submission,
-    /// The samples that the subscriber gave back: the numbers of their slots.
+    /// The completion ring: the slots of the samples that the subscriber released.
     Completion,
 }
 
@@ -15,17 +15,17 @@ pub enum ConnectionRing {
 pub enum SlotWord {
     /// A word of the header: 0, 1 or 2.
     Header(u64),
-    /// A word of the user header. Where the service numbers its messages, the first of these words is the number of the message, and those
-    /// of the user header lie behind it.
+    /// A word of the user header. If the service has sequence numbers, the first of these words is that of the message, and those of the
+    /// user header follow it.
     UserHeader(u64),
     /// A word of the payload.
     Payload(u64),
 }
 
-/// A shared word of a service. Connections are numbered from 0 on, and so are the slots of all its publishers.
+/// A shared word of a service. Connections are numbered from 0 on, and so are the slots of all publishers together.
 #[derive(Clone, Copy)]
 pub enum SharedWord {
-    /// A word of a ring; of a cell the number is below that of the ring's cells.
+    /// A word of a ring. The number of a cell is less than the number of the ring's cells.
     Ring {
         connection: u64,
         ring: ConnectionRing,

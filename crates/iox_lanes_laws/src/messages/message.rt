@@ -14,7 +14,7 @@ use iox_queues_base::Words;
 use std::alloc::{AllocError, Global};
 use std::marker::Model;
 
-/// A message as it was when its send began, or when it was found. This port's own.
+/// A message as it was when its send began, or when it was found. Not in `iceoryx2`.
 pub struct Message {
     publisher: usize,
     slot: u64,
@@ -22,7 +22,7 @@ pub struct Message {
     words: Vec<u64>,
 }
 
-/// Said here once, so that no crate above proves it anew.
+/// Writes the drop out once, so that no crate above proves it anew.
 impl Drop for Message {
     fn drop(self) {
         let Message {
@@ -43,8 +43,8 @@ impl Model for Message {
 }
 
 impl Message {
-    /// The message in a slot at a moment: this header with its user header, and the payload that the slot holds. Fails only where an
-    /// allocation fails.
+    /// The message in a slot at this moment, with these words of header and user header, and the payload that the slot contains.
+    /// `AllocError` is returned only where an allocation fails.
     pub(crate) fn new(
         alloc: Global,
         moment: u64,
@@ -67,8 +67,8 @@ impl Message {
         })
     }
 
-    /// The message that a slot has at a moment: header, user header and payload as the slot holds them. Fails only where an allocation
-    /// fails.
+    /// The message that a slot has at this moment: header, user header and payload as the slot contains them. `AllocError` is returned only
+    /// where an allocation fails.
     pub(crate) fn found(
         alloc: Global,
         moment: u64,
@@ -89,7 +89,7 @@ impl Message {
         })
     }
 
-    /// The publisher that sends it, by its number among those of the lanes.
+    /// Its publisher, by number among those of the lanes.
     pub fn publisher(&self) -> usize
         ensures { result ≡ self.now.publisher }
     {
@@ -110,14 +110,14 @@ impl Message {
         self.moment
     }
 
-    // Whether it is of a slot and was sent by a moment.
+    // Whether it is in this slot and was sent or found by this moment.
     pub(crate) fn was_sent_by(&self, slot: u64, moment: u64) -> bool
         ensures { result ≡ was_sent_by slot moment (Some self.now) }
     {
         self.slot == slot && self.moment <= moment
     }
 
-    /// Its user header and its value. None where it hasn't just as many words.
+    /// Its user header and its value. None if it has more or fewer words.
     pub fn values<T: Words, U: Words>(&self) -> Option<(U, T)>
         ensures some { IfSome result (AreValues T.of_parts U.of_parts T.WORDS U.WORDS self.now.words) }
         ensures none { result ≡ None → length self.now.words ≡ 3 + U.WORDS + T.WORDS → ⊥ }
@@ -125,8 +125,8 @@ impl Message {
         values_in::<T, U>(&self.words)
     }
 
-    /// The words of its header, of its user header and of its payload, one behind the other, as a read of it gives them. A header has
-    /// three: the node, the publisher, the number of elements. It has a fourth where messages are numbered: the number.
+    /// The words of its header, of its user header and of its payload, one after the other, as a read returns them. A header has three
+    /// words: the node, the publisher and the number of elements. Where messages have sequence numbers, it has the number as a fourth word.
     pub fn words(&self) -> &[u64]
         ensures { result.now ≡ self.now.words }
     {
@@ -134,7 +134,7 @@ impl Message {
     }
 }
 
-// All words that a slot holds: header, user header and payload.
+// All words that a slot contains: header, user header and payload.
 #[tactic(auto, using(crate::proofs::Founds::slot_fits))]
 fn held(alloc: Global, slot: u64, table: &WordTable) -> Result<Vec<u64>, AllocError>
     requires slot { slot < table.now.sizes.slots }
@@ -156,7 +156,7 @@ fn held(alloc: Global, slot: u64, table: &WordTable) -> Result<Vec<u64>, AllocEr
     Ok(words)
 }
 
-// A word of header, user header and payload, which lie one behind the other.
+// A word of header, user header and payload, which lie one after the other.
 fn word_at(extent: SlotExtent, word: u64) -> SlotWord
     ensures { result ≡ word_at extent word }
 {
@@ -169,7 +169,7 @@ fn word_at(extent: SlotExtent, word: u64) -> SlotWord
     }
 }
 
-// The words of payload that a slot holds.
+// The words of the payload that a slot contains.
 fn payload(alloc: Global, slot: u64, table: &WordTable) -> Result<Vec<u64>, AllocError>
     requires { slot < table.now.sizes.slots }
     ensures { IfOk result (λ words. words.items ≡ payload_held table.now slot) }

@@ -11,10 +11,10 @@ mod iter;
 
 pub use iter::Iter;
 
-/// The puts, takes and looks of a connection, in their order, each with the number of the message that it puts or takes. A number is
-/// found when its entry is asked for, among all messages that are kept.
+/// The puts, takes and looks of a connection, in their order, each with the number of the message that it puts or takes. The number is
+/// looked up when the entry is asked for, among all messages that are kept.
 ///
-/// Contracts see it as the list of the entries. This port's own.
+/// Contracts see an order as the list of its entries. Not in `iceoryx2`.
 #[derive(Drop)]
 pub struct Order<'a> {
     messages: &'a [Message],
@@ -32,7 +32,7 @@ impl<'a> Model for Order<'a> {
 }
 
 impl<'a> Order<'a> {
-    /// These entries, with the numbers of their messages among these.
+    /// These entries, with the numbers that their messages have among these.
     pub(crate) fn new(messages: &'a [Message], entries: &'a [Placed]) -> Order<'a>
         ensures { result ≡ map (with_number messages.now) entries.now }
     {
@@ -46,14 +46,14 @@ impl<'a> Order<'a> {
         self.entries.len()
     }
 
-    /// Whether there is none.
+    /// Whether there are no entries.
     pub fn is_empty(&self) -> bool
         ensures { IsTrue result ↔ (self.now ≡ []) }
     {
         self.entries.is_empty()
     }
 
-    /// The entry at a place. None where there are fewer.
+    /// The entry at this place, or None if there are fewer entries.
     pub fn get(&self, at: usize) -> Option<PlacedMessage>
         ensures { result ≡ slice_get self.now at }
     {
@@ -72,7 +72,7 @@ impl<'a> Order<'a> {
     }
 }
 
-/// Goes over the entries, one after the other.
+/// Iterates over the entries, one after the other.
 impl<'a> IntoIterator for Order<'a> {
     type Item = PlacedMessage;
 
@@ -85,7 +85,7 @@ impl<'a> IntoIterator for Order<'a> {
     }
 }
 
-// An entry with the number of its message.
+// The entry with the number of its message.
 pub(super) fn with_number(messages: &[Message], placed: Placed) -> PlacedMessage
     ensures { result ≡ with_number messages.now placed }
 {
@@ -118,7 +118,7 @@ fn acted_slot(act: Act) -> Option<u64>
     }
 }
 
-// The number of the last message that was sent in a slot by a moment.
+// The number of the last message that was sent in this slot by this moment.
 fn last_number(messages: &[Message], slot: u64, moment: u64) -> Option<usize>
     ensures { result ≡ last_number messages.now slot moment (length messages.now) }
 {

@@ -1,4 +1,4 @@
-//! Lanes that keep the messages which are sent on them.
+//! Lanes that keep the messages that are sent on them.
 ghost use Rattle.std.specs.Prelude.{◌≡◌, ◌<◌, [], ◌∷◌, Some, slice_get, option_copied, option_to_list, IfOk, OnErr, true, length};
 ghost use Rattle.std.specs.Prelude.{if◌then◌else◌, ◌++◌, ◌+◌, ◌≤◌, IfErr, IfSome, OnOk, drop, get_or, map, take};
 ghost use Rattle.iox_lanes_machine.specs.LanesParties.Values.{AreValues};
@@ -16,15 +16,15 @@ use iox_queues_steps::{Placed, Stepped};
 use std::alloc::{AllocError, Global};
 use std::marker::Model;
 
-/// Lanes with the messages that were sent on them since they were handed in: each has the next number as its send begins, from 0 on,
-/// behind those that were found. This port's own.
+/// Lanes with the messages that were sent on them since they were handed in: each gets the next number when its send begins, from 0 on, or
+/// after the numbers of messages that were found. Not in `iceoryx2`.
 pub struct Lanes {
     alloc: Global,
     lanes: LaneMachine,
     messages: Vec<Message>,
 }
 
-/// Said here once, so that no crate above proves it anew.
+/// Writes the drop out once, so that no crate above proves it anew.
 impl Drop for Lanes {
     fn drop(self) {
         let Lanes {
@@ -69,7 +69,7 @@ impl Lanes {
     ghost use Rattle.iox_lanes_machine.specs.LanesParties.PublisherKeeping.{loan_of};
     ghost use Rattle.iox_lanes_machine.specs.World.{fits};
 
-    /// These lanes, of which no message is kept yet. It takes no memory.
+    /// These lanes, of which no message is kept yet. Nothing is allocated.
     pub fn new(alloc: Global, lanes: LaneMachine) -> Lanes
         ensures { result ≡ record { lanes = lanes; messages = [] } }
     {
@@ -80,9 +80,9 @@ impl Lanes {
         }
     }
 
-    /// Makes a step of the lanes, as `LaneMachine::step`, and says of them what that says. Where it begins a send, the message is kept
-    /// behind the others, as it is then: later stores change nothing of it. Answers `NoMemory`, with nothing changed, also where no memory
-    /// is found for that. What the laws ask of lanes (`CameTo`) is true of them again.
+    /// Makes a step of the lanes as `LaneMachine::step` does, and ensures what that ensures. If the step begins a send, the message is kept
+    /// behind the others, as it is then; later stores don't change it. Returns `NoMemory`, with nothing changed, also if there is no memory
+    /// for the message. If the theorems on lanes applied (`CameTo`), they still do.
     pub fn step(&mut self, party: Party, step: &Move) -> Stepped
         ensures steps { RecordsTo self.old party step.now result self.new }
         ensures apart { StaysApart self.old.lanes party step.now result self.new.lanes }
@@ -107,9 +107,9 @@ impl Lanes {
         self.make(party, step)
     }
 
-    /// Makes the entries one after the other, and leaves out those that don't fit or find no memory for what they record; these
-    /// change nothing. Returns how many were made, so how many went or finished: where that is how many entries there are, each was
-    /// made. It says of the lanes what `LaneMachine::run` says, and what the laws ask of lanes (`CameTo`) is true of them again.
+    /// Makes the entries one after the other, and skips those that don't fit or find no memory for what they record; these change nothing.
+    /// Returns how many were made: if that is how many entries there are, each was made. It ensures of the lanes what `LaneMachine::run`
+    /// ensures, and if the theorems on lanes applied (`CameTo`), they still do.
     pub fn run(&mut self, schedule: &[Entry]) -> usize
         ensures runs { RecordsRun self.old schedule.now result self.new }
         ensures came { CameTo self.old.lanes → CameTo self.new.lanes }
@@ -133,7 +133,7 @@ impl Lanes {
         made
     }
 
-    // Makes a step, and says all of it in one.
+    // Makes a step, and ensures all of it in one clause.
     fn make(&mut self, party: Party, step: &Move) -> Stepped
         ensures { MakesStep self.old party step.now result self.new }
     {
@@ -144,7 +144,7 @@ impl Lanes {
         }
     }
 
-    // Makes no step, as no memory was found for the message whose send it begins.
+    // Makes no step, as there is no memory for the message whose send it begins.
     fn lack(&mut self, party: Party, step: &Move) -> Stepped
         requires fits { fits self.old.lanes party step.now ≡ true }
         requires begins { 0 < length (begun_messages self.old.lanes party step.now) }
@@ -154,7 +154,7 @@ impl Lanes {
         Stepped::NoMemory
     }
 
-    // What all lanes keep, as a run of no entries says it.
+    // What holds for all lanes, as a run of no entries ensures it.
     fn follow(&mut self)
         ensures same { self.new ≡ self.old }
         ensures follow { AllFollow self.new.lanes }
@@ -162,10 +162,10 @@ impl Lanes {
         self.lanes.run(&[]);
     }
 
-    /// These lanes, with the messages that are found on them: what each slot holds that has a use, publisher by publisher and slot by
-    /// slot, is a message and has the next number. Of lanes of which no loan is out, these are those that wait, lie aside, are borrowed,
-    /// were given back and not taken back, or that a history has. A slot that is lent is listed, too. Only where an allocation fails
-    /// the lanes come back as they were.
+    /// These lanes, with the messages that are found on them: what each used slot contains is a message and has the next number, publisher
+    /// by publisher and slot by slot. If no loan is out, these are the messages that wait, lie aside, are borrowed, are in a completion
+    /// ring, or are in a history; a slot that is a loan counts as used, too. If an allocation fails, the lanes come back as they were;
+    /// there is no other error.
     pub fn with_found(alloc: Global, lanes: LaneMachine) -> Result<Lanes, LaneMachine>
         ensures made { IfOk result (λ made. made ≡ record { lanes = lanes; messages = found_messages lanes }) }
         ensures held { IfOk result (λ made. AreAsHeld made.lanes made.messages × ArePast made.lanes made.messages) }
@@ -181,7 +181,7 @@ impl Lanes {
         }
     }
 
-    // Makes a step that begins a send of this message.
+    // Makes a step that begins to send this message.
     fn send(&mut self, party: Party, step: &Move, message: Message) -> Stepped
         requires fits { fits self.old.lanes party step.now ≡ true }
         requires begins { begun_messages self.old.lanes party step.now ≡ message ∷ [] }
@@ -196,7 +196,7 @@ impl Lanes {
         stepped
     }
 
-    // The message whose send a step begins, if it fits and begins one. An allocation fails only where it does.
+    // The message whose send a step begins, if it fits and begins one. An allocation fails only if it does.
     fn begun(&self, party: Party, step: &Move) -> Result<Option<Message>, AllocError>
         ensures ok { IfOk result (λ begun. option_to_list begun
             ≡ (if fits self.now.lanes party step.now then begun_messages self.now.lanes party step.now else [])) }
@@ -248,7 +248,7 @@ impl Lanes {
         self.messages.len()
     }
 
-    /// The message of a number, if so many were found or sent.
+    /// The message with this number, if as many were found or sent.
     pub fn message(&self, number: usize) -> Option<&Message>
         ensures { option_copied result ≡ slice_get self.now.messages number }
     {
@@ -256,8 +256,9 @@ impl Lanes {
     }
 
     /// The puts, takes and looks of a connection, in their order. Each has the number of the message that it puts or takes, which is the
-    /// last one that was sent in its slot by its moment. None for a look, for a take that found nothing, for a message that isn't kept,
-    /// and for an entry from before the lanes were handed in.
+    /// last one that was sent in its slot by its moment. The number is None for a look, for a take that found nothing, for a message that
+    /// isn't kept, and for an entry from before the lanes were handed in.
+    ///
     /// Example: `lanes.order(0).get(3)`
     pub fn order(&self, connection: u64) -> Order<'_>
         ensures { result ≡ map (with_number self.now.messages) (get_or self.now.lanes.orders connection []) }
@@ -265,7 +266,7 @@ impl Lanes {
         Order::new(&self.messages, self.lanes.order(connection))
     }
 
-    /// The puts, takes and looks of a connection with their slots, without numbers, and what holds of them, as `LaneMachine::order`.
+    /// The puts, takes and looks of a connection with their slots, without numbers; returns and ensures what `LaneMachine::order` does.
     pub fn placed(&self, connection: u64) -> &[Placed]
         ensures value { result.now ≡ get_or self.now.lanes.orders connection [] }
         ensures follows { OrderFollows self.now.lanes connection result.now }
@@ -274,7 +275,7 @@ impl Lanes {
         self.lanes.order(connection)
     }
 
-    /// The four positions of a connection, and what holds of them, as `LaneMachine::position`.
+    /// The four positions of a connection; returns and ensures what `LaneMachine::position` does.
     pub fn position(&self, connection: u64) -> Positions
         requires { connection < length self.now.lanes.links }
         ensures value { result ≡ positions_of self.now.lanes.table connection }
@@ -284,7 +285,7 @@ impl Lanes {
         self.lanes.position(connection)
     }
 
-    /// The calls that ended, in their order, and what holds of them, as `LaneMachine::finished`.
+    /// The calls that ended, in their order; returns and ensures what `LaneMachine::finished` does.
     pub fn finished(&self) -> &[FinishedCall]
         ensures value { result.now ≡ self.now.lanes.finished }
         ensures receipts { ReceiptsFollow self.now.lanes }
@@ -296,7 +297,7 @@ impl Lanes {
         self.lanes.finished()
     }
 
-    /// The user header and the value that a read gave whose words begin there among those that were read. None where fewer words were
+    /// The user header and the value that a read returned whose words begin at `from` among all that were read. None if fewer words were
     /// read from there on.
     pub fn values<T: Words, U: Words>(&self, from: usize) -> Option<(U, T)>
         ensures some { IfSome result (AreValues T.of_parts U.of_parts T.WORDS U.WORDS
@@ -318,7 +319,7 @@ impl Lanes {
         &self.lanes
     }
 
-    /// The lanes, and the messages that were kept.
+    /// The lanes and the messages that were kept.
     pub fn into_parts(self) -> (LaneMachine, Vec<Message>)
         ensures { (result.0 ≡ self.lanes) × (result.1.items ≡ self.messages) }
     {
@@ -330,8 +331,8 @@ impl Lanes {
         (lanes, messages)
     }
 
-    /// These lanes with these messages. It takes no memory. The laws ask that the messages are as their slots hold them, and not later
-    /// than the lanes.
+    /// These lanes with these messages. Nothing is allocated. The theorems require that the messages are as their slots contain them, and
+    /// were sent or found by now.
     pub fn of_parts(alloc: Global, lanes: LaneMachine, messages: Vec<Message>) -> Lanes
         ensures { result ≡ record { lanes = lanes; messages = messages.items } }
     {
@@ -342,7 +343,7 @@ impl Lanes {
         }
     }
 
-    /// The lanes alone; the messages are gone.
+    /// The lanes alone; the messages are dropped.
     pub fn into_machine(self) -> LaneMachine
         ensures { result ≡ self.lanes }
     {
@@ -355,7 +356,7 @@ impl Lanes {
     }
 }
 
-// What is found on lanes.
+// The messages that are found on lanes.
 fn found(alloc: Global, lanes: &LaneMachine) -> Result<Vec<Message>, AllocError>
     ensures { IfOk result (λ messages. messages.items ≡ found_messages lanes.now) }
 {
@@ -366,7 +367,7 @@ fn found(alloc: Global, lanes: &LaneMachine) -> Result<Vec<Message>, AllocError>
     Ok(messages)
 }
 
-// And in the slots of the publisher at a place, if there is one.
+// Appends the messages found in the slots of the publisher at this place, if there is one.
 fn find_publisher(
     alloc: Global,
     lanes: &LaneMachine,
@@ -383,14 +384,14 @@ fn find_publisher(
     }
 }
 
-// The publisher at a place, if there is one.
+// The publisher at this place, if there is one.
 fn lane_at(lanes: &LaneMachine, publisher: usize) -> Option<&PublisherLane>
     ensures { option_copied result ≡ slice_get lanes.now.publishers publisher }
 {
     lanes.publishers().get(publisher)
 }
 
-// And in all slots of this one.
+// Appends the messages found in all slots of this publisher.
 fn find_slots(
     alloc: Global,
     lanes: &LaneMachine,
@@ -413,7 +414,7 @@ fn find_slots(
     Ok(())
 }
 
-// How many uses the slot of a publisher at a place has.
+// How many uses a publisher's slot has, by its index among the publisher's own.
 fn uses_at(book: &SlotBook, at: usize) -> u64
     ensures { result ≡ get_or book.now.uses at 0 }
 {
@@ -423,7 +424,7 @@ fn uses_at(book: &SlotBook, at: usize) -> u64
     }
 }
 
-// And in one slot, which has so many uses.
+// Appends the message found in one slot, which has this many uses.
 fn find_slot(
     alloc: Global,
     lanes: &LaneMachine,

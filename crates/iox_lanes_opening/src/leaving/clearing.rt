@@ -1,4 +1,4 @@
-//! A publisher of a domain forgets its messages.
+//! How a publisher of a domain forgets its messages.
 ghost use Rattle.std.specs.Prelude.{◌≡◌, ℕ, [], length, false};
 ghost use Rattle.std.specs.Bool.{OnTrue};
 ghost use Rattle.iox_domain_ports.specs.MessagesSending.{with_uses};
@@ -9,8 +9,8 @@ ghost use Rattle.iox_lanes_opening.specs.Restoring.{IsQuiet};
 
 use iox_domain_ports::messages::Sender;
 
-/// Whether nothing of a publisher is out: it sends nothing, lends nothing, and nothing is borrowed of its connections; and
-/// whether it has room for a value in each slot.
+/// Whether nothing of a publisher is out, and it has capacity for a value in each slot: no send is under way, no loan is out, and no
+/// message of its connections is borrowed.
 pub fn is_rested<T: Copy, U: Copy>(sender: &Sender<T, U>) -> bool
     ensures rested { OnTrue result (IsRested sender.now) }
     ensures not { result ≡ false → IsRested sender.now → ⊥ }
@@ -24,7 +24,7 @@ pub fn is_rested<T: Copy, U: Copy>(sender: &Sender<T, U>) -> bool
     true
 }
 
-// Whether a publisher sends nothing and lends nothing, and has room for a value in each slot.
+// Whether a publisher has no send under way and no loan out, and has capacity for a value in each slot.
 fn is_quiet<T: Copy, U: Copy>(sender: &Sender<T, U>) -> bool
     ensures quiet { OnTrue result (IsQuiet sender.now) }
     ensures not { result ≡ false → IsQuiet sender.now → ⊥ }
@@ -32,7 +32,7 @@ fn is_quiet<T: Copy, U: Copy>(sender: &Sender<T, U>) -> bool
     !sender.is_sending() && sender.slots().loans() == 0 && sender.room() >= 1
 }
 
-/// A publisher forgets what waits at its connections, and its history. What is borrowed stays in use.
+/// Makes a publisher forget the messages that wait at its connections, and its history. Borrowed messages stay in use.
 pub fn forget_messages<T: Copy, U: Copy>(sender: &mut Sender<T, U>)
     ensures rest { sender.new ≡ with_uses sender.new.uses sender.old }
     ensures cleared { IsCleared sender.old.uses sender.new.uses }
@@ -41,7 +41,7 @@ pub fn forget_messages<T: Copy, U: Copy>(sender: &mut Sender<T, U>)
     lose_waiting(sender);
 }
 
-// Whether nothing is borrowed of the connection of an index.
+// Whether nothing of the connection with this index is borrowed.
 fn lends_nothing<T: Copy, U: Copy>(sender: &Sender<T, U>, index: usize) -> bool
     ensures none { OnTrue result ((connection_at index sender.now.uses).borrowed ≡ []) }
     ensures some { result ≡ false → (connection_at index sender.now.uses).borrowed ≡ [] → ⊥ }
@@ -52,7 +52,7 @@ fn lends_nothing<T: Copy, U: Copy>(sender: &Sender<T, U>, index: usize) -> bool
     }
 }
 
-// Whether nothing is borrowed of any connection.
+// Whether nothing of any connection is borrowed.
 fn is_none_borrowed<T: Copy, U: Copy>(sender: &Sender<T, U>) -> bool
     ensures none { OnTrue result (NoneBorrowed sender.now.uses) }
     ensures some { result ≡ false → NoneBorrowed sender.now.uses → ⊥ }
@@ -65,7 +65,7 @@ fn is_none_borrowed<T: Copy, U: Copy>(sender: &Sender<T, U>) -> bool
     true
 }
 
-// Nothing waits at the connection of an index any longer, if there is one.
+// Empties the mailbox of the connection with this index, if there is one.
 fn lose_waiting_at<T: Copy, U: Copy>(sender: &mut Sender<T, U>, index: usize)
     ensures { sender.new ≡ with_uses (with_connection index (emptied (connection_at index sender.old.uses)) sender.old.uses) sender.old }
 {
@@ -75,7 +75,7 @@ fn lose_waiting_at<T: Copy, U: Copy>(sender: &mut Sender<T, U>, index: usize)
     }
 }
 
-// Nothing waits at any connection any longer.
+// Empties the mailboxes of all connections.
 fn lose_waiting<T: Copy, U: Copy>(sender: &mut Sender<T, U>)
     ensures rest { sender.new ≡ with_uses (record sender.old.uses { connections = sender.new.uses.connections }) sender.old }
     ensures each { (index : ℕ) → connection_at index sender.new.uses ≡ emptied (connection_at index sender.old.uses) }

@@ -1,4 +1,4 @@
-//! A publisher of a domain gets all that lanes leave of it.
+//! How a publisher of a domain gets all that lanes leave of it.
 ghost use Rattle.std.specs.Prelude.{◌≡◌, ◌+◌, ◌<◌, ◌≤◌, [], ℕ, length, false, vec_capacity, IfSome};
 ghost use Rattle.std.specs.Bool.{OnTrue};
 ghost use Rattle.iox_domain_ports.specs.MessagesSending.{with_uses};
@@ -18,9 +18,9 @@ use iox_queues_base::Words;
 pub struct LeftPublisher<'a> {
     /// The lanes.
     pub lanes: &'a LaneMachine,
-    /// Whether messages have numbers: then each has its own in its slot.
+    /// Whether messages have sequence numbers. Then each slot has the number of its message.
     pub numbered: bool,
-    /// The number of its first connection in the lanes.
+    /// The number of the publisher's first connection in the lanes.
     pub from: u64,
     /// The indices of its connections in the domain, in the order of the lanes.
     pub indices: &'a [usize],
@@ -30,11 +30,11 @@ pub struct LeftPublisher<'a> {
     pub history: &'a [u64],
 }
 
-/// A publisher of a domain gets all that lanes leave of it, in place of what waited at its connections and of its history: what
-/// waits at each connection of the lanes waits at the one of its index, and the slots of the lanes' history are its history, each
-/// message in its slot. Answers false where the publisher sends or lends something, where something is borrowed of a connection,
-/// or where a slot has no room for a value; then nothing has changed. `one` has room for one value, which is taken there; no
-/// memory is.
+/// Gives a publisher of a domain all that lanes leave of it, in place of its own waiting messages and history: what waits at each
+/// connection of the lanes then waits at the connection with its index, and the lanes' history is its history, each message in its own
+/// slot. Returns false if a send of the publisher is under way, a loan of it is out, a message of its connections is borrowed, or a slot
+/// has no capacity for a value; then nothing has changed. `one` must have capacity for one value, into which each value is read; nothing is
+/// allocated.
 pub fn restore<T: Words, U: Words>(
     source: &LeftPublisher<'_>,
     sender: &mut Sender<T, U>,
@@ -66,7 +66,7 @@ pub fn restore<T: Words, U: Words>(
     true
 }
 
-// What the lanes leave at each connection of a publisher at which nothing waits.
+// Restores what the lanes leave at each connection of a publisher, if no message waits at any of them.
 fn restore_connections<T: Words, U: Words>(
     source: &LeftPublisher<'_>,
     sender: &mut Sender<T, U>,
@@ -93,7 +93,7 @@ fn restore_connections<T: Words, U: Words>(
     }
 }
 
-// What the lanes leave at the connection of an index, at which nothing waits.
+// Restores what the lanes leave at the connection with this index, if no message waits there.
 fn restore_at<T: Words, U: Words>(
     source: &LeftPublisher<'_>,
     index: usize,
@@ -128,7 +128,7 @@ fn restore_at<T: Words, U: Words>(
     }
 }
 
-// Where an index is first in a list.
+// Where the index is first in a list.
 fn place_of(indices: &[usize], index: usize) -> Option<usize>
     ensures value { result ≡ place_of index indices.now }
     ensures within { IfSome result (λ place. place < length indices.now) }

@@ -1,4 +1,4 @@
-//! A publisher of a domain gets the messages that lanes leave.
+//! How a publisher of a domain gets the messages that lanes leave.
 ghost use Rattle.std.specs.Prelude.{◌≡◌, ◌+◌, ◌-◌, ◌<◌, ◌≤◌, ◌++◌, ◌∷◌, [], length, map, None, Some, vec_capacity, IfSome};
 ghost use Rattle.iox_domain_ports.specs.MessagesSending.{with_uses};
 ghost use Rattle.iox_domain_ports.specs.DomainSlots.declared.stage.Stage.TheVariants as stage;
@@ -16,7 +16,7 @@ use iox_lanes_base::words::WordTable;
 use iox_lanes_machine::LaneMachine;
 use iox_queues_base::Words;
 
-// The slots of a publisher in lanes: they begin at `first` there. Where messages have numbers, each has its own in its slot.
+// The slots of a publisher in lanes, from `first` on. Where messages have sequence numbers, each slot has that of its message.
 #[derive(Clone, Copy)]
 struct LeftSlots<'a> {
     table: &'a WordTable,
@@ -24,7 +24,7 @@ struct LeftSlots<'a> {
     first: u64,
 }
 
-// The value in a slot comes to a place with room for one.
+// Reads the value in a slot into `one`, which has capacity for one value.
 fn take_payload<T: Words>(table: &WordTable, slot: u64, one: &mut Vec<T>)
     requires room { 0 < vec_capacity one.old }
     requires slot { slot < table.now.sizes.slots }
@@ -37,8 +37,8 @@ fn take_payload<T: Words>(table: &WordTable, slot: u64, one: &mut Vec<T>)
     one.push_reserved(payload(table, slot));
 }
 
-// The message that lies in a slot of the lanes is sent again, in the same slot of the publisher. `one` has room for one value, which
-// is taken there.
+// Begins to send the message that lies in a slot of the lanes again, in the same slot of the publisher. `one` has capacity for one value,
+// into which the value is read.
 fn begin<T: Words, U: Words>(
     slots: &LeftSlots<'_>,
     slot: usize,
@@ -61,7 +61,7 @@ fn begin<T: Words, U: Words>(
     sender.begin_again(slot, between.0, elements(slots.table, at), between.1, one);
 }
 
-// The slot of the publisher that a slot of the lanes is, if it is one of its current segment.
+// The publisher's slot that this slot of the lanes is, if it is one of the publisher's current segment.
 fn own_slot<T: Copy, U: Copy>(
     slots: &LeftSlots<'_>,
     slot: u64,
@@ -82,7 +82,7 @@ fn own_slot<T: Copy, U: Copy>(
     Some(own)
 }
 
-// The same, if the connection of an index goes on.
+// The publisher's slot that this slot of the lanes is, if it is one of the current segment and the connection with this index is live.
 fn live_slot<T: Copy, U: Copy>(
     slots: &LeftSlots<'_>,
     slot: u64,
@@ -103,8 +103,8 @@ fn live_slot<T: Copy, U: Copy>(
     own_slot(slots, slot, sender)
 }
 
-// The message that lies in a slot of the lanes waits at the connection of an index, behind those that wait there. Nothing happens where
-// the slot is none of the publisher's, or the connection doesn't go on.
+// Puts the message that lies in a slot of the lanes behind those that wait at the connection with this index. Does nothing if the slot
+// isn't one of the publisher's, or the connection isn't live.
 fn put_own<T: Words, U: Words>(
     slots: &LeftSlots<'_>,
     slot: u64,
@@ -131,9 +131,9 @@ fn put_own<T: Words, U: Words>(
     }
 }
 
-/// What waits at a connection of lanes waits at the connection of an index of a publisher, at which nothing waits yet, in the
-/// same slots of the publisher: these begin at `first` in the lanes. `one` has room for one value, which is taken there; no
-/// memory is.
+/// Puts the messages that wait at a connection of the lanes into the mailbox of the publisher's connection with this index, which must be
+/// empty. Each message keeps its slot; `first` is the publisher's first slot in the lanes. `one` must have capacity for one value, into
+/// which each value is read; nothing is allocated.
 pub fn restore_waiting<T: Words, U: Words>(
     lanes: &LaneMachine,
     numbered: bool,
@@ -165,7 +165,7 @@ pub fn restore_waiting<T: Words, U: Words>(
     }
 }
 
-// The message that lies in a slot of the lanes is the newest of the history. Nothing happens where the slot is none of the publisher's.
+// Makes the message that lies in a slot of the lanes the newest one of the history. Does nothing if the slot isn't one of the publisher's.
 fn remember_own<T: Words, U: Words>(
     slots: &LeftSlots<'_>,
     slot: u64,
@@ -192,8 +192,9 @@ fn remember_own<T: Words, U: Words>(
     }
 }
 
-/// These slots of the lanes, the oldest first, are the history of a publisher whose history is empty, in the same slots of the
-/// publisher: these begin at `first` in the lanes. `one` has room for one value, which is taken there; no memory is.
+/// Makes the messages in these slots of the lanes, the oldest first, the history of a publisher, which must be empty. Each message keeps
+/// its slot; `first` is the publisher's first slot in the lanes. `one` must have capacity for one value, into which each value is read;
+/// nothing is allocated.
 pub fn restore_history<T: Words, U: Words>(
     table: &WordTable,
     numbered: bool,

@@ -1,4 +1,4 @@
-//! A message out of the words of a slot.
+//! Reads a message from the words of a slot.
 ghost use Rattle.std.specs.Prelude.{◌≡◌, ◌+◌, ◌≤◌, ◌<◌, length, take, drop, slice_index, Some};
 ghost use Rattle.iox_lanes_machine.specs.LanesBase.Numbers.{number_of, words_of};
 ghost use Rattle.iox_lanes_machine.specs.LanesBase.declared.words.word.SharedWord.TheVariants as word;
@@ -9,7 +9,7 @@ ghost use Rattle.iox_lanes_opening.specs.Middles.{middle_of, middle_count};
 use iox_lanes_base::words::{SharedWord, SlotWord, WordTable};
 use iox_queues_base::Words;
 
-/// How many elements the header of a slot says.
+/// The number of elements that the header of a slot says.
 pub fn elements(table: &WordTable, slot: u64) -> u64
     requires { slot < table.now.sizes.slots }
     ensures { result ≡ elements_in table.now slot }
@@ -20,8 +20,8 @@ pub fn elements(table: &WordTable, slot: u64) -> u64
     })
 }
 
-/// How many words lie between the three of a header and the payload: those of a user header, and before them the number, where messages
-/// have numbers. At most the largest number.
+/// How many words lie between the three words of the header and the payload: those of the user header, and before them the sequence number,
+/// where messages have one. At most 2^64 - 1.
 pub fn middle_count<U: Words>(numbered: bool) -> usize
     ensures { result ≡ middle_count numbered U.WORDS }
 {
@@ -32,7 +32,7 @@ pub fn middle_count<U: Words>(numbered: bool) -> usize
     }
 }
 
-/// The number, where messages have numbers, and the user header in a slot.
+/// The sequence number, where messages have one, and the user header in a slot.
 #[tactic(auto, using(crate::proofs::SlotWords::one_before))]
 pub fn middle<U: Words>(table: &WordTable, slot: u64, numbered: bool) -> (Option<u64>, U)
     requires slot { slot < table.now.sizes.slots }
@@ -49,7 +49,7 @@ pub fn middle<U: Words>(table: &WordTable, slot: u64, numbered: bool) -> (Option
     }
 }
 
-// The number that stands before the words of a user header, and this.
+// The sequence number, which is the first of these words, and the user header in the words after it.
 fn numbered_middle<U: Words>(words: &[u64]) -> (Option<u64>, U)
     requires { length words.now ≡ U.WORDS + 1 }
     ensures { result ≡ (Some (slice_index words.now 0), U.of_parts (drop 1 words.now)) }
@@ -68,7 +68,7 @@ pub fn payload<T: Words>(table: &WordTable, slot: u64) -> T
     T::of_words(words_from(table, from, T::WORDS))
 }
 
-// So many words of the table from a number on.
+// The `count` words of the table from this number on.
 fn words_from(table: &WordTable, from: u64, count: usize) -> &[u64]
     requires { from + count ≤ length table.now.words }
     ensures words { result.now ≡ take count (drop from table.now.words) }
@@ -79,7 +79,7 @@ fn words_from(table: &WordTable, from: u64, count: usize) -> &[u64]
     &words[from..from + count]
 }
 
-// The number of the first word of a slot's user header.
+// The number of the first word after the header in a slot.
 #[tactic(auto, using(crate::proofs::SlotWords::slot_fits))]
 fn header_from(table: &WordTable, slot: u64) -> u64
     requires slot { slot < table.now.sizes.slots }

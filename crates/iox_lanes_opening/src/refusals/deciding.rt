@@ -1,4 +1,4 @@
-//! Who decides by an object, and who waits or fails at a full mailbox.
+//! Which ports have handlers of the caller, and which would wait or fail at a full mailbox.
 ghost use Rattle.std.specs.Prelude.{◌≡◌, option_copied};
 ghost use Rattle.std.specs.List.{list_any};
 ghost use Rattle.iox_domain.specs.Kept.{kept_under};
@@ -12,7 +12,7 @@ use iox_domain_values::{
     BackpressureAction, BackpressureDecision, BackpressureHandler, DegradationHandler, Handlers,
 };
 
-/// Whether an object that the caller made decides for some port.
+/// Whether some port has a handler that is an object of the caller.
 pub fn has_handlers<T: Copy, U: Copy>(domain: &Domain<T, U>) -> bool
     ensures { result ≡ has_handlers domain.now }
 {
@@ -43,7 +43,7 @@ fn has_subscriber_handlers<T: Copy, U: Copy>(domain: &Domain<T, U>) -> bool
     false
 }
 
-// Whether an object decides for a publisher.
+// Whether a publisher has a handler that is an object.
 fn has_object(handlers: Option<&Handlers>) -> bool
     ensures { result ≡ has_object (option_copied handlers.entry) }
 {
@@ -53,7 +53,7 @@ fn has_object(handlers: Option<&Handlers>) -> bool
     }
 }
 
-// Whether an object is asked at a full mailbox.
+// Whether a send asks an object at a full mailbox.
 fn asks_object(handler: &Option<BackpressureHandler>) -> bool
     ensures { result ≡ asks_object handler.now }
 {
@@ -63,14 +63,14 @@ fn asks_object(handler: &Option<BackpressureHandler>) -> bool
     }
 }
 
-// Whether an object is asked where a connection failed.
+// Whether an object is asked when a connection fails.
 fn is_object(handler: &DegradationHandler) -> bool
     ensures { result ≡ is_object handler.now }
 {
     handler.fixed_action().is_none()
 }
 
-// Whether an object decides for a subscriber.
+// Whether a subscriber has a handler that is an object.
 fn is_kept_object(handler: Option<&DegradationHandler>) -> bool
     ensures { result ≡ is_kept_object (option_copied handler.entry) }
 {
@@ -80,7 +80,7 @@ fn is_kept_object(handler: Option<&DegradationHandler>) -> bool
     }
 }
 
-/// Whether a full mailbox doesn't drop its oldest message, and a send of some publisher would wait there.
+/// Whether mailboxes don't overflow, and a send of some publisher would wait at a full one.
 pub fn is_retrying<T: Copy, U: Copy>(domain: &Domain<T, U>) -> bool
     ensures { result ≡ is_retrying domain.now }
 {
@@ -98,7 +98,7 @@ fn has_retrying<T: Copy, U: Copy>(domain: &Domain<T, U>) -> bool
     false
 }
 
-// Whether a publisher that didn't leave would wait at a full mailbox.
+// Whether this publisher isn't closed, and a send of it would wait at a full mailbox.
 fn retries<T: Copy, U: Copy>(
     handlers: &Kept<Handlers>,
     number: u64,
@@ -109,7 +109,7 @@ fn retries<T: Copy, U: Copy>(
     port.stands && would_wait(handlers.get(number))
 }
 
-// Whether a send waits at a full mailbox.
+// Whether a send with these handlers waits at a full mailbox.
 fn would_wait(handlers: Option<&Handlers>) -> bool
     ensures { result ≡ would_wait (option_copied handlers.entry) }
 {
@@ -131,7 +131,7 @@ fn is_retry(decision: BackpressureDecision) -> bool
     }
 }
 
-/// Whether a send fails at a full mailbox: where the fixed action is to pass over and fail.
+/// Whether a send with these handlers fails at a full mailbox: the fixed action is to skip the mailbox and fail.
 pub fn would_fail(handlers: Option<&Handlers>) -> bool
     ensures { result ≡ would_fail (option_copied handlers.entry) }
 {
@@ -153,7 +153,7 @@ fn is_failure(decision: BackpressureDecision) -> bool
     }
 }
 
-// What is answered at a full mailbox each time, if anybody answers the same each time.
+// The action that the handler takes at each full mailbox, if it is a fixed one.
 fn fixed_answer(handler: &Option<BackpressureHandler>) -> Option<BackpressureAction>
     ensures { result ≡ fixed_answer handler.now }
 {

@@ -1,4 +1,4 @@
-//! One thing asked of each publisher.
+//! A question asked of each publisher.
 ghost use Rattle.std.specs.Prelude.{◌≡◌};
 ghost use Rattle.std.specs.List.{list_any};
 ghost use Rattle.iox_lanes_opening.specs.EachAsked.{applies};
@@ -11,20 +11,20 @@ use crate::refusals::soundness::is_misfit;
 use iox_domain::ports::ServicePorts;
 use iox_domain_ports::PublisherPort;
 
-/// What may keep a publisher from becoming a lane, as far as its port and the list of publishers tell.
+/// What may keep a publisher from becoming a lane, as far as its port and the list of publishers show.
 #[derive(Clone, Copy)]
 pub(crate) enum Question {
-    /// Whether a send of it waits.
+    /// Whether a send of the publisher waits.
     Blocked,
-    /// Whether its room may grow.
+    /// Whether its capacity for values may grow.
     Growing,
-    /// Whether it left, or something of it is out.
+    /// Whether it is closed, or something of it is out.
     Lingering,
-    /// Whether it deals in another number of values than one.
+    /// Whether it has another number of values than one in an element, a slot or a message.
     Slices,
-    /// Whether it isn't made for what is agreed.
+    /// Whether it doesn't have what the service agreed on, or its messages break it.
     Misfit,
-    /// Whether its last number is too large.
+    /// Whether its last sequence number is too large.
     TooLarge,
 }
 

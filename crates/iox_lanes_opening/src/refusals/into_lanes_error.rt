@@ -1,39 +1,39 @@
-//! Why a domain doesn't become lanes.
+//! Why a domain can't become lanes.
 ghost use Rattle.std.specs.Prelude.{◌≡◌};
 ghost use Rattle.iox_lanes_opening.specs.Texts.{into_lanes_text};
 
 use std::fmt;
 use thiserror::Error;
 
-/// Why a domain doesn't become lanes. This port's own.
+/// Why a domain can't become lanes. Not in `iceoryx2`.
 #[derive(Clone, Copy, Debug, PartialEq, Eq, Hash, Error)]
 pub enum IntoLanesError {
     /// A send of some publisher waits at a full mailbox.
     Blocked,
-    /// A listed port didn't follow the list of the others as it is, a listed publisher and a listed subscriber aren't connected, or a
-    /// listed publisher has a connection for a place that lists nobody.
+    /// A listed port hasn't followed the current list of the other side, a listed publisher and a listed subscriber aren't connected, or a
+    /// listed publisher has a connection for a place where nobody is listed.
     ConnectionsNotUpToDate,
-    /// The room of some publisher may grow.
+    /// The capacity of some publisher may grow: its allocation strategy isn't static.
     NotStatic,
-    /// An object that the caller made decides for some port.
+    /// Some port has a handler that is an object of the caller.
     HasHandlers,
-    /// A full mailbox doesn't drop its oldest message, and a send of some publisher would wait there.
+    /// Mailboxes don't overflow, and a send of some publisher would wait at a full one.
     Retrying,
-    /// A loan or a sample is out, a connection whose publisher left still stands, or a port that left isn't gone.
+    /// A loan or a sample is out, a connection of a closed publisher still exists, or a closed port isn't gone.
     Lingering,
-    /// Some publisher has room for another number of values than one, or a message of it has another.
+    /// Some publisher has capacity for another number of values than one, or one of its messages has another number.
     HasSlices,
-    /// The ports are such as no calls leave: one is listed at another place than its own, or a publisher isn't made for what is agreed,
-    /// or its messages don't keep to that, or two connections of a subscriber come from one publisher.
+    /// The ports are in a state that no calls leave: one is listed at another place than its own, a publisher doesn't have what the service
+    /// agreed on or its messages break it, or two connections of a subscriber come from one publisher.
     Unsound,
-    /// The last number that some publisher gave a message is 2^63 or more.
+    /// The last sequence number of some publisher is 2^63 or more.
     SequenceTooLarge,
-    /// No memory was found.
+    /// An allocation failed.
     OutOfMemory,
 }
 
 impl IntoLanesError {
-    /// What it displays as.
+    /// The text that `Display` writes: `IntoLanesError::` and the name of the variant.
     pub fn text(&self) -> &'static str
         ensures { result.now ≡ into_lanes_text self.now }
     {

@@ -1,4 +1,4 @@
-//! What is still out, and who left and isn't gone.
+//! Loans and samples that are out, and closed ports that aren't gone.
 ghost use Rattle.std.specs.Prelude.{◌≡◌};
 ghost use Rattle.std.specs.List.{list_any};
 ghost use Rattle.iox_domain.specs.DomainPorts.Ports.{connection_of};
@@ -10,7 +10,7 @@ use crate::refusals::each_asked::{Question, has_such};
 use iox_domain::ports::ServicePorts;
 use iox_domain_ports::{PublisherPort, Publishers, SubscriberPort};
 
-/// Whether a loan or a sample is out, a connection whose publisher left still stands, expired or at its place, or a port that left isn't
+/// Whether a loan or a sample is out, a connection of a closed publisher still exists, expired or at its place, or a closed port isn't
 /// gone.
 pub fn is_lingering<T: Copy, U: Copy>(ports: &ServicePorts<T, U>) -> bool
     ensures { result ≡ is_lingering ports.now }
@@ -18,7 +18,7 @@ pub fn is_lingering<T: Copy, U: Copy>(ports: &ServicePorts<T, U>) -> bool
     has_such(ports, Question::Lingering) || has_lingering_subscriber(ports)
 }
 
-/// Whether a publisher left, or something of it is out.
+/// Whether a publisher is closed or isn't listed at its place, or something of it is out.
 pub(crate) fn publisher_lingers<T: Copy, U: Copy>(
     ports: &ServicePorts<T, U>,
     number: u64,
@@ -29,7 +29,7 @@ pub(crate) fn publisher_lingers<T: Copy, U: Copy>(
     !port.stands || !is_listed_publisher(ports, number, port) || has_out(port)
 }
 
-// Whether the publisher of a number is on the list, at its place.
+// Whether the publisher with this number is listed at its place.
 fn is_listed_publisher<T: Copy, U: Copy>(
     ports: &ServicePorts<T, U>,
     number: u64,
@@ -43,7 +43,7 @@ fn is_listed_publisher<T: Copy, U: Copy>(
     }
 }
 
-// Whether a loan of a publisher is out, or a connection of it lingers.
+// Whether a loan of a publisher is out, or one of its connections ended or has a borrowed message.
 fn has_out<T: Copy, U: Copy>(port: &PublisherPort<T, U>) -> bool
     ensures { result ≡ has_out port.now }
 {
@@ -61,7 +61,7 @@ fn has_lingering_connection<T: Copy, U: Copy>(port: &PublisherPort<T, U>) -> boo
     false
 }
 
-// Whether a connection ended, and is still there, or a message of it is borrowed.
+// Whether the connection with this index ended and still exists, or a message of it is borrowed.
 fn connection_lingers<T: Copy, U: Copy>(port: &PublisherPort<T, U>, index: usize) -> bool
     ensures { result ≡ connection_lingers (connection_of index port.now) }
 {
@@ -83,7 +83,7 @@ fn has_lingering_subscriber<T: Copy, U: Copy>(ports: &ServicePorts<T, U>) -> boo
     false
 }
 
-// Whether a subscriber left, or something is left over of it.
+// Whether a subscriber is closed or isn't listed at its place, or something is left over of it.
 fn subscriber_lingers<T: Copy, U: Copy>(
     ports: &ServicePorts<T, U>,
     number: u64,
@@ -96,7 +96,7 @@ fn subscriber_lingers<T: Copy, U: Copy>(
         || has_left_over(&ports.publishers, port)
 }
 
-// Whether the subscriber of a number is on the list, at its place.
+// Whether the subscriber with this number is listed at its place.
 fn is_listed_subscriber<T: Copy, U: Copy>(
     ports: &ServicePorts<T, U>,
     number: u64,
@@ -110,7 +110,7 @@ fn is_listed_subscriber<T: Copy, U: Copy>(
     }
 }
 
-// Whether a subscriber holds a sample, or a connection of it expired or leads to a publisher that left.
+// Whether a subscriber holds a sample, or a connection of it expired or comes from a closed publisher.
 fn has_left_over<T: Copy, U: Copy>(publishers: &Publishers<T, U>, port: &SubscriberPort) -> bool
     ensures { result ≡ has_left_over publishers.now port.now }
 {
@@ -128,7 +128,7 @@ fn leads_nowhere<T: Copy, U: Copy>(publishers: &Publishers<T, U>, port: &Subscri
     false
 }
 
-// Whether the publisher of the connection of a key left.
+// Whether the connection with this key comes from a closed publisher.
 fn leads_nowhere_by<T: Copy, U: Copy>(
     publishers: &Publishers<T, U>,
     port: &SubscriberPort,

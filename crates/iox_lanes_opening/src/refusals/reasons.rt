@@ -14,16 +14,19 @@ use iox_domain::Domain;
 use iox_domain::ports::ServicePorts;
 use iox_domain_values::AllocationStrategy;
 
-/// Why a domain can't become lanes, where memory is ample: the first of these reasons that applies, and None where none does.
+/// Why a domain can't become lanes, apart from memory: the first of these reasons that applies, or None.
 ///
-/// `Blocked`: a send of some publisher waits at a full mailbox. `ConnectionsNotUpToDate`: a listed port didn't follow the list of the
-/// others as it is, a listed publisher and a listed subscriber share no connection, or a listed publisher has one for a place that lists
-/// nobody. `NotStatic`: the room of some publisher may grow. `HasHandlers`: an object that the caller made decides for some port.
-/// `Retrying`: a full mailbox doesn't drop its oldest message, and a send of some publisher would wait there. `Lingering`: a loan or a
-/// sample is out, a connection whose publisher left still stands, or a port that left isn't gone. `HasSlices`: some publisher
-/// deals in another number of values than one.
-/// `Unsound`: the ports are such as no calls leave. `SequenceTooLarge`: the last number that some publisher gave a message is 2^63 or more.
-/// `OutOfMemory` is not told here.
+/// `Blocked`: a send of some publisher waits at a full mailbox.
+/// `ConnectionsNotUpToDate`: a listed port hasn't followed the current list of the other side, a listed publisher and a listed subscriber
+/// share no connection, or a listed publisher has a connection for a place where nobody is listed.
+/// `NotStatic`: the capacity of some publisher may grow.
+/// `HasHandlers`: some port has a handler that is an object of the caller.
+/// `Retrying`: mailboxes don't overflow, and a send of some publisher would wait at a full one.
+/// `Lingering`: a loan or a sample is out, a connection of a closed publisher still exists, or a closed port isn't gone.
+/// `HasSlices`: some publisher has another number of values than one in an element, a slot or a message.
+/// `Unsound`: the ports are in a state that no calls leave.
+/// `SequenceTooLarge`: the last sequence number of some publisher is 2^63 or more.
+/// This function never returns `OutOfMemory`.
 pub fn refusal<T: Copy, U: Copy>(domain: &Domain<T, U>) -> Option<IntoLanesError>
     ensures { result ≡ first_reason domain.now }
 {
@@ -63,14 +66,14 @@ fn is_blocked<T: Copy, U: Copy>(ports: &ServicePorts<T, U>) -> bool
     has_such(ports, Question::Blocked)
 }
 
-// Whether the room of some publisher may grow.
+// Whether the capacity of some publisher may grow.
 fn has_growing<T: Copy, U: Copy>(ports: &ServicePorts<T, U>) -> bool
     ensures { result ≡ has_growing ports.now }
 {
     has_such(ports, Question::Growing)
 }
 
-/// Whether room of this strategy may grow.
+/// Whether a capacity with this allocation strategy may grow.
 pub(crate) fn may_grow(allocation: AllocationStrategy) -> bool
     ensures { result ≡ may_grow allocation }
 {

@@ -1,4 +1,4 @@
-//! What isn't one value.
+//! Publishers or messages that don't have single values.
 ghost use Rattle.std.specs.Prelude.{◌≡◌, ◌<◌, true, length, slice_get};
 ghost use Rattle.std.specs.List.{list_any};
 ghost use Rattle.iox_domain.specs.DomainSlots.Uses.{is_there};
@@ -10,15 +10,15 @@ use iox_domain::Domain;
 use iox_domain_ports::PublisherPort;
 use iox_domain_ports::reading::waiting_at;
 
-/// Whether some publisher deals in slices: an element of it has another number of values than one, its slots have room for another, or a
-/// message that waits or is kept has another.
+/// Whether some publisher has slices: an element of it has another number of values than one, its slots have capacity for another number,
+/// or a waiting message or one of its history has another number.
 pub fn has_slices<T: Copy, U: Copy>(domain: &Domain<T, U>) -> bool
     ensures { result ≡ has_slices domain.now }
 {
     has_such(&domain.state.ports, Question::Slices)
 }
 
-/// Whether a publisher deals in slices.
+/// Whether a publisher has slices.
 pub(crate) fn deals_in_slices<T: Copy, U: Copy>(port: &PublisherPort<T, U>) -> bool
     ensures { result ≡ deals_in_slices port.now }
 {
@@ -42,7 +42,7 @@ fn remembers_slice<T: Copy, U: Copy>(port: &PublisherPort<T, U>) -> bool
     false
 }
 
-// Whether the message at a place of the history isn't one value.
+// Whether the message at this place of the history isn't a single value.
 fn is_slice_remembered<T: Copy, U: Copy>(port: &PublisherPort<T, U>, place: usize) -> bool
     requires { place < length port.now.sender.uses.history }
     ensures { result ≡ is_slice_in (slice_get port.now.sender.uses.history place) }
@@ -71,7 +71,7 @@ fn slice_waits_at<T: Copy, U: Copy>(port: &PublisherPort<T, U>, index: usize) ->
     }
 }
 
-// Whether a message that waits at a connection isn't one value.
+// Whether a message that waits at this connection isn't a single value.
 fn slice_waits<T: Copy, U: Copy>(port: &PublisherPort<T, U>, index: usize) -> bool
     requires { is_there (connection_of index port.now) ≡ true }
     ensures { result ≡ slice_waits (connection_of index port.now) }
@@ -84,7 +84,7 @@ fn slice_waits<T: Copy, U: Copy>(port: &PublisherPort<T, U>, index: usize) -> bo
     false
 }
 
-// Whether the message that waits at a place of a connection isn't one value.
+// Whether the message that waits at this place of the connection isn't a single value.
 fn is_slice_waiting<T: Copy, U: Copy>(port: &PublisherPort<T, U>, index: usize, at: usize) -> bool
     requires there { is_there (connection_of index port.now) ≡ true }
     requires waits { at < length (connection_of index port.now).waiting }

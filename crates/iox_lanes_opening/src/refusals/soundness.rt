@@ -1,4 +1,4 @@
-//! What no calls leave of the ports of a service.
+//! States of the ports of a service that no calls leave.
 ghost use Rattle.std.specs.Prelude.{◌≡◌, ◌<◌, true, length, slice_get};
 ghost use Rattle.std.specs.List.{list_any};
 ghost use Rattle.iox_domain.specs.DomainPorts.Ports.{connection_of};
@@ -18,16 +18,17 @@ use iox_domain_ports::{
 };
 use iox_domain_values::ServiceSizes;
 
-/// Whether the ports are such as no calls leave, where the room of no publisher may grow: a port is listed at another place than its own,
-/// a publisher has slots of more segments than one or keeps another number of messages than agreed, a connection is made for another
-/// number of them, more are kept or wait than may, or two in one slot, or two connections of a subscriber come from one publisher.
+/// Whether the ports are in a state that no calls leave, provided that no publisher's capacity may grow: a port is listed at another place
+/// than its own; a publisher has slots of several segments, has another history size than agreed, or has sequence numbers though the
+/// service doesn't, or the reverse; a connection is made for no message or for more than agreed; more messages are kept or wait than may,
+/// or two of them in one slot; or two connections of a subscriber come from one publisher.
 pub fn is_unsound<T: Copy, U: Copy>(ports: &ServicePorts<T, U>) -> bool
     ensures { result ≡ is_unsound ports.now }
 {
     !are_placed(ports) || has_such(ports, Question::Misfit) || has_attached_twice(ports)
 }
 
-// Whether each port is listed at its own place alone.
+// Whether each port is listed only at its own place.
 fn are_placed<T: Copy, U: Copy>(ports: &ServicePorts<T, U>) -> bool
     ensures { result ≡ are_placed ports.now }
 {
@@ -59,7 +60,7 @@ fn is_publisher_placed_at<T: Copy, U: Copy>(
     }
 }
 
-// Whether the publisher that is listed at a place has this place.
+// Whether the publisher that is listed at this place has this place.
 fn is_publisher_placed<T: Copy, U: Copy>(
     ports: &ServicePorts<T, U>,
     place: usize,
@@ -98,7 +99,7 @@ fn is_subscriber_placed_at<T: Copy, U: Copy>(
     }
 }
 
-// Whether the subscriber that is listed at a place has this place.
+// Whether the subscriber that is listed at this place has this place.
 fn is_subscriber_placed<T: Copy, U: Copy>(
     ports: &ServicePorts<T, U>,
     place: usize,
@@ -112,7 +113,7 @@ fn is_subscriber_placed<T: Copy, U: Copy>(
     }
 }
 
-/// Whether a publisher has slots of more segments than one, or isn't made for what is agreed, or its messages don't keep to that.
+/// Whether a publisher has slots of several segments, doesn't have what the service agreed on, or its messages break it.
 pub(crate) fn is_misfit<T: Copy, U: Copy>(sizes: ServiceSizes, port: &PublisherPort<T, U>) -> bool
     ensures { result ≡ is_misfit sizes port.now }
 {
@@ -123,14 +124,14 @@ pub(crate) fn is_misfit<T: Copy, U: Copy>(sizes: ServiceSizes, port: &PublisherP
         || has_ill_connection(sizes, port)
 }
 
-// Whether a publisher numbers its messages though that isn't agreed, or doesn't though it is.
+// Whether a publisher has sequence numbers though the service doesn't, or the reverse.
 fn is_misnumbered<T: Copy, U: Copy>(sizes: ServiceSizes, port: &PublisherPort<T, U>) -> bool
     ensures { result ≡ is_misnumbered sizes port.now }
 {
     port.last_sequence.is_some() != sizes.sequence_numbers
 }
 
-// Whether a publisher keeps more messages than agreed, or two in one slot.
+// Whether a publisher's history has more messages than agreed, or two in one slot.
 fn remembers_ill<T: Copy, U: Copy>(sizes: ServiceSizes, port: &PublisherPort<T, U>) -> bool
     ensures { result ≡ remembers_ill sizes port.now }
 {
@@ -148,7 +149,7 @@ fn remembers_twice<T: Copy, U: Copy>(port: &PublisherPort<T, U>) -> bool
     false
 }
 
-// Whether the message at a place of the history stands in the slot of one before it.
+// Whether the message at this place of the history is in the slot of an earlier one.
 fn is_remembered_again<T: Copy, U: Copy>(port: &PublisherPort<T, U>, place: usize) -> bool
     requires { place < length port.now.sender.uses.history }
     ensures { result ≡ stands_again port.now.sender.uses.history place }
@@ -195,7 +196,7 @@ fn waits_ill_at<T: Copy, U: Copy>(
     }
 }
 
-// Whether none may wait at a connection, or more than agreed, or more do than may, or two in one slot.
+// Whether a connection is made for no message or for more than agreed, more wait there than may, or two of them are in one slot.
 fn waits_ill<T: Copy, U: Copy>(
     sizes: ServiceSizes,
     port: &PublisherPort<T, U>,
@@ -223,7 +224,7 @@ fn waits_twice<T: Copy, U: Copy>(port: &PublisherPort<T, U>, index: usize) -> bo
     false
 }
 
-// Whether the message that waits at a place of a connection stands in the slot of one before it.
+// Whether the message that waits at this place of the connection is in the slot of an earlier one.
 fn waits_again<T: Copy, U: Copy>(port: &PublisherPort<T, U>, index: usize, place: usize) -> bool
     requires there { is_there (connection_of index port.now) ≡ true }
     requires waits { place < length (connection_of index port.now).waiting }
@@ -277,7 +278,7 @@ fn attaches_twice(port: &SubscriberPort) -> bool
     false
 }
 
-// Whether the connection of a key comes from the publisher of one before it.
+// Whether the connection with this key comes from the publisher of an earlier one.
 fn comes_again(port: &SubscriberPort, key: usize) -> bool
     ensures { result ≡ comes_again port.now key }
 {

@@ -1,4 +1,4 @@
-//! Whether each port follows the others as they are, and is connected to them.
+//! Whether each port has followed the current list of the other side, and is connected to its ports.
 ghost use Rattle.std.specs.Prelude.{◌≡◌, get_or, None};
 ghost use Rattle.iox_domain.specs.Rolls.{is_listed};
 ghost use Rattle.iox_lanes_opening.specs.Listed.{holds_at, of_each_listed};
@@ -8,9 +8,10 @@ ghost use Rattle.iox_lanes_opening.specs.UpToDate.{has_stray_tie, is_stray, is_c
 use iox_domain::ports::{Roll, ServicePorts};
 use iox_domain_ports::{Member, PublisherEntry, PublisherPort, SubscriberEntry, SubscriberPort};
 
-/// Whether each listed port followed the list of the others as it is, and each listed publisher is connected to each listed subscriber: a
-/// place is tied to a connection that goes on, and the subscriber reads there by the key that it has for the publisher's place. No place
-/// that lists nobody is tied to a connection of a listed publisher; no calls leave one tied, once the list was followed.
+/// Whether each listed port has followed the current list of the other side, and each listed publisher is connected to each listed
+/// subscriber: the subscriber's place is tied to a live connection of the publisher, and the subscriber reads there by the key that it has
+/// for the publisher's place. A place where nobody is listed must not be tied to a connection of a listed publisher; no calls leave such a
+/// place tied, once the list was followed.
 pub fn is_up_to_date<T: Copy, U: Copy>(ports: &ServicePorts<T, U>) -> bool
     ensures { result ≡ is_up_to_date ports.now }
 {
@@ -107,7 +108,7 @@ fn is_connected<T: Copy, U: Copy>(
     }
 }
 
-// Whether a publisher and a subscriber have a connection in common.
+// Whether a publisher and a subscriber share a connection.
 fn is_joined_to<T: Copy, U: Copy>(
     place: usize,
     number: u64,
@@ -125,7 +126,7 @@ fn is_joined_to<T: Copy, U: Copy>(
     }
 }
 
-// Whether a connection goes on, and this subscriber reads there.
+// Whether the connection with this index is live, and this subscriber reads there.
 fn is_read_by<T: Copy, U: Copy>(port: &PublisherPort<T, U>, reader: u64, index: usize) -> bool
     ensures { result ≡ is_read_by reader port.now index }
 {
@@ -141,7 +142,7 @@ fn is_reader<T: Copy, U: Copy>(port: &PublisherPort<T, U>, number: u64, index: u
     }
 }
 
-// Whether a subscriber has this connection by the key that it has for a place of the list of publishers.
+// Whether a subscriber has this publisher's connection by the key that it has for this place of the list of publishers.
 fn reads_from(subscriber: &SubscriberPort, place: usize, publisher: u64, index: usize) -> bool
     ensures { result ≡ reads_from publisher index subscriber.now (get_or subscriber.now.places.items place None) }
 {
@@ -154,7 +155,7 @@ fn reads_from(subscriber: &SubscriberPort, place: usize, publisher: u64, index: 
     }
 }
 
-// Whether a place that lists nobody is tied to a connection of a publisher.
+// Whether a place where nobody is listed is tied to a connection of this publisher.
 fn has_stray_tie<T: Copy, U: Copy>(list: &Roll<SubscriberEntry>, port: &PublisherPort<T, U>) -> bool
     ensures { result ≡ has_stray_tie list.now port.now }
 {

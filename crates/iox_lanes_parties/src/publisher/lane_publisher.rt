@@ -1,4 +1,4 @@
-//! A publisher, free of any words.
+//! A publisher, without the shared words.
 ghost use Rattle.std.specs.Prelude.{◌≡◌, true, if◌then◌else◌, length, replicate, slice_get, IfOk};
 ghost use Rattle.iox_lanes_base.specs.Publishing.{publisher_is_idle};
 ghost use Rattle.iox_lanes_parties.specs.PublisherKeeping.{may_remember};
@@ -12,17 +12,16 @@ use iox_lanes_base::calls::{PublisherCall, PublisherChange, Route, reroute};
 use std::alloc::{AllocError, Global};
 use std::marker::Model;
 
-/// A publisher: its connections in place order, what its slots are used for, the words that its write or send stores, and the
-/// call that it is in.
+/// A publisher: its connections by place, what its slots are used for, the words that its write or send stores, and the stage of its call.
 ///
-/// All its memory is taken when it is made.
+/// All its memory is allocated when it is made.
 #[derive(Drop)]
 pub struct LanePublisher {
     routes: Vec<Route>,
     book: SlotBook,
     payload: Vec<u64>,
     head: Vec<u64>,
-    // The call in hand stores header and user header, and not a payload.
+    // Whether the call under way stores header and user header, not a payload.
     sends: bool,
     call: PublisherCall,
 }
@@ -43,8 +42,8 @@ impl Model for LanePublisher {
 }
 
 impl LanePublisher {
-    /// A publisher with these connections and slots, whose payloads and headers have so many words. It fails only where an
-    /// allocation fails.
+    /// A publisher with these connections and slots, and with this many words in payloads and in heads (header and user header).
+    /// `AllocError` is returned only where an allocation fails.
     pub fn new(
         alloc: Global,
         routes: &[Route],
@@ -72,21 +71,21 @@ impl LanePublisher {
         &self.book
     }
 
-    /// The connection at a place, if there is one.
+    /// The connection at this place, if there is one.
     pub fn route(&self, place: u64) -> Option<Route>
         ensures { result ≡ slice_get self.now.routes place }
     {
         self.routes.get(place as usize).copied()
     }
 
-    /// The connection at a place was found to have a slot.
+    /// Counts a use of the slot at the connection of this place, where lanes found the slot.
     pub fn find(&mut self, place: u64, slot: u64)
         ensures { self.new ≡ found_at place slot self.old }
     {
         self.book.change(PublisherChange::Put { place, slot });
     }
 
-    /// A slot was found to be the newest of the history.
+    /// Makes a slot that lanes found the newest one of the history.
     pub fn find_newest(&mut self, slot: u64)
         requires { may_remember slot self.old.book ≡ true }
         ensures { self.new ≡ found_last slot self.old }
@@ -94,7 +93,7 @@ impl LanePublisher {
         self.book.find_newest(slot);
     }
 
-    /// From now on it has just its first slots, and so many loans may be out.
+    /// Keeps only the first `slots` slots, and sets how many loans may be out.
     pub fn resize(&mut self, slots: u64, most_loans: u64)
         ensures { self.new ≡ with_slots slots most_loans self.old }
     {
@@ -102,7 +101,7 @@ impl LanePublisher {
             .resize(self.routes.len(), slots as usize, most_loans);
     }
 
-    /// The connection of this number is this one from now on.
+    /// Replaces the connection with this one's number by this one.
     pub fn meet(&mut self, route: Route)
         ensures { self.new ≡ met_anew route self.old }
     {
@@ -116,14 +115,14 @@ impl LanePublisher {
         self.payload.len()
     }
 
-    /// How many words header and user header have.
+    /// How many words header and user header have together.
     pub fn head_words(&self) -> usize
         ensures { result ≡ length self.now.head }
     {
         self.head.len()
     }
 
-    /// The call that it is in.
+    /// The stage of its call.
     #[inline(always)]
     pub fn call(&self) -> &PublisherCall
         ensures { result.now ≡ self.now.call }
@@ -150,8 +149,8 @@ impl LanePublisher {
         self.call = PublisherCall::write(&self.payload, slot);
     }
 
-    /// Begins to send the slot of a loan with these words of header and user header, and with this number, if there is one, as the fourth
-    /// word of the header.
+    /// Begins to send the slot of a loan with these words of header and user header, with this sequence number, if there is one, as the
+    /// fourth word.
     pub fn begin_send(&mut self, slot: u64, head: &[u64], number: Option<u64>)
         requires idle { publisher_is_idle self.old.call ≡ true }
         requires words { length head.now ≡ length self.old.head }
@@ -171,7 +170,7 @@ impl LanePublisher {
         self.call = PublisherCall::drop_loan(slot);
     }
 
-    /// Goes on after the answer of that access, and keeps what it changes.
+    /// Goes on after the answer of the next access, and keeps what it changes.
     #[inline(always)]
     pub fn take(&mut self, answer: u64)
         ensures { self.new ≡ after_answer answer self.old }
@@ -181,7 +180,7 @@ impl LanePublisher {
         self.book.change(change);
     }
 
-    /// Goes on as from where a call stands, after the answer of the access that comes next there.
+    /// Sets the call to the stage `call`, and goes on after the answer of the access that comes next there.
     #[inline(always)]
     pub fn take_from(&mut self, call: PublisherCall, answer: u64)
         ensures { self.new ≡ after_answer answer (record self.old { call = call }) }
@@ -193,7 +192,7 @@ impl LanePublisher {
         self.book.change(change);
     }
 
-    /// The words that the call in hand stores.
+    /// The words that the current write or send stores.
     pub fn stored(&self) -> &[u64]
         ensures { result.now ≡ words_of self.now }
     {
@@ -201,7 +200,7 @@ impl LanePublisher {
     }
 }
 
-// The words that a send stores, or a write.
+// The words that the current write or send stores, as `sends` says.
 fn stored<'x>(sends: bool, head: &'x [u64], payload: &'x [u64]) -> &'x [u64]
     ensures { result.now ≡ (if sends then head.now else payload.now) }
 {

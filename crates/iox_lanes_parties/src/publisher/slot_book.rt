@@ -11,21 +11,21 @@ use iox_lanes_base::calls::PublisherChange;
 use std::alloc::{AllocError, Global};
 use std::marker::Model;
 
-/// Whether a slot is lent to be written.
+/// Whether a slot is a loan, and whether it is written.
 #[derive(Clone, Copy)]
 pub enum LoanMark {
-    /// It is no loan.
+    /// The slot isn't a loan.
     No,
-    /// It is a loan that isn't written.
+    /// The slot is a loan that isn't written.
     Lent,
-    /// It is a loan that is written.
+    /// The slot is a loan that is written.
     Written,
 }
 
-/// What a loan answers.
+/// The answer of a loan.
 #[derive(Clone, Copy, Debug, PartialEq, Eq)]
 pub enum LoanAnswer {
-    /// This slot is lent.
+    /// This slot is loaned.
     Slot(u64),
     /// As many loans are out as may be.
     ExceedsMaxLoans,
@@ -33,10 +33,11 @@ pub enum LoanAnswer {
     OutOfMemory,
 }
 
-/// What the slots of a publisher are used for: its loans, its history, and what it put into the rings of its connections and
-/// didn't get back.
+/// What the slots of a publisher are used for: its loans, its history, and the slots that it put into the rings of its connections and that
+/// haven't come back.
 ///
-/// All its memory is taken when it is made. Slots go by their numbers in the service; those of the publisher begin at `first`.
+/// All its memory is allocated when it is made. Slots are identified by their numbers in the service; those of the publisher begin at
+/// `first`.
 #[derive(Drop)]
 pub struct SlotBook {
     first: u64,
@@ -45,7 +46,7 @@ pub struct SlotBook {
     out: u64,
     loans: Vec<LoanMark>,
     history: Vec<u64>,
-    // For each connection, and each slot of it, whether the connection has it.
+    // For each connection, and each slot, whether the connection has the slot.
     referred: Vec<bool>,
     // How many loans, places of the history and connections have each slot.
     uses: Vec<u64>,
@@ -74,7 +75,8 @@ impl Model for SlotBook {
 }
 
 impl SlotBook {
-    /// So many slots from `first` on, of which none is used, for so many connections. It fails only where an allocation fails.
+    /// `slots` unused slots from `first` on, for this many connections, with at most `most_loans` loans and a history of at most `kept`
+    /// messages. `AllocError` is returned only where an allocation fails.
     pub fn new(
         alloc: Global,
         first: u64,
@@ -101,7 +103,7 @@ impl SlotBook {
         })
     }
 
-    /// What the last loan answered.
+    /// The answer of the last loan.
     pub fn answer(&self) -> Option<LoanAnswer>
         ensures { result ≡ self.now.answer }
     {
@@ -115,7 +117,7 @@ impl SlotBook {
         self.first
     }
 
-    /// How many slots it has.
+    /// How many slots the publisher has.
     pub fn slots(&self) -> usize
         ensures { result ≡ length self.now.loans }
     {
@@ -129,14 +131,14 @@ impl SlotBook {
         self.history.as_slice()
     }
 
-    /// How many uses each of its slots has: one as a loan, one in the history, one at each connection that has it.
+    /// How many uses each slot has: one as a loan, one in the history, one at each connection that has it.
     pub fn uses(&self) -> &[u64]
         ensures { result.now ≡ self.now.uses }
     {
         self.uses.as_slice()
     }
 
-    /// Whether a slot of the service is lent by this publisher.
+    /// Whether a slot of the service is a loan of this publisher, and whether it is written.
     pub fn loan(&self, slot: u64) -> LoanMark
         ensures { result ≡ loan_of slot self.now }
     {
@@ -156,7 +158,8 @@ impl SlotBook {
         slot >= self.first && slot - self.first < self.uses.len() as u64
     }
 
-    /// Whether the connection at a place may be found to have a slot: it is one of this publisher's, and the connection has it not yet.
+    /// Whether lanes may find this slot at the connection of this place: the slot is one of this publisher's, and the connection doesn't
+    /// have it yet.
     pub fn may_have(&self, place: u64, slot: u64) -> bool
         ensures { result ≡ may_have place slot self.now }
     {
@@ -169,15 +172,15 @@ impl SlotBook {
             )
     }
 
-    /// Whether a slot may be found to be the newest of the history: it is one of this publisher's, does not stand there yet, and
-    /// fewer do than may.
+    /// Whether lanes may find that this slot is the newest of the history: it is one of this publisher's and not yet in the history, which
+    /// has fewer slots than it may.
     pub fn may_remember(&self, slot: u64) -> bool
         ensures { result ≡ may_remember slot self.now }
     {
         self.owns(slot) && !stands_in(slot, &self.history) && self.history.len() < self.kept
     }
 
-    /// A slot was found to be the newest of the history.
+    /// Makes a slot that lanes found the newest one of the history.
     pub fn find_newest(&mut self, slot: u64)
         requires { may_remember slot self.old ≡ true }
         ensures { self.new ≡ found_newest slot self.old }
@@ -186,14 +189,14 @@ impl SlotBook {
         count_up(&mut self.uses, slot.saturating_sub(self.first));
     }
 
-    /// Whether it may have so many slots: no more than it has, of which none has a use.
+    /// Whether the publisher may be cut to its first `slots` slots: it has at least as many, and none of its slots is used.
     pub fn may_resize(&self, slots: u64) -> bool
         ensures { result ≡ may_resize slots self.now }
     {
         slots <= self.uses.len() as u64 && are_unused(&self.uses)
     }
 
-    /// From now on it has just its first slots, for so many connections, and so many loans may be out.
+    /// Keeps only the first `slots` slots, for this many connections, and sets how many loans may be out.
     #[tactic(auto, using(std::proofs::lemmas::List::take_all))]
     pub fn resize(&mut self, connections: usize, slots: usize, most_loans: u64)
         ensures { self.new ≡ resized connections slots most_loans self.old }
@@ -305,7 +308,7 @@ impl SlotBook {
     }
 }
 
-// The first place with no use.
+// The first place without a use.
 fn first_free(uses: &[u64]) -> Option<u64>
     ensures { result ≡ first_free uses.now 0 }
 {
@@ -321,7 +324,7 @@ fn first_free(uses: &[u64]) -> Option<u64>
     None
 }
 
-// Whether a number stands in a list.
+// Whether the number is in the list.
 fn stands_in(slot: u64, list: &[u64]) -> bool
     ensures { result ≡ stands_in slot list.now }
 {
@@ -349,7 +352,7 @@ fn are_unused(uses: &[u64]) -> bool
     true
 }
 
-// Whether a place of a row is marked; one that isn't there is not.
+// Whether this place of a row is marked; false beyond the end of the list.
 fn is_marked(list: &[bool], row: u64, width: u64, place: u64) -> bool
     ensures { result ≡ get_or list.now (row * width + place) false }
 {
@@ -365,7 +368,7 @@ fn is_marked(list: &[bool], row: u64, width: u64, place: u64) -> bool
     }
 }
 
-// Marks a place of a row, where there is one.
+// Marks this place of a row, or clears it; does nothing beyond the end of the list.
 fn mark_at(list: &mut Vec<bool>, row: u64, width: u64, place: u64, value: bool)
     ensures { list.new.items ≡ put_at list.old.items (row * width + place) value }
 {

@@ -1,4 +1,4 @@
-//! A subscriber, free of any words.
+//! A subscriber, without the shared words.
 ghost use Rattle.std.specs.Prelude.{◌≡◌, ◌-◌, ◌<◌, true, false, None, Some, get_or, slice_get, length, replicate, IfOk};
 ghost use Rattle.iox_lanes_base.specs.Subscribing.{subscriber_is_idle};
 ghost use Rattle.iox_lanes_parties.specs.Keeping.{met_anew, swapped, changed, after_answer};
@@ -10,9 +10,9 @@ use iox_lanes_base::calls::{Route, SubscriberCall, SubscriberChange, reroute};
 use std::alloc::{AllocError, Global};
 use std::marker::Model;
 
-/// A subscriber: its connections in the order of their keys, the samples that it borrows, and the call that it is in.
+/// A subscriber: its connections in the order of their keys, the samples that it borrows, and the stage of its call.
 ///
-/// All its memory is taken when it is made.
+/// All its memory is allocated when it is made.
 #[derive(Drop)]
 pub struct LaneSubscriber {
     routes: Vec<Route>,
@@ -20,9 +20,9 @@ pub struct LaneSubscriber {
     most_borrowed: u64,
     // How many samples of each connection are borrowed.
     borrowed: Vec<u64>,
-    // For each slot of the service the place of the connection that it is borrowed of.
+    // For each slot of the service, the place of the connection that it is borrowed from.
     samples: Vec<Option<u64>>,
-    // What was read of a sample.
+    // The words that were read of a sample.
     words: Vec<u64>,
     call: SubscriberCall,
 }
@@ -44,7 +44,9 @@ impl Model for LaneSubscriber {
 }
 
 impl LaneSubscriber {
-    /// A subscriber that borrows nothing, of a service with so many slots. It fails only where an allocation fails.
+    /// A subscriber that borrows nothing, of a service with this many slots. `extent` says how many words a slot has, `words` how many a
+    /// read keeps, and `most_borrowed` how many samples of each connection it may borrow. `AllocError` is returned only where an allocation
+    /// fails.
     pub fn new(
         alloc: Global,
         routes: &[Route],
@@ -66,7 +68,7 @@ impl LaneSubscriber {
         })
     }
 
-    /// The place of the connection of which the slot is borrowed; None if it isn't.
+    /// The place of the connection that the slot is borrowed from; None if it isn't borrowed.
     pub fn place_of(&self, slot: usize) -> Option<u64>
         ensures { result ≡ get_or self.now.samples slot None }
     {
@@ -83,7 +85,7 @@ impl LaneSubscriber {
         self.routes.as_slice()
     }
 
-    /// The connection at a place; None beyond the last one.
+    /// The connection at this place; None beyond the last one.
     pub fn route(&self, place: u64) -> Option<Route>
         ensures { result ≡ slice_get self.now.routes place }
     {
@@ -93,14 +95,14 @@ impl LaneSubscriber {
         }
     }
 
-    /// The connection of this number is this one from now on.
+    /// Replaces the connection with this one's number by this one.
     pub fn meet(&mut self, route: Route)
         ensures { self.new ≡ met_anew route self.old }
     {
         reroute(&mut self.routes, route);
     }
 
-    /// The connections at two places change places.
+    /// Swaps the connections at two places.
     pub fn swap(&mut self, one: u64, other: u64)
         requires one { one < length self.old.routes }
         requires other { other < length self.old.routes }
@@ -116,7 +118,7 @@ impl LaneSubscriber {
         &self.words
     }
 
-    /// The call that it is in.
+    /// The stage of its call.
     #[inline(always)]
     pub fn call(&self) -> &SubscriberCall
         ensures { result.now ≡ self.now.call }
@@ -148,7 +150,7 @@ impl LaneSubscriber {
         self.call = SubscriberCall::release(place, route, slot);
     }
 
-    /// Goes on after the answer of that access, and keeps what it changes.
+    /// Goes on after the answer of the next access, and keeps what it changes.
     #[inline(always)]
     pub fn take(&mut self, answer: u64)
         ensures { self.new ≡ after_answer answer self.old }
@@ -159,7 +161,7 @@ impl LaneSubscriber {
         self.change(change);
     }
 
-    /// Goes on as from where a call stands, after the answer of the access that comes next there.
+    /// Sets the call to the stage `call`, and goes on after the answer of the access that comes next there.
     #[inline(always)]
     pub fn take_from(&mut self, call: SubscriberCall, answer: u64)
         ensures { self.new ≡ after_answer answer (record self.old { call = call }) }
@@ -170,7 +172,7 @@ impl LaneSubscriber {
         self.change(change);
     }
 
-    /// Keeps a word that was read; beyond the last one nothing happens.
+    /// Keeps a word that was read; does nothing beyond the last word.
     pub fn note(&mut self, word: u64, value: u64)
         ensures { self.new ≡ changed (SubscriberChange.Note word value) self.old }
     {

@@ -9,9 +9,9 @@ use crate::text::words::split;
 use iox_describe_base::limits::{MAX_ATTRIBUTE_KEY_LENGTH, MAX_ATTRIBUTE_VALUE_LENGTH};
 use std::marker::Model;
 
-/// A key and a value in a line. Contracts see them as an attribute.
+/// A key and a value in a line. Contracts see it as an attribute.
 ///
-/// This port's own.
+/// Not in `iceoryx2`.
 #[derive(Drop)]
 pub struct WrittenPair<'a> {
     key: &'a [u8],
@@ -29,7 +29,7 @@ impl<'a> Model for WrittenPair<'a> {
 
 /// A key in a line. Contracts see it as its bytes.
 ///
-/// This port's own.
+/// Not in `iceoryx2`.
 #[derive(Drop)]
 pub struct WrittenKey<'a> {
     bytes: &'a [u8],
@@ -44,14 +44,14 @@ impl<'a> Model for WrittenKey<'a> {
 }
 
 impl<'a> WrittenPair<'a> {
-    /// The key.
+    /// The bytes of the key.
     pub fn key(&self) -> &'a [u8]
         ensures { result.now ≡ self.now.key }
     {
         self.key
     }
 
-    /// The value.
+    /// The bytes of the value.
     pub fn value(&self) -> &'a [u8]
         ensures { result.now ≡ self.now.value }
     {
@@ -60,7 +60,7 @@ impl<'a> WrittenPair<'a> {
 }
 
 impl<'a> WrittenKey<'a> {
-    /// The bytes.
+    /// The bytes of the key.
     pub fn as_bytes(&self) -> &'a [u8]
         ensures { result.now ≡ self.now }
     {
@@ -68,7 +68,7 @@ impl<'a> WrittenKey<'a> {
     }
 }
 
-/// The pair that a word is: `@`, a key of 1 to 64 bytes, the first `=`, and a value of at most 256, each byte one of
+/// The pair that a word spells: `@`, a key of 1 to 64 bytes, the first `=`, and a value of at most 256 bytes; each byte is one of
 /// 0x21..=0x7E.
 pub fn pair<'a>(word: &'a [u8]) -> Option<WrittenPair<'a>>
     ensures { result ≡ pair_of word.now }
@@ -87,7 +87,7 @@ pub fn pair<'a>(word: &'a [u8]) -> Option<WrittenPair<'a>>
     }
 }
 
-/// The key that a word is: `@`, and 1 to 64 bytes of 0x21..=0x7E with no `=` among them.
+/// The key that a word spells: `@`, and 1 to 64 bytes of 0x21..=0x7E without `=`.
 pub fn key<'a>(word: &'a [u8]) -> Option<WrittenKey<'a>>
     ensures { result ≡ key_of word.now }
 {

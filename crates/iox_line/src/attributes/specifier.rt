@@ -9,10 +9,10 @@ use iox_describe_base::AttributeSpecifier;
 use iox_describe_base::limits::MAX_ATTRIBUTES;
 use std::alloc::{AllocError, Global};
 
-/// The attributes that these words define; `None` if a word is no pair, or there are more than 8.
+/// The attributes that these words define; `None` if a word isn't a pair, or there are more than 8.
 ///
-/// Fails for memory, but only where the words define something: no words take no memory, and where they define
-/// nothing, this is found without memory.
+/// Fails if an allocation fails, and only if the words define at least one attribute: an empty list takes no memory, and that words don't
+/// define attributes is found without memory.
 pub fn defined_attributes(
     alloc: Global,
     words: Words,

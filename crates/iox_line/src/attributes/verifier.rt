@@ -1,4 +1,4 @@
-//! What words require of attributes.
+//! The attributes that words require.
 ghost use Rattle.std.specs.Prelude.{◌≡◌, [], ◌∷◌, ◌++◌, false};
 ghost use Rattle.iox_describe_base.specs.Attributes.{required};
 ghost use Rattle.iox_line.specs.Memory.{MayLack};
@@ -10,10 +10,10 @@ use iox_describe_base::AttributeVerifier;
 use iox_describe_base::limits::MAX_ATTRIBUTES;
 use std::alloc::{AllocError, Global};
 
-/// What these words require; `None` if a word is neither a pair nor a key, or there are more than 8 of either.
+/// The attributes that these words require; `None` if a word is neither a pair nor a key, or there are more than 8 of either.
 ///
-/// Fails for memory, but only where the words require something: no words take no memory, and where they require
-/// nothing, this is found without memory.
+/// Fails if an allocation fails, and only if the words require at least one pair or key: an empty list takes no memory, and that words
+/// aren't a requirement is found without memory.
 pub fn required_attributes(
     alloc: Global,
     words: Words,
@@ -61,7 +61,7 @@ fn require(
     lacking || verifier.require(alloc, pair.key(), pair.value()).is_err()
 }
 
-/// The same for a key.
+/// Requires a key, unless an allocation failed; returns whether one failed so far.
 fn require_key(
     alloc: Global,
     key: &WrittenKey,

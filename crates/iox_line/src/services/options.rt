@@ -8,7 +8,7 @@ use crate::text::options::named_options;
 use crate::text::value::named_number;
 use iox_command::{EventOptions, PublishSubscribeOptions, RequestResponseOptions};
 
-/// The options of a publish-subscribe service; `None` if a word is none of them, or one comes twice.
+/// The options of a publish-subscribe service; `None` if a word isn't an option, or an option is named twice.
 pub fn publish_subscribe(words: &Words) -> Option<PublishSubscribeOptions>
     ensures { result ≡ publish_subscribe_of words.now }
 {
@@ -27,7 +27,7 @@ pub fn publish_subscribe(words: &Words) -> Option<PublishSubscribeOptions>
     )
 }
 
-/// The options of an event service; `None` if a word is none of them, or one comes twice.
+/// The options of an event service; `None` if a word isn't an option, or an option is named twice.
 pub fn event(words: &Words) -> Option<EventOptions>
     ensures { result ≡ event_of words.now }
 {
@@ -46,7 +46,7 @@ pub fn event(words: &Words) -> Option<EventOptions>
     )
 }
 
-/// The options of a request-response service; `None` if a word is none of them, or one comes twice.
+/// The options of a request-response service; `None` if a word isn't an option, or an option is named twice.
 pub fn request_response(words: &Words) -> Option<RequestResponseOptions>
     ensures { result ≡ request_response_of words.now }
 {

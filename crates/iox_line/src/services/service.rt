@@ -11,22 +11,22 @@ use iox_describe_base::{MessagingPattern, ServiceName};
 
 /// A service, as a line names it.
 ///
-/// This port's own.
+/// Not in `iceoryx2`.
 #[derive(Drop)]
 pub struct NamedService<'a> {
     /// The number of the node.
     pub node: u64,
-    /// The name.
+    /// The name of the service.
     pub name: ServiceName,
-    /// The options.
+    /// The options of the service.
     pub options: ServiceOptions,
-    /// The words after the options, from the first on that begins with `@`.
+    /// The words of attributes: those after the options, from the first on that begins with `@`.
     pub attributes: Words<'a>,
-    /// The words from the first on that begins with `|`.
+    /// The words of lists of actions: those from the first on that begins with `|`.
     pub lists: Words<'a>,
 }
 
-/// The service that is named by the words after the first one of a line.
+/// The service that the words after the verb of a line name.
 pub fn named_service<'a>(words: Words<'a>) -> Option<NamedService<'a>>
     ensures { result ≡ service_of words.entry }
 {
@@ -55,7 +55,7 @@ pub fn named_service<'a>(words: Words<'a>) -> Option<NamedService<'a>>
     })
 }
 
-/// The options of a pattern; `None` if a word is none of them, or one comes twice.
+/// The options of a service of this pattern; `None` if a word isn't an option, or an option is named twice.
 pub fn service_options(pattern: MessagingPattern, words: &Words) -> Option<ServiceOptions>
     ensures { result ≡ options_of pattern words.now }
 {

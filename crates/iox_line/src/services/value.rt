@@ -1,4 +1,4 @@
-//! Switches, numbers that may be off, patterns and names.
+//! Switches, numbers that can be off, patterns and names.
 ghost use Rattle.std.specs.Prelude.{◌≡◌};
 ghost use Rattle.iox_line.specs.Words.{same};
 ghost use Rattle.iox_line.specs.Options.{find, named};
@@ -13,7 +13,7 @@ use iox_command::NumberOrOff;
 use iox_describe_base::limits::MAX_SERVICE_NAME_LENGTH;
 use iox_describe_base::{MessagingPattern, ServiceName};
 
-/// The switch that a word is: `0` or `1`.
+/// The switch that a word spells: `0` or `1`.
 pub fn switch(word: &[u8]) -> Option<bool>
     ensures { result ≡ switch_of word.now }
 {
@@ -26,7 +26,7 @@ pub fn switch(word: &[u8]) -> Option<bool>
     }
 }
 
-/// The switch that an option is set to; `None` where it is set to none.
+/// The switch that an option is set to, if the option is named; `None` if its text isn't a switch.
 pub fn named_switch(key: &[u8], words: &Words) -> Option<Option<bool>>
     ensures { result ≡ named switch_of (find key.now words.now) }
 {
@@ -39,7 +39,7 @@ pub fn named_switch(key: &[u8], words: &Words) -> Option<Option<bool>>
     }
 }
 
-/// The number that a word is, or nothing where it is `off`.
+/// The number that a word spells, or `Off` if the word is `off`.
 pub fn number_or_off(word: &[u8]) -> Option<NumberOrOff>
     ensures { result ≡ number_or_off_of word.now }
 {
@@ -52,7 +52,7 @@ pub fn number_or_off(word: &[u8]) -> Option<NumberOrOff>
     }
 }
 
-/// The number, or nothing, that an option is set to; `None` where it is set to neither.
+/// The number or `Off` that an option is set to, if the option is named; `None` if its text is neither.
 pub fn named_number_or_off(key: &[u8], words: &Words) -> Option<Option<NumberOrOff>>
     ensures { result ≡ named number_or_off_of (find key.now words.now) }
 {
@@ -65,7 +65,7 @@ pub fn named_number_or_off(key: &[u8], words: &Words) -> Option<Option<NumberOrO
     }
 }
 
-/// The pattern that a word is: `ps`, `ev` or `rr`.
+/// The pattern that a word spells: `ps`, `ev` or `rr`.
 pub fn pattern(word: &[u8]) -> Option<MessagingPattern>
     ensures { result ≡ pattern_named word.now }
 {
@@ -80,7 +80,7 @@ pub fn pattern(word: &[u8]) -> Option<MessagingPattern>
     }
 }
 
-/// The name that a word is; `None` if it has no bytes or more than 255, or if one lies outside 0x21..=0x7E.
+/// The name that a word spells; `None` if it has no bytes or more than 255, or a byte outside 0x21..=0x7E.
 pub fn name(word: &[u8]) -> Option<ServiceName>
     ensures { result ≡ name_of word.now }
 {

@@ -1,4 +1,4 @@
-//! The steps of a line of their own.
+//! The actions of a `foreign` line.
 ghost use Rattle.std.specs.Prelude.{◌≡◌, [], ◌∷◌, ◌++◌, false};
 ghost use Rattle.iox_line.specs.Memory.{MayLack, some};
 ghost use Rattle.iox_line.specs.StepsReading.{steps_of};
@@ -9,9 +9,9 @@ use iox_command::{ForeignStep, Steps};
 use iox_describe_base::MessagingPattern;
 use std::alloc::{AllocError, Global};
 
-/// The steps that these words are; `None` if a word is none, or there is no word.
+/// The actions that these words spell; `None` if a word isn't an action, or there is no word.
 ///
-/// Fails for memory, but only where the words are steps: where they aren't, this is found without memory.
+/// Fails if an allocation fails, and only if the words are actions: that they aren't is found without memory.
 pub fn foreign_steps(
     alloc: Global,
     pattern: MessagingPattern,

@@ -1,4 +1,4 @@
-//! The lists of steps before the accesses of a call.
+//! The lists of actions before the accesses of a call.
 ghost use Rattle.std.specs.Prelude.{◌≡◌};
 ghost use Rattle.iox_line.specs.Memory.{MayLack, some};
 ghost use Rattle.iox_line.specs.StepsReading.{next_access, listed_step, lists_of};
@@ -12,11 +12,11 @@ use iox_command::{StepBefore, Steps};
 use iox_describe_base::MessagingPattern;
 use std::alloc::{AllocError, Global};
 
-/// The lists of steps that these words are, each with `|` and the number of its access before its steps; `None` if a word
-/// is neither, a list has no number or no step, or its number isn't above the one before it.
+/// The lists of actions that these words spell, each with `|` and the number of its access before its actions; `None` if a word is neither,
+/// a list has no number or no action, or its number isn't above the one before it.
 ///
-/// Fails for memory, but only where the words are lists with a step: no words take no memory, and where they are
-/// no lists, this is found without memory.
+/// Fails if an allocation fails, and only if the words are lists with at least one action: an empty list takes no memory, and that words
+/// aren't lists is found without memory.
 pub fn listed_steps(
     alloc: Global,
     pattern: MessagingPattern,

@@ -1,4 +1,4 @@
-//! One step of a foreign process.
+//! One action of another node.
 ghost use Rattle.std.specs.Prelude.{◌≡◌};
 ghost use Rattle.iox_line.specs.StepsReading.{published, step_verb_of, step_at, step_of};
 
@@ -9,7 +9,7 @@ use crate::text::words::{is, split};
 use iox_command::{ForeignStep, ServiceOptions};
 use iox_describe_base::MessagingPattern;
 
-/// What a step does. This port's own.
+/// The verb of an action of another node. Not in `iceoryx2`.
 #[derive(Clone, Copy)]
 pub enum StepVerb {
     /// `lock`
@@ -28,8 +28,8 @@ pub enum StepVerb {
     Remove,
 }
 
-/// The step that a word is: its verb, `:x` and the number of the node; to publish, in either version, also `:` and options of
-/// the pattern with a comma between each two. `None` if it is none.
+/// The action that a word spells: its verb, `:x` and the number of the node; to publish, in either version, also `:` and options of the
+/// pattern, with commas between them. `None` if the word isn't an action.
 pub fn step(pattern: MessagingPattern, word: &[u8]) -> Option<ForeignStep>
     ensures { result ≡ step_of pattern word.now }
 {

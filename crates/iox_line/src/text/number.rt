@@ -1,8 +1,8 @@
-//! Numbers, and those of made values.
+//! Numbers, and numbers with the letter of their kind.
 ghost use Rattle.std.specs.Prelude.{◌≡◌, ◌+◌, ◌≤◌, ◌↔◌, IsTrue};
 ghost use Rattle.iox_line.specs.Numbers.{is_digit, below_limit, digits_from, number_of, tagged};
 
-/// The number that a word writes: decimal, with no leading zeros, below 2^64.
+/// The number that a word spells: decimal, without leading zeros, below 2^64.
 pub fn number(word: &[u8]) -> Option<u64>
     ensures { result ≡ number_of word.now }
 {
@@ -39,7 +39,7 @@ fn is_digit(byte: u8) -> bool
     48 <= byte && byte <= 57
 }
 
-/// The number of a made value: the letter of its kind, then a number.
+/// The number that a word spells after the letter of its kind.
 pub fn numbered(letter: u8, word: &[u8]) -> Option<u64>
     ensures { result ≡ tagged letter word.now }
 {

@@ -25,7 +25,7 @@ pub fn find<'a>(key: &[u8], words: &Words<'a>) -> Option<&'a [u8]>
     None
 }
 
-/// One where there is a value.
+/// 1 if there is a value, 0 if there is none.
 pub fn one<T: Copy>(option: Option<T>) -> usize
     ensures value { result ≡ one option }
     ensures few { result ≤ 1 }
@@ -36,8 +36,8 @@ pub fn one<T: Copy>(option: Option<T>) -> usize
     }
 }
 
-/// The options that words name, each under its key; `None` if a key is set to none of its values, or if the words are not as
-/// many as the options that are named.
+/// The options that words name, each by its key; `None` if the text of an option is none of its values, or unless there are exactly as many
+/// words as options that are named.
 macro_rules! named_options {
     ($words:ident, $Options:ident { $first:ident: $read:ident($key:literal), $($more:ident: $reads:ident($keys:literal),)* }) => {{
         let $first = $read($key, $words)?;

@@ -1,4 +1,4 @@
-//! What an option may be set to.
+//! The values of options.
 ghost use Rattle.std.specs.Prelude.{◌≡◌};
 ghost use Rattle.iox_line.specs.Words.{same};
 ghost use Rattle.iox_line.specs.Numbers.{number_of};
@@ -12,7 +12,7 @@ use iox_domain_values::{
     AllocationStrategy, BackpressureAction, BackpressureStrategy, DegradationAction,
 };
 
-/// The number that an option is set to; `None` where it is set to no number.
+/// The number that an option is set to, if the option is named; `None` if its text isn't a number.
 pub fn named_number(key: &[u8], words: &Words) -> Option<Option<u64>>
     ensures { result ≡ named number_of (find key.now words.now) }
 {
@@ -25,7 +25,7 @@ pub fn named_number(key: &[u8], words: &Words) -> Option<Option<u64>>
     }
 }
 
-/// The strategy that a word names.
+/// The strategy that a word spells.
 pub fn strategy(word: &[u8]) -> Option<BackpressureStrategy>
     ensures { result ≡ strategy_of word.now }
 {
@@ -38,7 +38,7 @@ pub fn strategy(word: &[u8]) -> Option<BackpressureStrategy>
     }
 }
 
-/// The strategy that an option is set to; `None` where it is set to none.
+/// The strategy that an option is set to, if the option is named; `None` if its text isn't a strategy.
 pub fn named_strategy(key: &[u8], words: &Words) -> Option<Option<BackpressureStrategy>>
     ensures { result ≡ named strategy_of (find key.now words.now) }
 {
@@ -51,7 +51,7 @@ pub fn named_strategy(key: &[u8], words: &Words) -> Option<Option<BackpressureSt
     }
 }
 
-/// The allocation strategy that a word names.
+/// The allocation strategy that a word spells.
 pub fn allocation(word: &[u8]) -> Option<AllocationStrategy>
     ensures { result ≡ allocation_of word.now }
 {
@@ -66,7 +66,7 @@ pub fn allocation(word: &[u8]) -> Option<AllocationStrategy>
     }
 }
 
-/// The allocation strategy that an option is set to; `None` where it is set to none.
+/// The allocation strategy that an option is set to, if the option is named; `None` if its text isn't an allocation strategy.
 pub fn named_allocation(key: &[u8], words: &Words) -> Option<Option<AllocationStrategy>>
     ensures { result ≡ named allocation_of (find key.now words.now) }
 {
@@ -79,7 +79,7 @@ pub fn named_allocation(key: &[u8], words: &Words) -> Option<Option<AllocationSt
     }
 }
 
-/// The answer of a handler that a word names.
+/// The action at a full mailbox that a word spells.
 pub fn handler(word: &[u8]) -> Option<BackpressureAction>
     ensures { result ≡ handler_of word.now }
 {
@@ -96,7 +96,7 @@ pub fn handler(word: &[u8]) -> Option<BackpressureAction>
     }
 }
 
-/// The answer of a handler that an option is set to; `None` where it is set to none.
+/// The action at a full mailbox that an option is set to, if the option is named; `None` if its text isn't one.
 pub fn named_handler(key: &[u8], words: &Words) -> Option<Option<BackpressureAction>>
     ensures { result ≡ named handler_of (find key.now words.now) }
 {
@@ -109,7 +109,7 @@ pub fn named_handler(key: &[u8], words: &Words) -> Option<Option<BackpressureAct
     }
 }
 
-/// What is done where a connection fails, by the word that names it.
+/// The action at a failed connection that a word spells.
 pub fn degradation(word: &[u8]) -> Option<DegradationAction>
     ensures { result ≡ degradation_of word.now }
 {
@@ -124,7 +124,7 @@ pub fn degradation(word: &[u8]) -> Option<DegradationAction>
     }
 }
 
-/// What an option says is done where a connection fails; `None` where it says nothing that there is.
+/// The action at a failed connection that an option is set to, if the option is named; `None` if its text isn't one.
 pub fn named_degradation(key: &[u8], words: &Words) -> Option<Option<DegradationAction>>
     ensures { result ≡ named degradation_of (find key.now words.now) }
 {

@@ -5,10 +5,10 @@ ghost use Rattle.iox_line.specs.Words.{words_of, pieces_of, pieces_left, before,
 
 use std::marker::Model;
 
-/// The words of a line that are left, which stand between its spaces; or the pieces of a text between other bytes.
-/// Contracts see them as the list of these words.
+/// The words of a line that are still to be read, between its spaces; or the pieces of a text between other bytes. Contracts see the list
+/// of these words.
 ///
-/// This port's own.
+/// Not in `iceoryx2`.
 #[derive(Drop)]
 pub struct Words<'a> {
     text: Option<&'a [u8]>,
@@ -36,14 +36,14 @@ impl<'a> Words<'a> {
         }
     }
 
-    /// The pieces of a text between bytes of this kind; none where there is no text.
+    /// The pieces of a text between bytes of this kind; no pieces if there is no text.
     pub fn pieces(text: Option<&'a [u8]>, separator: u8) -> Self
         ensures { result ≡ pieces_left separator (option_map (λ text. text.now) text.entry) }
     {
         Words { text, separator }
     }
 
-    /// The same words again.
+    /// The same words, to be read once more.
     pub fn again(&self) -> Self
         ensures { result ≡ self.now }
     {
@@ -53,7 +53,7 @@ impl<'a> Words<'a> {
         }
     }
 
-    /// Whether none is left.
+    /// Whether no word is left.
     #[tactic(auto, using(crate::proofs::SpacedLemmas::text_has_words))]
     pub fn is_empty(&self) -> bool
         ensures { result ≡ no_words self.now }
@@ -64,7 +64,7 @@ impl<'a> Words<'a> {
         }
     }
 
-    /// The next word, which is then left no longer.
+    /// Takes the next word, if one is left.
     pub fn next(&mut self) -> Option<&'a [u8]>
         ensures none { result ≡ None → (self.old ≡ []) × (self.new ≡ []) }
         ensures some { IfSome result (λ word. self.old ≡ word.now ∷ self.new) }
@@ -77,7 +77,7 @@ impl<'a> Words<'a> {
         Some(word)
     }
 
-    /// The words before the first that begins with this byte, and the others.
+    /// The words before the first one that begins with this byte, and the others.
     pub fn cut(&self, mark: u8) -> (Words<'a>, Words<'a>)
         ensures front { result.0 ≡ front mark self.now }
         ensures back { result.1 ≡ back mark self.now }
@@ -92,7 +92,7 @@ impl<'a> Words<'a> {
         )
     }
 
-    /// Whether so many are left.
+    /// Whether exactly so many words are left.
     pub fn are(&self, count: usize) -> bool
         ensures { result ≡ (length self.now == count) }
     {
@@ -106,7 +106,7 @@ impl<'a> Words<'a> {
     }
 }
 
-/// The bytes before the first of this kind, and those after it, if there is one.
+/// The bytes before the first separator, and those after it, if there is one.
 pub fn split(text: &[u8], separator: u8) -> (&[u8], Option<&[u8]>)
     ensures first { result.0.now ≡ before separator text.now }
     ensures rest { option_map (λ text. text.now) result.1 ≡ beyond separator text.now }
@@ -160,7 +160,7 @@ fn marked_place(mark: u8, separator: u8, text: &[u8]) -> Option<usize>
     None
 }
 
-/// Whether a word is this text.
+/// Whether a word is this text, byte by byte.
 pub fn is(word: &[u8], text: &[u8]) -> bool
     ensures { result ≡ same word.now text.now }
 {

@@ -1,11 +1,11 @@
-//! Setters of a builder of event services. Each names one thing, and all else stays.
+//! Setters of a builder of event services. Each of them names one setting and changes nothing else.
 ghost use Rattle.std.specs.Prelude.{◌≡◌, None, Some};
 
 use crate::builder::ServiceBuilder;
 use iox_describe::pattern::Event;
 
 impl ServiceBuilder<Event> {
-    /// Names the time in nanoseconds within which a notification is to come.
+    /// Names the maximum time between two events, in nanoseconds.
     /// Example: `builder.deadline(1_000)`
     pub fn deadline(mut self, value: u64) -> Self
         ensures { result ≡ record self { requirement = record self.requirement { deadline = Some (Some value) } } }
@@ -14,7 +14,7 @@ impl ServiceBuilder<Event> {
         self
     }
 
-    /// Names that there is no such number: time in nanoseconds within which a notification is to come.
+    /// Names that the service has no deadline.
     /// Example: `builder.disable_deadline()`
     pub fn disable_deadline(mut self) -> Self
         ensures { result ≡ record self { requirement = record self.requirement { deadline = Some None } } }
@@ -23,8 +23,7 @@ impl ServiceBuilder<Event> {
         self
     }
 
-    /// Names the number of nodes in the service: at least so many of a service that is opened,
-    /// and so many of one that is created.
+    /// Names the maximum number of nodes: an existing service must have at least this, and a created one gets exactly this.
     /// Example: `builder.max_nodes(4)`
     pub fn max_nodes(mut self, value: u64) -> Self
         ensures { result ≡ record self { requirement = record self.requirement { max_nodes = Some value } } }
@@ -33,8 +32,7 @@ impl ServiceBuilder<Event> {
         self
     }
 
-    /// Names the number of notifiers of the service: at least so many of a service that is opened,
-    /// and so many of one that is created.
+    /// Names the maximum number of notifiers: an existing service must have at least this, and a created one gets exactly this.
     /// Example: `builder.max_notifiers(2)`
     pub fn max_notifiers(mut self, value: u64) -> Self
         ensures { result ≡ record self { requirement = record self.requirement { max_notifiers = Some value } } }
@@ -43,8 +41,7 @@ impl ServiceBuilder<Event> {
         self
     }
 
-    /// Names the number of listeners of the service: at least so many of a service that is opened,
-    /// and so many of one that is created.
+    /// Names the maximum number of listeners: an existing service must have at least this, and a created one gets exactly this.
     /// Example: `builder.max_listeners(2)`
     pub fn max_listeners(mut self, value: u64) -> Self
         ensures { result ≡ record self { requirement = record self.requirement { max_listeners = Some value } } }
@@ -53,7 +50,7 @@ impl ServiceBuilder<Event> {
         self
     }
 
-    /// Names the greatest event id: at least this of a service that is opened, and this of one that is created.
+    /// Names the largest event id: an existing service must have at least this, and a created one gets exactly this.
     /// Example: `builder.event_id_max_value(7)`
     pub fn event_id_max_value(mut self, value: u64) -> Self
         ensures { result ≡ record self { requirement = record self.requirement { event_id_max_value = Some value } } }
@@ -62,7 +59,7 @@ impl ServiceBuilder<Event> {
         self
     }
 
-    /// Names the event that tells of a new notifier.
+    /// Names the id of the event that announces a new notifier.
     /// Example: `builder.notifier_created_event(1)`
     pub fn notifier_created_event(mut self, value: u64) -> Self
         ensures { result ≡ record self { requirement = record self.requirement { notifier_created_event = Some (Some value) } } }
@@ -71,7 +68,7 @@ impl ServiceBuilder<Event> {
         self
     }
 
-    /// Names that there is no such number: event that tells of a new notifier.
+    /// Names that no event announces a new notifier.
     /// Example: `builder.disable_notifier_created_event()`
     pub fn disable_notifier_created_event(mut self) -> Self
         ensures { result ≡ record self { requirement = record self.requirement { notifier_created_event = Some None } } }
@@ -80,7 +77,7 @@ impl ServiceBuilder<Event> {
         self
     }
 
-    /// Names the event that tells of a notifier that left.
+    /// Names the id of the event that announces a dropped notifier.
     /// Example: `builder.notifier_dropped_event(2)`
     pub fn notifier_dropped_event(mut self, value: u64) -> Self
         ensures { result ≡ record self { requirement = record self.requirement { notifier_dropped_event = Some (Some value) } } }
@@ -89,7 +86,7 @@ impl ServiceBuilder<Event> {
         self
     }
 
-    /// Names that there is no such number: event that tells of a notifier that left.
+    /// Names that no event announces a dropped notifier.
     /// Example: `builder.disable_notifier_dropped_event()`
     pub fn disable_notifier_dropped_event(mut self) -> Self
         ensures { result ≡ record self { requirement = record self.requirement { notifier_dropped_event = Some None } } }
@@ -98,7 +95,7 @@ impl ServiceBuilder<Event> {
         self
     }
 
-    /// Names the event that tells of a notifier that died.
+    /// Names the id of the event that announces a dead notifier.
     /// Example: `builder.notifier_dead_event(3)`
     pub fn notifier_dead_event(mut self, value: u64) -> Self
         ensures { result ≡ record self { requirement = record self.requirement { notifier_dead_event = Some (Some value) } } }
@@ -107,7 +104,7 @@ impl ServiceBuilder<Event> {
         self
     }
 
-    /// Names that there is no such number: event that tells of a notifier that died.
+    /// Names that no event announces a dead notifier.
     /// Example: `builder.disable_notifier_dead_event()`
     pub fn disable_notifier_dead_event(mut self) -> Self
         ensures { result ≡ record self { requirement = record self.requirement { notifier_dead_event = Some None } } }

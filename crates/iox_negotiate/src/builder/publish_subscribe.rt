@@ -1,4 +1,4 @@
-//! Setters of a builder of publish-subscribe services. Each names one thing, and all else stays.
+//! Setters of a builder of publish-subscribe services. Each of them names one setting and changes nothing else.
 ghost use Rattle.std.specs.Prelude.{◌≡◌, Some};
 ghost use Rattle.iox_negotiate_base.specs.DescribeBase.Detail.{detail};
 ghost use Rattle.iox_negotiate_base.specs.DescribeBase.declared.type_detail.TypeVariant.TheVariants.{FixedSize};
@@ -10,7 +10,7 @@ use iox_describe::pattern::PublishSubscribe;
 use iox_describe::{TypeDetail, TypeVariant, ZeroCopySend};
 
 impl ServiceBuilder<PublishSubscribe> {
-    /// Asks for this user header of messages.
+    /// Asks for this type of user header in messages.
     /// Example: `builder.user_header::<u64>()`
     pub fn user_header<U: ZeroCopySend>(mut self) -> Self
         ensures { result ≡ record self {
@@ -22,7 +22,7 @@ impl ServiceBuilder<PublishSubscribe> {
         self
     }
 
-    /// Asks for this alignment of the payload of messages, in bytes, or for that of its type where it is larger.
+    /// Asks for this alignment of the payload of messages, in bytes, or for that of its type if that is larger.
     /// Example: `builder.payload_alignment(16)`
     pub fn payload_alignment(mut self, alignment: u64) -> Self
         ensures { result ≡ record self {
@@ -34,7 +34,7 @@ impl ServiceBuilder<PublishSubscribe> {
         self
     }
 
-    /// Asks for this payload, whatever type it is of.
+    /// Asks for a payload with this type detail.
     /// Example: `builder.internal_set_payload_type_details(detail)`
     pub fn internal_set_payload_type_details(mut self, value: TypeDetail) -> Self
         ensures { result ≡ record self
@@ -44,7 +44,7 @@ impl ServiceBuilder<PublishSubscribe> {
         self
     }
 
-    /// Asks for this user header, whatever type it is of.
+    /// Asks for a user header with this type detail.
     /// Example: `builder.internal_set_user_header_type_details(detail)`
     pub fn internal_set_user_header_type_details(mut self, value: TypeDetail) -> Self
         ensures { result ≡ record self
@@ -54,7 +54,7 @@ impl ServiceBuilder<PublishSubscribe> {
         self
     }
 
-    /// Names whether a full buffer drops its oldest message.
+    /// Names whether a send drops the oldest message of a full buffer.
     /// Example: `builder.enable_safe_overflow(false)`
     pub fn enable_safe_overflow(mut self, value: bool) -> Self
         ensures { result ≡ record self { requirement = record self.requirement { enable_safe_overflow = Some value } } }
@@ -63,9 +63,9 @@ impl ServiceBuilder<PublishSubscribe> {
         self
     }
 
-    /// Names whether the messages of each publisher have numbers, so that a subscriber can tell what it missed.
+    /// Names whether the messages of each publisher have sequence numbers, by which a subscriber detects the messages that it missed.
     ///
-    /// This port's own.
+    /// Not in `iceoryx2`.
     /// Example: `builder.sequence_numbers(true)`
     pub fn sequence_numbers(mut self, value: bool) -> Self
         ensures { result ≡ record self { requirement = record self.requirement { sequence_numbers = Some value } } }
@@ -74,8 +74,8 @@ impl ServiceBuilder<PublishSubscribe> {
         self
     }
 
-    /// Names the number of samples of a connection that a subscriber may hold at once: at least so many of a service that is opened,
-    /// and so many of one that is created.
+    /// Names the maximum number of samples of one publisher that a subscriber may hold: an existing service must have at least this, and a
+    /// created one gets exactly this.
     /// Example: `builder.subscriber_max_borrowed_samples(2)`
     pub fn subscriber_max_borrowed_samples(mut self, value: u64) -> Self
         ensures { result ≡ record self { requirement = record self.requirement { subscriber_max_borrowed_samples = Some value } } }
@@ -84,8 +84,8 @@ impl ServiceBuilder<PublishSubscribe> {
         self
     }
 
-    /// Names the number of messages that a late subscriber may be given: at least so many of a service that is opened,
-    /// and so many of one that is created.
+    /// Names the history size, which is the number of messages that a late subscriber may receive: an existing service must have at least
+    /// this, and a created one gets exactly this.
     /// Example: `builder.history_size(4)`
     pub fn history_size(mut self, value: u64) -> Self
         ensures { result ≡ record self { requirement = record self.requirement { history_size = Some value } } }
@@ -94,8 +94,8 @@ impl ServiceBuilder<PublishSubscribe> {
         self
     }
 
-    /// Names the number of messages that may wait for a subscriber in a connection: at least so many of a service that is opened,
-    /// and so many of one that is created.
+    /// Names the maximum number of waiting messages of one publisher per subscriber: an existing service must have at least this, and a
+    /// created one gets exactly this.
     /// Example: `builder.subscriber_max_buffer_size(8)`
     pub fn subscriber_max_buffer_size(mut self, value: u64) -> Self
         ensures { result ≡ record self { requirement = record self.requirement { subscriber_max_buffer_size = Some value } } }
@@ -104,8 +104,7 @@ impl ServiceBuilder<PublishSubscribe> {
         self
     }
 
-    /// Names the number of subscribers of the service: at least so many of a service that is opened,
-    /// and so many of one that is created.
+    /// Names the maximum number of subscribers: an existing service must have at least this, and a created one gets exactly this.
     /// Example: `builder.max_subscribers(8)`
     pub fn max_subscribers(mut self, value: u64) -> Self
         ensures { result ≡ record self { requirement = record self.requirement { max_subscribers = Some value } } }
@@ -114,8 +113,7 @@ impl ServiceBuilder<PublishSubscribe> {
         self
     }
 
-    /// Names the number of publishers of the service: at least so many of a service that is opened,
-    /// and so many of one that is created.
+    /// Names the maximum number of publishers: an existing service must have at least this, and a created one gets exactly this.
     /// Example: `builder.max_publishers(2)`
     pub fn max_publishers(mut self, value: u64) -> Self
         ensures { result ≡ record self { requirement = record self.requirement { max_publishers = Some value } } }
@@ -124,8 +122,7 @@ impl ServiceBuilder<PublishSubscribe> {
         self
     }
 
-    /// Names the number of nodes in the service: at least so many of a service that is opened,
-    /// and so many of one that is created.
+    /// Names the maximum number of nodes: an existing service must have at least this, and a created one gets exactly this.
     /// Example: `builder.max_nodes(4)`
     pub fn max_nodes(mut self, value: u64) -> Self
         ensures { result ≡ record self { requirement = record self.requirement { max_nodes = Some value } } }

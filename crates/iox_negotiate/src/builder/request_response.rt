@@ -1,4 +1,4 @@
-//! Setters of a builder of request-response services. Each names one thing, and all else stays.
+//! Setters of a builder of request-response services. Each of them names one setting and changes nothing else.
 ghost use Rattle.std.specs.Prelude.{◌≡◌, Some};
 ghost use Rattle.iox_negotiate_base.specs.DescribeBase.Detail.{detail};
 ghost use Rattle.iox_negotiate_base.specs.DescribeBase.declared.type_detail.TypeVariant.TheVariants.{FixedSize};
@@ -10,7 +10,7 @@ use iox_describe::pattern::RequestResponse;
 use iox_describe::{TypeDetail, TypeVariant, ZeroCopySend};
 
 impl ServiceBuilder<RequestResponse> {
-    /// Asks for this user header of requests.
+    /// Asks for this type of user header in requests.
     /// Example: `builder.request_user_header::<u64>()`
     pub fn request_user_header<U: ZeroCopySend>(mut self) -> Self
         ensures { result ≡ record self {
@@ -22,7 +22,7 @@ impl ServiceBuilder<RequestResponse> {
         self
     }
 
-    /// Asks for this user header of responses.
+    /// Asks for this type of user header in responses.
     /// Example: `builder.response_user_header::<u64>()`
     pub fn response_user_header<U: ZeroCopySend>(mut self) -> Self
         ensures { result ≡ record self {
@@ -34,7 +34,7 @@ impl ServiceBuilder<RequestResponse> {
         self
     }
 
-    /// Asks for this alignment of the payload of requests, in bytes, or for that of its type where it is larger.
+    /// Asks for this alignment of the payload of requests, in bytes, or for that of its type if that is larger.
     /// Example: `builder.request_payload_alignment(16)`
     pub fn request_payload_alignment(mut self, alignment: u64) -> Self
         ensures { result ≡ record self {
@@ -51,7 +51,7 @@ impl ServiceBuilder<RequestResponse> {
         self
     }
 
-    /// Asks for this alignment of the payload of responses, in bytes, or for that of its type where it is larger.
+    /// Asks for this alignment of the payload of responses, in bytes, or for that of its type if that is larger.
     /// Example: `builder.response_payload_alignment(16)`
     pub fn response_payload_alignment(mut self, alignment: u64) -> Self
         ensures { result ≡ record self {
@@ -68,7 +68,7 @@ impl ServiceBuilder<RequestResponse> {
         self
     }
 
-    /// Asks for this payload of requests, whatever type it is of.
+    /// Asks for a request payload with this type detail.
     /// Example: `builder.internal_set_request_payload_type_details(detail)`
     pub fn internal_set_request_payload_type_details(mut self, value: TypeDetail) -> Self
         ensures { result ≡ record self
@@ -78,7 +78,7 @@ impl ServiceBuilder<RequestResponse> {
         self
     }
 
-    /// Asks for this payload of responses, whatever type it is of.
+    /// Asks for a response payload with this type detail.
     /// Example: `builder.internal_set_response_payload_type_details(detail)`
     pub fn internal_set_response_payload_type_details(mut self, value: TypeDetail) -> Self
         ensures { result ≡ record self
@@ -88,7 +88,7 @@ impl ServiceBuilder<RequestResponse> {
         self
     }
 
-    /// Asks for this user header of requests, whatever type it is of.
+    /// Asks for a user header of requests with this type detail.
     /// Example: `builder.internal_set_request_header_type_details(detail)`
     pub fn internal_set_request_header_type_details(mut self, value: TypeDetail) -> Self
         ensures { result ≡ record self
@@ -98,7 +98,7 @@ impl ServiceBuilder<RequestResponse> {
         self
     }
 
-    /// Asks for this user header of responses, whatever type it is of.
+    /// Asks for a user header of responses with this type detail.
     /// Example: `builder.internal_set_response_header_type_details(detail)`
     pub fn internal_set_response_header_type_details(mut self, value: TypeDetail) -> Self
         ensures { result ≡ record self
@@ -108,7 +108,7 @@ impl ServiceBuilder<RequestResponse> {
         self
     }
 
-    /// Names whether a full buffer of requests drops its oldest.
+    /// Names whether a send drops the oldest request of a full buffer.
     /// Example: `builder.enable_safe_overflow_for_requests(false)`
     pub fn enable_safe_overflow_for_requests(mut self, value: bool) -> Self
         ensures { result ≡ record self { requirement = record self.requirement { enable_safe_overflow_for_requests = Some value } } }
@@ -117,7 +117,7 @@ impl ServiceBuilder<RequestResponse> {
         self
     }
 
-    /// Names whether a full buffer of responses drops its oldest.
+    /// Names whether a send drops the oldest response of a full buffer.
     /// Example: `builder.enable_safe_overflow_for_responses(false)`
     pub fn enable_safe_overflow_for_responses(mut self, value: bool) -> Self
         ensures { result ≡ record self { requirement = record self.requirement { enable_safe_overflow_for_responses = Some value } } }
@@ -126,7 +126,7 @@ impl ServiceBuilder<RequestResponse> {
         self
     }
 
-    /// Names whether a request may be sent of which no response is awaited.
+    /// Names whether a client may send requests and drop their responses.
     /// Example: `builder.enable_fire_and_forget_requests(false)`
     pub fn enable_fire_and_forget_requests(mut self, value: bool) -> Self
         ensures { result ≡ record self { requirement = record self.requirement { enable_fire_and_forget_requests = Some value } } }
@@ -135,8 +135,8 @@ impl ServiceBuilder<RequestResponse> {
         self
     }
 
-    /// Names the number of requests of a client that may be answered at once: at least so many of a service that is opened,
-    /// and so many of one that is created.
+    /// Names the maximum number of open requests of one client: an existing service must have at least this, and a created one gets exactly
+    /// this.
     /// Example: `builder.max_active_requests_per_client(4)`
     pub fn max_active_requests_per_client(mut self, value: u64) -> Self
         ensures { result ≡ record self { requirement = record self.requirement { max_active_requests_per_client = Some value } } }
@@ -145,8 +145,8 @@ impl ServiceBuilder<RequestResponse> {
         self
     }
 
-    /// Names the number of requests that a client may have on loan at once: at least so many of a service that is opened,
-    /// and so many of one that is created.
+    /// Names the maximum number of loaned requests of a client: an existing service must have at least this, and a created one gets exactly
+    /// this.
     /// Example: `builder.max_loaned_requests(2)`
     pub fn max_loaned_requests(mut self, value: u64) -> Self
         ensures { result ≡ record self { requirement = record self.requirement { max_loaned_requests = Some value } } }
@@ -155,8 +155,8 @@ impl ServiceBuilder<RequestResponse> {
         self
     }
 
-    /// Names the number of responses that may wait for a client in a connection: at least so many of a service that is opened,
-    /// and so many of one that is created.
+    /// Names the maximum number of waiting responses to one request: an existing service must have at least this, and a created one gets
+    /// exactly this.
     /// Example: `builder.max_response_buffer_size(2)`
     pub fn max_response_buffer_size(mut self, value: u64) -> Self
         ensures { result ≡ record self { requirement = record self.requirement { max_response_buffer_size = Some value } } }
@@ -165,8 +165,7 @@ impl ServiceBuilder<RequestResponse> {
         self
     }
 
-    /// Names the number of servers of the service: at least so many of a service that is opened,
-    /// and so many of one that is created.
+    /// Names the maximum number of servers: an existing service must have at least this, and a created one gets exactly this.
     /// Example: `builder.max_servers(2)`
     pub fn max_servers(mut self, value: u64) -> Self
         ensures { result ≡ record self { requirement = record self.requirement { max_servers = Some value } } }
@@ -175,8 +174,7 @@ impl ServiceBuilder<RequestResponse> {
         self
     }
 
-    /// Names the number of clients of the service: at least so many of a service that is opened,
-    /// and so many of one that is created.
+    /// Names the maximum number of clients: an existing service must have at least this, and a created one gets exactly this.
     /// Example: `builder.max_clients(8)`
     pub fn max_clients(mut self, value: u64) -> Self
         ensures { result ≡ record self { requirement = record self.requirement { max_clients = Some value } } }
@@ -185,8 +183,8 @@ impl ServiceBuilder<RequestResponse> {
         self
     }
 
-    /// Names the number of responses to a request that a client may hold at once: at least so many of a service that is opened,
-    /// and so many of one that is created.
+    /// Names the maximum number of responses to one request that a client may hold: an existing service must have at least this, and a
+    /// created one gets exactly this.
     /// Example: `builder.max_borrowed_responses_per_pending_response(2)`
     pub fn max_borrowed_responses_per_pending_response(mut self, value: u64) -> Self
         ensures { result ≡ record self
@@ -196,8 +194,7 @@ impl ServiceBuilder<RequestResponse> {
         self
     }
 
-    /// Names the number of nodes in the service: at least so many of a service that is opened,
-    /// and so many of one that is created.
+    /// Names the maximum number of nodes: an existing service must have at least this, and a created one gets exactly this.
     /// Example: `builder.max_nodes(4)`
     pub fn max_nodes(mut self, value: u64) -> Self
         ensures { result ≡ record self { requirement = record self.requirement { max_nodes = Some value } } }

@@ -1,25 +1,25 @@
-//! Why a factory isn't closed.
+//! The error of closing a factory.
 ghost use Rattle.std.specs.Prelude.{◌≡◌, Some};
 ghost use Rattle.iox_negotiate_base.specs.CloseText.{close_text};
 
 use std::fmt;
 use thiserror::Error;
 
-/// Why a factory isn't closed, or was closed and left something behind.
+/// Why a factory isn't closed, or why its closing left something behind.
 #[derive(Clone, Copy, Debug, PartialEq, Eq, Error)]
 pub enum CloseError {
-    /// The service lies in a storage of another id. The factory is handed back.
+    /// The service is in a storage with another id. The factory is returned to the caller.
     NotThisStorage,
-    /// The description can't be removed. The factory is spent, and its segment stays.
+    /// The description can't be removed. The factory is consumed, and the segment stays.
     UnableToRemoveDescription,
-    /// The segment can't be removed. The factory is spent.
+    /// The segment can't be removed. The factory is consumed.
     UnableToRemoveSegment,
-    /// Ports of the factory live. Given by who holds ports, never by the factory itself.
+    /// Ports of the factory still exist. Only callers that own ports return this error, never the factory itself.
     StillInUse,
 }
 
 impl CloseError {
-    /// What it displays as.
+    /// The text that `Display` prints.
     pub fn text(&self) -> &'static str
         ensures { result.now ≡ close_text self.now }
     {

@@ -13,7 +13,7 @@ use iox_describe_verdict::requirement::event::ClauseError;
 use std::fmt;
 use thiserror::Error;
 
-/// A table of the errors of clauses that an event service doesn't meet.
+/// A table of the errors of clauses that an event service may not meet.
 macro_rules! of_clauses {
     ($table:ident: $($given:tt)*) => {
         $table!($($given)*:
@@ -25,8 +25,7 @@ macro_rules! of_clauses {
     };
 }
 
-/// Why an event service isn't opened. The clauses that it may not meet stand first, in the order in which they are
-/// tested.
+/// Why an event service isn't opened. The errors of unmet clauses come first, in the order in which the clauses are tested.
 ///
 /// Ported from `iceoryx2::service::builder::event::EventOpenError`.
 #[derive(Clone, Copy, Debug, PartialEq, Eq, Error)]
@@ -37,11 +36,11 @@ pub enum EventOpenError {
     IncompatibleAttributes,
     /// The option `deadline` differs.
     IncompatibleDeadline,
-    /// The service has fewer notifiers than asked.
+    /// The service has fewer notifiers than required.
     DoesNotSupportRequestedAmountOfNotifiers,
-    /// The service has fewer listeners than asked.
+    /// The service has fewer listeners than required.
     DoesNotSupportRequestedAmountOfListeners,
-    /// The greatest event id is below the one asked.
+    /// The service's largest event id is below the required one.
     DoesNotSupportRequestedMaxEventId,
     /// The option `notifier_created_event` differs.
     IncompatibleNotifierCreatedEvent,
@@ -49,28 +48,28 @@ pub enum EventOpenError {
     IncompatibleNotifierDroppedEvent,
     /// The option `notifier_dead_event` differs.
     IncompatibleNotifierDeadEvent,
-    /// The service has fewer nodes than asked.
+    /// The service has fewer nodes than required.
     DoesNotSupportRequestedAmountOfNodes,
-    /// There is none.
+    /// The service doesn't exist.
     DoesNotExist,
-    /// It is not permitted.
+    /// The node lacks the permission.
     InsufficientPermissions,
-    /// What stands is no description of this service, or its segment was absent in each of five rounds.
+    /// The stored data isn't a description of this service, or its segment was absent in each of five rounds.
     ServiceInCorruptedState,
     /// An access failed.
     InternalFailure,
-    /// Another was about to create it when it was looked for.
+    /// When the service was looked up, another node had its lock.
     HangsInCreation,
-    /// As many nodes as the service allows are in it, and this node is none of them.
+    /// The service has its maximum number of nodes, and this node isn't one of them.
     ExceedsMaxNumberOfNodes,
-    /// Its last node left, so it is about to be removed.
+    /// The last node left the service, so it is about to be removed.
     IsMarkedForDestruction,
-    /// No memory was found.
+    /// Memory ran out.
     OutOfMemory,
 }
 
 impl EventOpenError {
-    /// What it displays as.
+    /// The text that `Display` prints.
     pub fn text(&self) -> &'static str
         ensures { result.now ≡ open_text self.now }
     {
@@ -91,24 +90,24 @@ impl fmt::Display for EventOpenError {
 /// Ported from `iceoryx2::service::builder::event::EventCreateError`.
 #[derive(Clone, Copy, Debug, PartialEq, Eq, Error)]
 pub enum EventCreateError {
-    /// A service stands.
+    /// The service exists already.
     AlreadyExists,
-    /// It is not permitted.
+    /// The node lacks the permission.
     InsufficientPermissions,
-    /// A setting is beyond the limits, or an access failed.
+    /// A setting is beyond its limits, or an access failed.
     InternalFailure,
-    /// Another creates it.
+    /// Another node is creating the service.
     IsBeingCreatedByAnotherInstance,
-    /// Another was about to create it when it was looked for.
+    /// When the service was looked up, another node had its lock.
     HangsInCreation,
-    /// What stands is no description of this service.
+    /// The stored data isn't a description of this service.
     ServiceInCorruptedState,
-    /// No memory was found.
+    /// Memory ran out.
     OutOfMemory,
 }
 
 impl EventCreateError {
-    /// What it displays as.
+    /// The text that `Display` prints.
     pub fn text(&self) -> &'static str
         ensures { result.now ≡ create_text self.now }
     {
@@ -129,16 +128,16 @@ impl fmt::Display for EventCreateError {
 /// Ported from `iceoryx2::service::builder::event::EventOpenOrCreateError`.
 #[derive(Clone, Copy, Debug, PartialEq, Eq, Error)]
 pub enum EventOpenOrCreateError {
-    /// There is one, which isn't opened.
+    /// The service exists, and isn't opened.
     EventOpenError(EventOpenError),
-    /// There was none, and it isn't created.
+    /// The service doesn't exist, and isn't created.
     EventCreateError(EventCreateError),
-    /// It came and went in each of five rounds.
+    /// In each of five rounds, other nodes were creating or removing the service.
     SystemInFlux,
 }
 
 impl EventOpenOrCreateError {
-    /// What it displays as.
+    /// The text that `Display` prints.
     pub fn text(&self) -> &'static str
         ensures { result.now ≡ open_or_create_text self.now }
     {
@@ -160,7 +159,7 @@ impl fmt::Display for EventOpenOrCreateError {
     }
 }
 
-/// The error of the clause that is not met, by its name.
+/// The error with the name of the unmet clause.
 impl From<ClauseError> for EventOpenError {
     ghost from_gives = { λ unmet error. error ≡ clause_error unmet };
 
@@ -169,7 +168,7 @@ impl From<ClauseError> for EventOpenError {
     }
 }
 
-/// The error of the same name, and the error of a clause that is not met.
+/// The error with the same name, or the error of the unmet clause.
 impl From<OpenFailure<ClauseError>> for EventOpenError {
     ghost from_gives = { λ failure error. error ≡ open_error failure };
 
@@ -178,7 +177,8 @@ impl From<OpenFailure<ClauseError>> for EventOpenError {
     }
 }
 
-/// The error of the same name. There is no history here, so what a history asks is not met with.
+/// The error with the same name. An event service has no history, so the failure about the history doesn't occur; it becomes
+/// `InternalFailure`.
 impl From<CreateFailure> for EventCreateError {
     ghost from_gives = { λ failure error. error ≡ create_error failure };
 
@@ -187,7 +187,7 @@ impl From<CreateFailure> for EventCreateError {
     }
 }
 
-/// The refusal of a service that stands.
+/// Why an existing service isn't opened.
 impl From<EventOpenError> for EventOpenOrCreateError {
     ghost from_gives = { λ error outer. outer ≡ either.EventOpenError error };
 
@@ -196,7 +196,7 @@ impl From<EventOpenError> for EventOpenOrCreateError {
     }
 }
 
-/// The refusal of a service that is to be created.
+/// Why a service isn't created.
 impl From<EventCreateError> for EventOpenOrCreateError {
     ghost from_gives = { λ error outer. outer ≡ either.EventCreateError error };
 
@@ -205,7 +205,7 @@ impl From<EventCreateError> for EventOpenOrCreateError {
     }
 }
 
-/// The error of the same name, around the error within.
+/// The error with the same name, around the inner error.
 impl From<OpenOrCreateFailure<ClauseError>> for EventOpenOrCreateError {
     ghost from_gives = { λ failure error. error ≡ open_or_create_error failure };
 

@@ -13,7 +13,7 @@ use iox_describe_verdict::requirement::publish_subscribe::ClauseError;
 use std::fmt;
 use thiserror::Error;
 
-/// A table of the errors of clauses that a publish-subscribe service doesn't meet.
+/// A table of the errors of clauses that a publish-subscribe service may not meet.
 macro_rules! of_clauses {
     ($table:ident: $($given:tt)*) => {
         $table!($($given)*:
@@ -26,15 +26,14 @@ macro_rules! of_clauses {
     };
 }
 
-/// Why a publish-subscribe service isn't opened. The clauses that it may not meet stand first, in the order in
-/// which they are tested.
+/// Why a publish-subscribe service isn't opened. The errors of unmet clauses come first, in the order in which the clauses are tested.
 ///
 /// Ported from `iceoryx2::service::builder::publish_subscribe::PublishSubscribeOpenError`.
 #[derive(Clone, Copy, Debug, PartialEq, Eq, Error)]
 pub enum PublishSubscribeOpenError {
     /// The service has another messaging pattern.
     IncompatibleMessagingPattern,
-    /// The types are not compatible.
+    /// The required types aren't compatible with those of the service.
     IncompatibleTypes,
     /// A required attribute or key is missing.
     IncompatibleAttributes,
@@ -42,38 +41,38 @@ pub enum PublishSubscribeOpenError {
     IncompatibleOverflowBehavior,
     /// The switch `sequence_numbers` differs.
     IncompatibleSequenceNumbers,
-    /// The service has fewer publishers than asked.
+    /// The service has fewer publishers than required.
     DoesNotSupportRequestedAmountOfPublishers,
-    /// The service has fewer subscribers than asked.
+    /// The service has fewer subscribers than required.
     DoesNotSupportRequestedAmountOfSubscribers,
-    /// The service has less room in a buffer than asked.
+    /// The service's buffers are smaller than required.
     DoesNotSupportRequestedMinBufferSize,
-    /// The service has less history than asked.
+    /// The service's history is shorter than required.
     DoesNotSupportRequestedMinHistorySize,
-    /// The service has fewer borrowed samples than asked.
+    /// The service permits fewer borrowed samples than required.
     DoesNotSupportRequestedMinSubscriberBorrowedSamples,
-    /// The service has fewer nodes than asked.
+    /// The service has fewer nodes than required.
     DoesNotSupportRequestedAmountOfNodes,
-    /// There is none.
+    /// The service doesn't exist.
     DoesNotExist,
-    /// It is not permitted.
+    /// The node lacks the permission.
     InsufficientPermissions,
-    /// What stands is no description of this service, or its segment was absent in each of five rounds.
+    /// The stored data isn't a description of this service, or its segment was absent in each of five rounds.
     ServiceInCorruptedState,
     /// An access failed.
     InternalFailure,
-    /// Another was about to create it when it was looked for.
+    /// When the service was looked up, another node had its lock.
     HangsInCreation,
-    /// As many nodes as the service allows are in it, and this node is none of them.
+    /// The service has its maximum number of nodes, and this node isn't one of them.
     ExceedsMaxNumberOfNodes,
-    /// Its last node left, so it is about to be removed.
+    /// The last node left the service, so it is about to be removed.
     IsMarkedForDestruction,
-    /// No memory was found.
+    /// Memory ran out.
     OutOfMemory,
 }
 
 impl PublishSubscribeOpenError {
-    /// What it displays as.
+    /// The text that `Display` prints.
     pub fn text(&self) -> &'static str
         ensures { result.now ≡ open_text self.now }
     {
@@ -94,26 +93,26 @@ impl fmt::Display for PublishSubscribeOpenError {
 /// Ported from `iceoryx2::service::builder::publish_subscribe::PublishSubscribeCreateError`.
 #[derive(Clone, Copy, Debug, PartialEq, Eq, Error)]
 pub enum PublishSubscribeCreateError {
-    /// A service stands.
+    /// The service exists already.
     AlreadyExists,
-    /// It is not permitted.
+    /// The node lacks the permission.
     InsufficientPermissions,
-    /// A setting is beyond the limits, or an access failed.
+    /// A setting is beyond its limits, or an access failed.
     InternalFailure,
-    /// Another creates it.
+    /// Another node is creating the service.
     IsBeingCreatedByAnotherInstance,
-    /// Another was about to create it when it was looked for.
+    /// When the service was looked up, another node had its lock.
     HangsInCreation,
-    /// What stands is no description of this service.
+    /// The stored data isn't a description of this service.
     ServiceInCorruptedState,
-    /// A full buffer would hold the publisher up, and has no room for the history.
+    /// The history doesn't fit into a buffer that blocks the publisher when it is full.
     SubscriberBufferMustBeLargerThanHistorySize,
-    /// No memory was found.
+    /// Memory ran out.
     OutOfMemory,
 }
 
 impl PublishSubscribeCreateError {
-    /// What it displays as.
+    /// The text that `Display` prints.
     pub fn text(&self) -> &'static str
         ensures { result.now ≡ create_text self.now }
     {
@@ -134,16 +133,16 @@ impl fmt::Display for PublishSubscribeCreateError {
 /// Ported from `iceoryx2::service::builder::publish_subscribe::PublishSubscribeOpenOrCreateError`.
 #[derive(Clone, Copy, Debug, PartialEq, Eq, Error)]
 pub enum PublishSubscribeOpenOrCreateError {
-    /// There is one, which isn't opened.
+    /// The service exists, and isn't opened.
     PublishSubscribeOpenError(PublishSubscribeOpenError),
-    /// There was none, and it isn't created.
+    /// The service doesn't exist, and isn't created.
     PublishSubscribeCreateError(PublishSubscribeCreateError),
-    /// It came and went in each of five rounds.
+    /// In each of five rounds, other nodes were creating or removing the service.
     SystemInFlux,
 }
 
 impl PublishSubscribeOpenOrCreateError {
-    /// What it displays as.
+    /// The text that `Display` prints.
     pub fn text(&self) -> &'static str
         ensures { result.now ≡ open_or_create_text self.now }
     {
@@ -167,7 +166,7 @@ impl fmt::Display for PublishSubscribeOpenOrCreateError {
     }
 }
 
-/// The error of the clause that is not met, by its name.
+/// The error with the name of the unmet clause.
 impl From<ClauseError> for PublishSubscribeOpenError {
     ghost from_gives = { λ unmet error. error ≡ clause_error unmet };
 
@@ -176,7 +175,7 @@ impl From<ClauseError> for PublishSubscribeOpenError {
     }
 }
 
-/// The error of the same name, and the error of a clause that is not met.
+/// The error with the same name, or the error of the unmet clause.
 impl From<OpenFailure<ClauseError>> for PublishSubscribeOpenError {
     ghost from_gives = { λ failure error. error ≡ open_error failure };
 
@@ -185,7 +184,7 @@ impl From<OpenFailure<ClauseError>> for PublishSubscribeOpenError {
     }
 }
 
-/// The error of the same name.
+/// The error with the same name.
 impl From<CreateFailure> for PublishSubscribeCreateError {
     ghost from_gives = { λ failure error. error ≡ create_error failure };
 
@@ -198,7 +197,7 @@ impl From<CreateFailure> for PublishSubscribeCreateError {
     }
 }
 
-/// The refusal of a service that stands.
+/// Why an existing service isn't opened.
 impl From<PublishSubscribeOpenError> for PublishSubscribeOpenOrCreateError {
     ghost from_gives = { λ error outer. outer ≡ either.PublishSubscribeOpenError error };
 
@@ -207,7 +206,7 @@ impl From<PublishSubscribeOpenError> for PublishSubscribeOpenOrCreateError {
     }
 }
 
-/// The refusal of a service that is to be created.
+/// Why a service isn't created.
 impl From<PublishSubscribeCreateError> for PublishSubscribeOpenOrCreateError {
     ghost from_gives = { λ error outer. outer ≡ either.PublishSubscribeCreateError error };
 
@@ -216,7 +215,7 @@ impl From<PublishSubscribeCreateError> for PublishSubscribeOpenOrCreateError {
     }
 }
 
-/// The error of the same name, around the error within.
+/// The error with the same name, around the inner error.
 impl From<OpenOrCreateFailure<ClauseError>> for PublishSubscribeOpenOrCreateError {
     ghost from_gives = { λ failure error. error ≡ open_or_create_error failure };
 

@@ -13,7 +13,7 @@ use iox_describe_verdict::requirement::request_response::ClauseError;
 use std::fmt;
 use thiserror::Error;
 
-/// A table of the errors of clauses that a request-response service doesn't meet.
+/// A table of the errors of clauses that a request-response service may not meet.
 macro_rules! of_clauses {
     ($table:ident: $($given:tt)*) => {
         $table!($($given)*:
@@ -30,17 +30,16 @@ macro_rules! of_clauses {
     };
 }
 
-/// Why a request-response service isn't opened. The clauses that it may not meet stand first, in the order in which
-/// they are tested.
+/// Why a request-response service isn't opened. The errors of unmet clauses come first, in the order in which the clauses are tested.
 ///
 /// Ported from `iceoryx2::service::builder::request_response::RequestResponseOpenError`.
 #[derive(Clone, Copy, Debug, PartialEq, Eq, Error)]
 pub enum RequestResponseOpenError {
     /// The service has another messaging pattern.
     IncompatibleMessagingPattern,
-    /// The types of requests are not compatible.
+    /// The required request types aren't compatible with those of the service.
     IncompatibleRequestType,
-    /// The types of responses are not compatible.
+    /// The required response types aren't compatible with those of the service.
     IncompatibleResponseType,
     /// A required attribute or key is missing.
     IncompatibleAttributes,
@@ -50,40 +49,40 @@ pub enum RequestResponseOpenError {
     IncompatibleOverflowBehaviorForResponses,
     /// The switch `enable_fire_and_forget_requests` differs.
     IncompatibleBehaviorForFireAndForgetRequests,
-    /// The service has fewer loaned requests than asked.
+    /// The service permits fewer loaned requests than required.
     DoesNotSupportRequestedAmountOfClientRequestLoans,
-    /// The service has fewer active requests than asked.
+    /// The service permits fewer active requests than required.
     DoesNotSupportRequestedAmountOfActiveRequestsPerClient,
-    /// The service has less room for responses than asked.
+    /// The service's response buffers are smaller than required.
     DoesNotSupportRequestedResponseBufferSize,
-    /// The service has fewer servers than asked.
+    /// The service has fewer servers than required.
     DoesNotSupportRequestedAmountOfServers,
-    /// The service has fewer clients than asked.
+    /// The service has fewer clients than required.
     DoesNotSupportRequestedAmountOfClients,
-    /// The service has fewer borrowed responses than asked.
+    /// The service permits fewer borrowed responses than required.
     DoesNotSupportRequestedAmountOfBorrowedResponsesPerPendingResponse,
-    /// The service has fewer nodes than asked.
+    /// The service has fewer nodes than required.
     DoesNotSupportRequestedAmountOfNodes,
-    /// There is none.
+    /// The service doesn't exist.
     DoesNotExist,
-    /// It is not permitted.
+    /// The node lacks the permission.
     InsufficientPermissions,
-    /// What stands is no description of this service, or its segment was absent in each of five rounds.
+    /// The stored data isn't a description of this service, or its segment was absent in each of five rounds.
     ServiceInCorruptedState,
     /// An access failed.
     InternalFailure,
-    /// Another was about to create it when it was looked for.
+    /// When the service was looked up, another node had its lock.
     HangsInCreation,
-    /// As many nodes as the service allows are in it, and this node is none of them.
+    /// The service has its maximum number of nodes, and this node isn't one of them.
     ExceedsMaxNumberOfNodes,
-    /// Its last node left, so it is about to be removed.
+    /// The last node left the service, so it is about to be removed.
     IsMarkedForDestruction,
-    /// No memory was found.
+    /// Memory ran out.
     OutOfMemory,
 }
 
 impl RequestResponseOpenError {
-    /// What it displays as.
+    /// The text that `Display` prints.
     pub fn text(&self) -> &'static str
         ensures { result.now ≡ open_text self.now }
     {
@@ -104,24 +103,24 @@ impl fmt::Display for RequestResponseOpenError {
 /// Ported from `iceoryx2::service::builder::request_response::RequestResponseCreateError`.
 #[derive(Clone, Copy, Debug, PartialEq, Eq, Error)]
 pub enum RequestResponseCreateError {
-    /// A service stands.
+    /// The service exists already.
     AlreadyExists,
-    /// It is not permitted.
+    /// The node lacks the permission.
     InsufficientPermissions,
-    /// A setting is beyond the limits, or an access failed.
+    /// A setting is beyond its limits, or an access failed.
     InternalFailure,
-    /// Another creates it.
+    /// Another node is creating the service.
     IsBeingCreatedByAnotherInstance,
-    /// Another was about to create it when it was looked for.
+    /// When the service was looked up, another node had its lock.
     HangsInCreation,
-    /// What stands is no description of this service.
+    /// The stored data isn't a description of this service.
     ServiceInCorruptedState,
-    /// No memory was found.
+    /// Memory ran out.
     OutOfMemory,
 }
 
 impl RequestResponseCreateError {
-    /// What it displays as.
+    /// The text that `Display` prints.
     pub fn text(&self) -> &'static str
         ensures { result.now ≡ create_text self.now }
     {
@@ -142,16 +141,16 @@ impl fmt::Display for RequestResponseCreateError {
 /// Ported from `iceoryx2::service::builder::request_response::RequestResponseOpenOrCreateError`.
 #[derive(Clone, Copy, Debug, PartialEq, Eq, Error)]
 pub enum RequestResponseOpenOrCreateError {
-    /// There is one, which isn't opened.
+    /// The service exists, and isn't opened.
     RequestResponseOpenError(RequestResponseOpenError),
-    /// There was none, and it isn't created.
+    /// The service doesn't exist, and isn't created.
     RequestResponseCreateError(RequestResponseCreateError),
-    /// It came and went in each of five rounds.
+    /// In each of five rounds, other nodes were creating or removing the service.
     SystemInFlux,
 }
 
 impl RequestResponseOpenOrCreateError {
-    /// What it displays as.
+    /// The text that `Display` prints.
     pub fn text(&self) -> &'static str
         ensures { result.now ≡ open_or_create_text self.now }
     {
@@ -174,7 +173,7 @@ impl fmt::Display for RequestResponseOpenOrCreateError {
     }
 }
 
-/// The error of the clause that is not met, by its name.
+/// The error with the name of the unmet clause.
 impl From<ClauseError> for RequestResponseOpenError {
     ghost from_gives = { λ unmet error. error ≡ clause_error unmet };
 
@@ -183,7 +182,7 @@ impl From<ClauseError> for RequestResponseOpenError {
     }
 }
 
-/// The error of the same name, and the error of a clause that is not met.
+/// The error with the same name, or the error of the unmet clause.
 impl From<OpenFailure<ClauseError>> for RequestResponseOpenError {
     ghost from_gives = { λ failure error. error ≡ open_error failure };
 
@@ -192,7 +191,8 @@ impl From<OpenFailure<ClauseError>> for RequestResponseOpenError {
     }
 }
 
-/// The error of the same name. There is no history here, so what a history asks is not met with.
+/// The error with the same name. A request-response service has no history, so the failure about the history doesn't occur; it becomes
+/// `InternalFailure`.
 impl From<CreateFailure> for RequestResponseCreateError {
     ghost from_gives = { λ failure error. error ≡ create_error failure };
 
@@ -201,7 +201,7 @@ impl From<CreateFailure> for RequestResponseCreateError {
     }
 }
 
-/// The refusal of a service that stands.
+/// Why an existing service isn't opened.
 impl From<RequestResponseOpenError> for RequestResponseOpenOrCreateError {
     ghost from_gives = { λ error outer. outer ≡ either.RequestResponseOpenError error };
 
@@ -210,7 +210,7 @@ impl From<RequestResponseOpenError> for RequestResponseOpenOrCreateError {
     }
 }
 
-/// The refusal of a service that is to be created.
+/// Why a service isn't created.
 impl From<RequestResponseCreateError> for RequestResponseOpenOrCreateError {
     ghost from_gives = { λ error outer. outer ≡ either.RequestResponseCreateError error };
 
@@ -219,7 +219,7 @@ impl From<RequestResponseCreateError> for RequestResponseOpenOrCreateError {
     }
 }
 
-/// The error of the same name, around the error within.
+/// The error with the same name, around the inner error.
 impl From<OpenOrCreateFailure<ClauseError>> for RequestResponseOpenOrCreateError {
     ghost from_gives = { λ failure error. error ≡ open_or_create_error failure };
 

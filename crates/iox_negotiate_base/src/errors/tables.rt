@@ -1,6 +1,6 @@
-//! The tables of names that the errors of all patterns share, so that each stands once.
+//! The tables of names that the errors of all patterns share, so that each name is written once.
 
-/// The variant of the same name.
+/// The variant with the same name.
 macro_rules! named_alike {
     ($value:expr, $From:ident to $To:ident: $($name:ident)*) => {
         match $value {
@@ -9,7 +9,7 @@ macro_rules! named_alike {
     };
 }
 
-/// What each variant displays as: alone, or in the error around it.
+/// The text of each variant: alone, or in the error around it.
 macro_rules! variant_displayed {
     ($error:expr, $Error:ident: $($name:ident)*) => {
         match $error {
@@ -25,7 +25,7 @@ macro_rules! variant_displayed {
     };
 }
 
-/// What an error of opening displays as, `[alone]` or `[within in around]`; the variants of its own pattern are named.
+/// The text of an error of opening, `[alone]` or `[within in around]`; only the variants of its own pattern are listed by the caller.
 macro_rules! open_displayed {
     ($error:expr, [$($types:tt)*]: $($own:ident)*) => {
         $crate::errors::tables::variant_displayed!($error, $($types)*: $($own)*
@@ -34,7 +34,7 @@ macro_rules! open_displayed {
     };
 }
 
-/// What an error of creating displays as, likewise.
+/// The text of an error of creating, in the same form.
 macro_rules! create_displayed {
     ($error:expr, [$($types:tt)*]: $($own:ident)*) => {
         $crate::errors::tables::variant_displayed!($error, $($types)*: $($own)*
@@ -43,7 +43,7 @@ macro_rules! create_displayed {
     };
 }
 
-/// The error of the same name, and the error of a clause that is not met.
+/// The error with the same name, or the error of the unmet clause.
 macro_rules! of_open_failure {
     ($failure:expr, $Error:ident) => {
         match $failure {
@@ -60,7 +60,7 @@ macro_rules! of_open_failure {
     };
 }
 
-/// The error of the same name, and the one named of a buffer without room for the history.
+/// The error with the same name; the variant for a history that doesn't fit is passed by the caller.
 macro_rules! of_create_failure {
     ($failure:expr, $Error:ident, $small:ident) => {
         match $failure {
@@ -77,7 +77,7 @@ macro_rules! of_create_failure {
     };
 }
 
-/// The error of the same name, around the error within.
+/// The error with the same name, around the inner error.
 macro_rules! of_either_failure {
     ($failure:expr, $Either:ident of $Open:ident, $Create:ident) => {
         match $failure {

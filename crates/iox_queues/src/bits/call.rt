@@ -8,50 +8,54 @@ use iox_queues_steps::{Access, Word};
 /// A call that a party may begin.
 #[derive(Clone, Copy)]
 pub enum Call {
-    /// Counts the place once more, if its count is not the largest.
+    /// Raises the count of this place by one, unless the count is the largest.
     Set(u64),
-    /// Takes the next place out that is not 0.
+    /// Resets the next place whose count isn't 0.
     ResetNext,
-    /// Takes all places out, by rising number; it is done at once where there is none. Each exchange that wins shows a place and its count.
+    /// Resets all places, by rising number. It finishes at once if the set has no place. Each exchange that succeeds shows a place and its
+    /// count.
     ResetAll,
 }
 
-/// What a call answered.
+/// The result of a call.
 #[derive(Clone, Copy, PartialEq, Eq)]
 pub enum Answer {
-    /// A set counted its place once more, or found it at the largest count.
+    /// A set raised the count of its place by one (true), or found the largest count (false).
     Added(bool),
-    /// A reset took this place out and no other, or found none.
+    /// A reset of the next place reset exactly this place, or found none to reset.
     Taken(Option<u64>),
-    /// A reset of all places is done.
+    /// A reset of all places is finished.
     Swept,
 }
 
-/// Where a call stands. Between its begin and `Done` each stage is one access.
+/// The stage of a call. Each stage from its begin to `Done` is one access after the one before.
 #[derive(Clone, Copy)]
 pub enum SetCall {
+    /// No call is in progress.
     Idle,
-    /// Counts a place once more, up to `max`.
+    /// Raises the count of a place by one, up to `max`.
     Add {
         place: u64,
         max: u64,
     },
+    /// The call has the count, and exchanges it for one more.
     Adding {
         place: u64,
         max: u64,
         count: u64,
     },
-    /// Takes the next place out that is not 0, beginning where the last one stopped.
+    /// Resets the next place whose count isn't 0, starting where the last search stopped.
     Next {
         capacity: u64,
     },
-    /// Goes over `left` places from `place` on, and round; takes one out, or all of them.
+    /// Scans `left` places from `place` on, wrapping around, and resets one of them or all.
     Sweep {
         place: u64,
         left: u64,
         capacity: u64,
         all: bool,
     },
+    /// The call has found this count at a place, and exchanges it for 0.
     Taking {
         place: u64,
         left: u64,
@@ -59,12 +63,12 @@ pub enum SetCall {
         all: bool,
         count: u64,
     },
-    /// Stores where the next search begins.
+    /// Stores the place at which the next search starts.
     Found {
         place: u64,
         after: u64,
     },
-    /// The call answered; its last step is to come.
+    /// The call has its result, and its last step is still to come.
     Done {
         call: Call,
         answer: Answer,
@@ -72,7 +76,7 @@ pub enum SetCall {
 }
 
 impl SetCall {
-    /// The call's first stage, in a set of this capacity whose counts go up to `max`.
+    /// The first stage of the call, in a set with this capacity whose counts go up to `max`.
     pub fn begin(call: Call, max: u64, capacity: u64) -> SetCall
         ensures { result ≡ call_begun max capacity call }
     {
@@ -83,7 +87,7 @@ impl SetCall {
         }
     }
 
-    /// The access that comes next.
+    /// The next access of the call.
     pub fn next(&self) -> Access
         ensures { result ≡ call_next self.now }
     {
@@ -100,7 +104,7 @@ impl SetCall {
         }
     }
 
-    /// Where the call stands after the answer of that access.
+    /// The stage after the result of that access.
     pub fn take(self, answer: u64) -> SetCall
         ensures { result ≡ call_take self answer }
     {
@@ -149,14 +153,14 @@ impl SetCall {
         }
     }
 
-    /// No call is under way.
+    /// Whether no call is in progress.
     pub fn is_idle(&self) -> bool
         ensures { result ≡ call_is_idle self.now }
     {
         matches!(*self, SetCall::Idle)
     }
 
-    /// The next step is the last of its call.
+    /// Whether the next step is the last one of its call.
     pub fn is_over(&self) -> bool
         ensures { result ≡ call_is_over self.now }
     {
@@ -164,7 +168,7 @@ impl SetCall {
     }
 }
 
-// One more, unless the count is the largest.
+// The stage after a load: another exchange, unless the count is the largest.
 fn adding(place: u64, max: u64, count: u64) -> SetCall
     ensures { result ≡ adding_at place max count }
 {
@@ -178,7 +182,7 @@ fn adding(place: u64, max: u64, count: u64) -> SetCall
     }
 }
 
-// To the next place, if one is left.
+// The stage at the next place, if one is left.
 fn going_on(place: u64, left: u64, capacity: u64, all: bool) -> SetCall
     ensures { result ≡ going_on_at place left capacity all }
 {
@@ -194,7 +198,7 @@ fn going_on(place: u64, left: u64, capacity: u64, all: bool) -> SetCall
     }
 }
 
-// No place is left.
+// The stage after the last place.
 fn swept(all: bool) -> SetCall
     ensures { result ≡ swept_by all }
 {
@@ -211,7 +215,7 @@ fn swept(all: bool) -> SetCall
     }
 }
 
-// A place that is 0 is passed over; another is to be taken out.
+// The stage after a place was read: a place with count 0 is skipped, and any other place is to be reset.
 fn sweeping(place: u64, left: u64, capacity: u64, all: bool, count: u64) -> SetCall
     ensures { result ≡ sweeping_at place left capacity all count }
 {
@@ -233,7 +237,7 @@ fn sweeping(place: u64, left: u64, capacity: u64, all: bool, count: u64) -> SetC
     }
 }
 
-// A place was taken out: all the others too, or done.
+// The stage after a place was reset: the scan goes on if all places are to be reset, else the call is done.
 fn found(place: u64, left: u64, capacity: u64, all: bool) -> SetCall
     ensures { result ≡ found_at place left capacity all }
 {

@@ -1,4 +1,4 @@
-//! The machine of a bit set or a counting bit set.
+//! A machine that runs a bit set or a counting bit set step by step.
 ghost use Rattle.std.specs.Prelude.{◌≡◌, ◌+◌, ◌<◌, ◌≤◌, ◌^◌, IfOk, length, slice_index};
 
 use crate::bits::call::{Answer, Call, SetCall};
@@ -7,37 +7,46 @@ use iox_queues_steps::{Access, Stepped};
 use std::alloc::{AllocError, Global};
 use std::marker::Model;
 
-/// One step: a party begins a call, or goes on inside one.
+/// One step: a party begins a call, or makes the next step of its call.
 #[derive(Clone, Copy)]
 pub enum Move {
+    /// The party with this number begins a call.
     Begin(usize, Call),
+    /// The party with this number makes the next step of its call.
     GoOn(usize),
 }
 
-/// A step that was made.
+/// A step that was made: who made it, which access it made, and the result of the access.
 #[derive(Clone, Copy)]
 pub struct Event {
+    /// The number of the party that made the step.
     pub party: usize,
+    /// The access that the step made.
     pub access: Access,
+    /// The result of the access.
     pub answer: u64,
 }
 
-/// A call that ended: its first and its last step, by their number among the steps made.
+/// A finished call, with its first and its last step, by their numbers among the steps made.
 #[derive(Clone, Copy)]
 pub struct Finished {
+    /// The number of the party that made the call.
     pub party: usize,
+    /// The call.
     pub call: Call,
+    /// The result of the call.
     pub answer: Answer,
+    /// The number of its first step.
     pub first: u64,
+    /// The number of its last step.
     pub last: u64,
 }
 
-/// A set whose parties go one step at a time, in any order that the caller wants.
+/// A set whose parties make their steps in any order that the caller chooses.
 ///
-/// Any party may stop anywhere. For each place, what was counted in is what was taken out and what
-/// is there now; no count passes the largest. What a call that ended did is what it answered, at moments of its own. Each step got
-/// what its word held, and is one that a call asked for. The count of a place changes at just those steps that count it once more
-/// or take it out.
+/// Any party may stop at any step. For each place, the sum of its increments is what resets took out plus the current count, and no count
+/// exceeds the largest. A finished call did what its result says, at moments of its own. The result of each step is what its word held, and
+/// each step is one that a call requested. The count of a place changes at exactly those steps that raise it by one or reset it.
 #[derive(Drop)]
 pub struct SetMachine {
     state: State,
@@ -62,8 +71,8 @@ impl SetMachine {
     ghost use Rattle.iox_queues.specs.Asked.{ChangesByActs, IsRecorded, StepsAreOfCalls, TellsStep};
     ghost use Rattle.iox_queues.specs.Moments.{CallsHaveMoments};
 
-    /// An empty set of this capacity, with this many parties. No count passes `max`, which is 1 for
-    /// a bit set.
+    /// An empty set with this capacity and this many parties. No count exceeds `max`, which is 1 for a bit set. It fails only where an
+    /// allocation fails.
     pub fn new(
         alloc: Global,
         max: u64,
@@ -77,7 +86,7 @@ impl SetMachine {
         })
     }
 
-    /// Begins a call, or goes on inside one.
+    /// Begins a call, or makes the next step of a call. A step that isn't possible is skipped.
     pub fn step(&mut self, step: Move) -> Stepped
         ensures steps { StepsTo self.old step result self.new }
         ensures tells { TellsStep self.old step result self.new }
@@ -91,8 +100,8 @@ impl SetMachine {
         self.state.step(step)
     }
 
-    /// Makes these steps one after the other, leaves out those that do not fit, and stops where no
-    /// memory is found. The answer is how many were made.
+    /// Makes these steps one after another, skips those that aren't possible, and stops where memory for recording a step runs out. Returns
+    /// how many steps were made.
     pub fn run(&mut self, schedule: &[Move]) -> usize
         ensures runs { RunsTo self.old schedule.now result self.new }
         ensures balanced { IsBalanced self.new }
@@ -116,7 +125,7 @@ impl SetMachine {
         made
     }
 
-    // What every machine keeps.
+    // Recalls the invariants of every machine for the prover.
     fn keeps(&self)
         ensures balanced { IsBalanced self.now }
         ensures told { IsTold self.now }
@@ -139,7 +148,7 @@ impl SetMachine {
         self.state.events.as_slice()
     }
 
-    /// The calls that ended, in their order.
+    /// The finished calls, in the order in which they finished.
     pub fn finished(&self) -> &[Finished]
         ensures value { result.now ≡ self.now.finished }
         ensures told { IsTold self.now }
@@ -150,14 +159,14 @@ impl SetMachine {
         self.state.finished.as_slice()
     }
 
-    /// How many places there are.
+    /// How many places the set has.
     pub fn capacity(&self) -> u64
         ensures { result ≡ length self.now.words.cells }
     {
         self.state.capacity
     }
 
-    /// What the place holds.
+    /// The count of the place.
     pub fn count(&self, place: usize) -> u64
         requires { place < length self.now.words.cells }
         ensures value { result ≡ slice_index self.now.words.cells place }
@@ -166,7 +175,7 @@ impl SetMachine {
         self.state.count(place)
     }
 
-    /// Where the party stands; one that is not there is idle.
+    /// The stage of the party; a party that doesn't exist is idle.
     pub fn stage(&self, party: usize) -> SetCall
         ensures { result ≡ stage_at self.now.seats party }
     {

@@ -10,10 +10,12 @@ use crate::bits::machine::{Event, Finished, Move};
 use iox_queues_steps::{Access, Ring, Stepped, Word};
 use std::alloc::{AllocError, Global};
 
-/// Where a party stands, and the number of its call's first step.
+/// The stage of a party's call, and the number of the call's first step.
 #[derive(Clone, Copy)]
 pub struct Seat {
+    /// The stage of the party's call.
     pub stage: SetCall,
+    /// The number of the first step of this call.
     pub first: u64,
 }
 
@@ -103,7 +105,7 @@ impl State {
         }
     }
 
-    // Room for one step, and for a call that ends with it.
+    // Reserves memory for one step, and for the call that finishes with it.
     fn reserve(&mut self, ends: bool) -> Result<(), AllocError>
         ensures same { machine_of self.new ≡ machine_of self.old }
         ensures capacity { self.new.capacity ≡ self.old.capacity }
@@ -195,7 +197,7 @@ impl State {
     }
 }
 
-// Makes the access, and gives its answer; some touch no cell, and need none.
+// Makes the access, and returns its result. Some accesses touch no cell, and then the set needs none.
 fn apply(ring: &mut Ring, access: Access) -> u64
     requires { is_apart access ≡ false → 0 < length ring.old.cells }
     ensures answer { result ≡ answer_of ring.old access }
@@ -217,7 +219,7 @@ fn idle() -> Seat
     }
 }
 
-// Records the call, if it is over.
+// Records the call, if it is finished.
 fn end_call(finished: &mut Vec<Finished>, party: usize, seat: Seat, last: u64)
     requires { call_is_over seat.stage ≡ true → vec_len finished.old < vec_capacity finished.old }
     ensures { finished.new.items ≡ finished.old.items ++ call_ended party seat.first last seat.stage }

@@ -1,6 +1,6 @@
 //! The shared single value.
 //!
-//! Two cells hold it in turn: a store writes the cell that no load looks at, then moves on.
+//! The value is stored in two cells alternately: a store writes the cell that no load reads, then moves the position.
 //!
 //! Ported from `UnrestrictedAtomic` of iceoryx2.
 ghost use Rattle.std.specs.Prelude.{◌≡◌, Some, None, true, nat_le, if◌then◌else◌};
@@ -30,7 +30,7 @@ impl<T: Words> Shareable for UnrestrictedAtomic<T> {
         1
     }
 
-    // The second cell takes the value too, before any store.
+    // Fills the second cell with the value too, before any store.
     fn pour(&mut self, cell: &[AtomicU64]) -> bool
         ensures answer { result ≡ true }
         ensures after { self.new ≡ self.old }
@@ -41,7 +41,7 @@ impl<T: Words> Shareable for UnrestrictedAtomic<T> {
 }
 
 impl<T: Words> Producer<'_, UnrestrictedAtomic<T>> {
-    /// Puts the value in the place of the one before.
+    /// Replaces the value by another.
     pub fn store(&mut self, value: T) {
         let mut cells = Values {
             words: self.words,
@@ -52,7 +52,7 @@ impl<T: Words> Producer<'_, UnrestrictedAtomic<T>> {
 }
 
 impl<T: Words> Shared<UnrestrictedAtomic<T>> {
-    /// The value stored last; None after 2^20 turns in each of which a store ended.
+    /// The value stored last; `None` if during each of 2^20 tries a store finished.
     pub fn load(&self) -> Option<T> {
         let mut cells = Values {
             words: &self.words,

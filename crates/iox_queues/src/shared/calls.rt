@@ -1,5 +1,5 @@
-//! Pushes and pops on shared words, each one run of its party value: it makes the accesses that the
-//! value asks for, in that order, and no other.
+//! Pushes and pops on shared words. Each is one run of its call: it makes the accesses that the call requests, in that order, and no
+//! others.
 ghost use Rattle.std.specs.Prelude.{◌≡◌, ◌+◌, ◌-◌, ◌^◌, ◌<◌, ℕ, List, length, true, false, Some};
 ghost use Rattle.iox_queues.specs.QueuesSteps.Runs.{Runs};
 ghost use Rattle.iox_queues_steps.specs.Overflowing as overflowing;
@@ -20,8 +20,7 @@ use iox_queues_steps::rings::overflowing::{Pop as OverflowingPop, Push as Overfl
 use iox_queues_steps::rings::refusing::{Pop as RefusingPop, Push as RefusingPush};
 use iox_queues_steps::{End, Memory, PushAnswer};
 
-/// Puts the number behind the rest, where at most `limit` may wait; false if so many wait. At most
-/// four accesses.
+/// Appends the number and returns true, or returns false if `limit` numbers wait. It makes at most four accesses.
 #[inline(always)]
 pub(crate) fn push_refusing<M: Memory>(memory: &mut M, limit: u64, value: u64) -> bool
     ensures { (given : List ℕ) × (end : _)
@@ -39,7 +38,7 @@ pub(crate) fn push_refusing<M: Memory>(memory: &mut M, limit: u64, value: u64) -
     )
 }
 
-/// Takes the oldest number out; None if nothing waits. At most four accesses.
+/// Removes the oldest number and returns it; `None` if no number waits. It makes at most four accesses.
 #[inline(always)]
 pub(crate) fn pop_refusing<M: Memory>(memory: &mut M) -> Option<u64>
     ensures { (given : List ℕ) × (end : _)
@@ -52,8 +51,7 @@ pub(crate) fn pop_refusing<M: Memory>(memory: &mut M) -> Option<u64>
     }
 }
 
-/// Puts the number behind the rest, where at most `limit` may wait; hands the oldest out if so many
-/// wait. At most six accesses.
+/// Appends the number. If `limit` numbers wait, removes the oldest number and returns it. It makes at most six accesses.
 #[inline(always)]
 pub(crate) fn push_overflowing<M: Memory>(memory: &mut M, limit: u64, value: u64) -> Option<u64>
     ensures { (given : List ℕ) × (end : _)
@@ -70,8 +68,8 @@ pub(crate) fn push_overflowing<M: Memory>(memory: &mut M, limit: u64, value: u64
     }
 }
 
-/// Takes the oldest number out; None if nothing waits, or after 2^20 lost exchanges: two loads of
-/// positions, then a load of a cell and an exchange each turn.
+/// Removes the oldest number and returns it; `None` if no number waits, or after 2^20 lost exchanges. It loads both positions, then each
+/// try loads a cell and makes one exchange.
 #[inline(always)]
 pub(crate) fn pop_overflowing<M: Memory>(memory: &mut M) -> Option<u64>
     ensures { (given : List ℕ) × (end : _)
@@ -86,7 +84,7 @@ pub(crate) fn pop_overflowing<M: Memory>(memory: &mut M) -> Option<u64>
     answer_of(later_turns(first, memory))
 }
 
-// What the pop ended with; None where its turns were used up.
+// The result of the pop; `None` if its tries were used up.
 #[inline(always)]
 fn answer_of(end: OverflowingPop) -> Option<u64>
     ensures { result ≡ taken end }
@@ -115,7 +113,7 @@ fn first_turn<M: Memory>(memory: &mut M) -> OverflowingPop
     step(cell, memory)
 }
 
-// Goes on where another end won each exchange so far.
+// Further tries, after other ends won each exchange so far.
 #[cold]
 fn later_turns<M: Memory>(lost: OverflowingPop, memory: &mut M) -> OverflowingPop
     ensures { (given : List ℕ)
@@ -125,7 +123,7 @@ fn later_turns<M: Memory>(lost: OverflowingPop, memory: &mut M) -> OverflowingPo
     run(lost, memory, 2 * LOST_TURNS - 2)
 }
 
-// Makes the access that comes next.
+// Makes the next access.
 #[inline(always)]
 fn step<E: End, M: Memory>(stage: E, memory: &mut M) -> E
     ensures { (answer : ℕ) × M.answers memory.old (E.asks stage) answer memory.new × (result ≡ E.takes stage answer) }
@@ -134,7 +132,7 @@ fn step<E: End, M: Memory>(stage: E, memory: &mut M) -> E
     stage.take(answer)
 }
 
-/// Stores the value that the memory holds: three accesses.
+/// Stores the value that the memory holds, in three accesses.
 #[inline(always)]
 pub(crate) fn store_single<M: Memory>(memory: &mut M)
     ensures { (given : List ℕ) × Runs M.answers store_next store_take store_is_over given memory.old storing.Begun memory.new
@@ -143,8 +141,8 @@ pub(crate) fn store_single<M: Memory>(memory: &mut M)
     run(Storing::Begun, memory, 3);
 }
 
-/// Loads the value into the memory; false after 2^20 turns in each of which the position moved: a load of the position, then
-/// two loads a turn.
+/// Loads the value into the memory and returns true, or returns false if the position moved during each of 2^20 tries. It loads the
+/// position once, and makes two loads in each try.
 #[inline(always)]
 pub(crate) fn load_single<M: Memory>(memory: &mut M) -> bool
     ensures { (given : List ℕ) × (end : _) × Runs M.answers load_next load_take load_is_over given memory.old loading.Begun memory.new end

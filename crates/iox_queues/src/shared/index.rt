@@ -11,7 +11,7 @@ use iox_queues_base::{
 };
 use std::sync::atomic::AtomicU64;
 
-// Puts the number into the cell, if there is one.
+// Stores the number in the cell, if there is one.
 fn pour_number(cell: &[AtomicU64], oldest: Option<u64>) -> bool
     ensures { result ≡ is_some oldest }
 {
@@ -141,56 +141,56 @@ impl<const CAPACITY: usize> Shareable for FixedSizeSafelyOverflowingIndexQueue<C
 impl<const CAPACITY: usize> SharedQueue for FixedSizeSafelyOverflowingIndexQueue<CAPACITY> {}
 
 impl Producer<'_, IndexQueue> {
-    /// Puts the number behind the rest; false if the queue is full.
+    /// Appends the number and returns true, or returns false if the queue is full.
     pub fn push(&mut self, value: u64) -> bool {
         push_refusing(&mut numbers(self.words), self.limit, value)
     }
 }
 
 impl<const CAPACITY: usize> Producer<'_, FixedSizeIndexQueue<CAPACITY>> {
-    /// Puts the number behind the rest; false if the queue is full.
+    /// Appends the number and returns true, or returns false if the queue is full.
     pub fn push(&mut self, value: u64) -> bool {
         push_refusing(&mut numbers(self.words), self.limit, value)
     }
 }
 
 impl Producer<'_, SafelyOverflowingIndexQueue> {
-    /// Puts the number behind the rest; a full queue hands its oldest number out.
+    /// Appends the number. A full queue removes its oldest number and returns it.
     pub fn push(&mut self, value: u64) -> Option<u64> {
         push_over(self.words, self.limit, value)
     }
 }
 
 impl<const CAPACITY: usize> Producer<'_, FixedSizeSafelyOverflowingIndexQueue<CAPACITY>> {
-    /// Puts the number behind the rest; a full queue hands its oldest number out.
+    /// Appends the number. A full queue removes its oldest number and returns it.
     pub fn push(&mut self, value: u64) -> Option<u64> {
         push_over(self.words, self.limit, value)
     }
 }
 
 impl Consumer<'_, IndexQueue> {
-    /// Takes the oldest number out; None if the queue is empty.
+    /// Removes the oldest number and returns it; `None` if the queue is empty.
     pub fn pop(&mut self) -> Option<u64> {
         pop_refusing(&mut numbers(self.words))
     }
 }
 
 impl<const CAPACITY: usize> Consumer<'_, FixedSizeIndexQueue<CAPACITY>> {
-    /// Takes the oldest number out; None if the queue is empty.
+    /// Removes the oldest number and returns it; `None` if the queue is empty.
     pub fn pop(&mut self) -> Option<u64> {
         pop_refusing(&mut numbers(self.words))
     }
 }
 
 impl Consumer<'_, SafelyOverflowingIndexQueue> {
-    /// Takes the oldest number out; None if the queue is empty, or after 2^20 lost exchanges.
+    /// Removes the oldest number and returns it; `None` if the queue is empty, or after 2^20 lost exchanges.
     pub fn pop(&mut self) -> Option<u64> {
         pop_overflowing(&mut numbers(self.words))
     }
 }
 
 impl<const CAPACITY: usize> Consumer<'_, FixedSizeSafelyOverflowingIndexQueue<CAPACITY>> {
-    /// Takes the oldest number out; None if the queue is empty, or after 2^20 lost exchanges.
+    /// Removes the oldest number and returns it; `None` if the queue is empty, or after 2^20 lost exchanges.
     pub fn pop(&mut self) -> Option<u64> {
         pop_overflowing(&mut numbers(self.words))
     }
@@ -201,7 +201,7 @@ fn numbers(words: &SharedWords) -> Numbers<'_> {
     Numbers { words }
 }
 
-// A queue of capacity 0 hands the number back.
+// Pushes the number; a queue of capacity 0 returns it instead.
 fn push_over(words: &SharedWords, limit: u64, value: u64) -> Option<u64> {
     if limit == 0 {
         return Some(value);

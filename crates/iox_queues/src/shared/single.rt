@@ -1,13 +1,13 @@
 //! A store and a load of the shared single value, one access at a time.
 //!
-//! The write position says which cell holds the value: the one before it. A store fills the next cell and then moves the
-//! position. A load looks at the position, at the cell, and at the position again.
+//! The write position determines the cell that holds the value, which is the cell before it. A store fills the next cell and then moves the
+//! position. A load reads the position, the cell, and the position again.
 ghost use Rattle.std.specs.Prelude.{◌≡◌};
 ghost use Rattle.iox_queues.specs.Single.{load_is_over, load_next, load_seen, load_take, store_is_over, store_next, store_take};
 
 use iox_queues_steps::{Access, End, Word};
 
-/// Where a store stands. Each stage before `Stored` is one access.
+/// The stage of a store. Each stage before `Stored` is one access.
 #[derive(Clone, Copy)]
 pub enum Storing {
     Begun,
@@ -47,7 +47,7 @@ impl End for Storing {
     }
 }
 
-/// Where a load stands. Each stage before `Loaded` is one access.
+/// The stage of a load. Each stage before `Loaded` is one access.
 #[derive(Clone, Copy)]
 pub enum Loading {
     Begun,
@@ -85,7 +85,7 @@ impl End for Loading {
     }
 }
 
-// A load whose position moved begins anew, from the position found.
+// The stage after the second load of the position: a load whose position moved is tried again from the position found.
 fn seen(unmoved: bool, found: u64) -> Loading
     ensures { result ≡ load_seen unmoved found }
 {

@@ -1,7 +1,6 @@
-//! The shared queue of any copied value.
+//! The shared queue of values of any type that is copied as words.
 //!
-//! Its pushes and pops are those of the ring that refuses; an access to a cell goes over the words of
-//! a value, one after the other.
+//! Its pushes and pops are those of the refusing ring. An access to a cell accesses the words of a value one after another.
 ghost use Rattle.std.specs.Prelude.{◌≡◌, Some, None, drop, slice_get, nat_le, if◌then◌else◌};
 ghost use Rattle.std.specs.Option.{is_some};
 
@@ -47,7 +46,7 @@ impl<T: Words, const CAPACITY: usize> Shareable for Queue<T, CAPACITY> {
 impl<T: Words, const CAPACITY: usize> SharedQueue for Queue<T, CAPACITY> {}
 
 impl<T: Words, const CAPACITY: usize> Producer<'_, Queue<T, CAPACITY>> {
-    /// Puts the value behind the rest; false if the queue is full.
+    /// Appends the value and returns true, or returns false if the queue is full.
     pub fn push(&mut self, value: &T) -> bool {
         let mut cells = Values {
             words: self.words,
@@ -58,7 +57,7 @@ impl<T: Words, const CAPACITY: usize> Producer<'_, Queue<T, CAPACITY>> {
 }
 
 impl<T: Words, const CAPACITY: usize> Consumer<'_, Queue<T, CAPACITY>> {
-    /// Takes the oldest value out; None if the queue is empty.
+    /// Removes the oldest value and returns it; `None` if the queue is empty.
     pub fn pop(&mut self) -> Option<T> {
         let mut cells = Values {
             words: self.words,

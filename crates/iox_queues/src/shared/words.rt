@@ -1,14 +1,14 @@
-//! The shared words of a queue or a single value, and which of the roles are taken.
+//! The shared words of a queue or a single value, and the flags of the roles that are taken.
 ghost use Rattle.std.specs.Prelude.{◌≡◌, Some, None, nat_le, if◌then◌else◌};
 
 use iox_queues_base::Words;
 use iox_queues_steps::{Access, Memory, Word};
 use std::sync::atomic::{AtomicBool, AtomicU64, Ordering};
 
-/// How many words a shared value has at most.
+/// The maximum number of words of a shared value.
 pub const LARGEST: usize = 16;
 
-/// Two positions, and cells that they go round, each of `width` words.
+/// Two positions, and cells of `width` words each, which the positions address modulo their number.
 #[derive(Drop)]
 pub struct SharedWords {
     cells: Vec<AtomicU64>,
@@ -38,13 +38,13 @@ impl SharedWords {
         self.cell(self.write.load(Ordering::SeqCst))
     }
 
-    /// The cell was written.
+    /// Moves the write position behind the cell that was written.
     pub(crate) fn advance(&mut self) {
         let write = self.write.load(Ordering::SeqCst);
         self.write.store(write.saturating_add(1), Ordering::SeqCst);
     }
 
-    /// The words of the cell of this position.
+    /// The words of the cell at this position.
     fn cell(&self, position: u64) -> &[AtomicU64] {
         let count = self.count as u64;
         if count == 0 {
@@ -72,7 +72,7 @@ impl SharedWords {
         }
     }
 
-    /// Makes the access to one word, and gives its answer.
+    /// Makes the access to one word, and returns its result.
     #[inline(always)]
     pub(crate) fn apply(&self, access: Access) -> u64 {
         match access {
@@ -94,12 +94,12 @@ impl SharedWords {
         }
     }
 
-    /// Stores the value's words, one after the other.
+    /// Stores the value's words one after another.
     pub(crate) fn store_value<T: Words>(&self, position: u64, value: &T) {
         fill(self.cell(position), value);
     }
 
-    /// Loads the words of a value, one after the other.
+    /// Loads the words of a value one after another.
     pub(crate) fn load_value<T: Words>(&self, position: u64) -> Option<T> {
         let mut words = [0u64; LARGEST];
         for (word, atomic) in words.iter_mut().zip(self.cell(position).iter()) {
@@ -109,7 +109,7 @@ impl SharedWords {
     }
 }
 
-/// The words of a queue of numbers, as the memory of a call. What other threads stored is not claimed.
+/// The words of a queue of numbers, as the memory of a call. Nothing is proved of what other threads stored.
 #[derive(Drop)]
 pub(crate) struct Numbers<'a> {
     pub(crate) words: &'a SharedWords,
@@ -124,8 +124,7 @@ impl Memory for Numbers<'_> {
     }
 }
 
-/// The words of a queue of values, as the memory of a call: an access to a cell goes over the words of
-/// `value`, one after the other.
+/// The words of a queue of values, as the memory of a call. An access to a cell accesses the words of `value` one after another.
 #[derive(Drop)]
 pub(crate) struct Values<'a, T: Words> {
     pub(crate) words: &'a SharedWords,
@@ -162,7 +161,7 @@ pub(crate) fn fill<T: Words>(cell: &[AtomicU64], value: &T) {
     }
 }
 
-/// How many words a cell of such values has; None if they are more than can be shared.
+/// How many words a cell of such values has; `None` if they are more than can be shared.
 pub(crate) fn width_of<T: Words>() -> Option<usize>
     ensures { result ≡ (if nat_le T.WORDS 16 then Some T.WORDS else None) }
 {

@@ -7,7 +7,7 @@ use super::BitState;
 use std::alloc::{AllocError, Global};
 use std::marker::Model;
 
-/// A count for each number below a capacity that is set when it is made.
+/// A counter for each number below a capacity that is chosen by `new`. Contracts see the counts.
 #[derive(Debug, Drop)]
 pub struct CountingBitSet {
     counts: Vec<u64>,
@@ -22,7 +22,7 @@ impl Model for CountingBitSet {
 }
 
 impl CountingBitSet {
-    /// A count of 0 for each number below `capacity`, with its memory.
+    /// A count of 0 for each number below `capacity`; allocates the memory for all counts, and fails only where an allocation fails.
     pub fn new(alloc: Global, capacity: usize) -> Result<CountingBitSet, AllocError>
         ensures { IfOk result (λ s. s ≡ replicate capacity 0) }
     {
@@ -31,7 +31,7 @@ impl CountingBitSet {
         })
     }
 
-    /// Counts the number once more; false if its count is `max_count` already, and then it stays.
+    /// Raises the count of the number by one and returns true. If its count is `max_count` already, it stays, and the result is false.
     pub fn set(&mut self, id: usize) -> bool
         requires { id < length self.old }
         ensures answer { result ≡ nat_lt (slice_index self.old id) (2 ^ 64 - 1) }
@@ -46,7 +46,7 @@ impl CountingBitSet {
         }
     }
 
-    /// Takes all counts out, and calls `callback` with each count above 0, by rising number.
+    /// Calls `callback` with each count above 0, by rising number, and resets all counts to 0.
     pub fn reset_all<F: FnMut(BitState)>(&mut self, callback: &mut F)
         requires { F.IsAlwaysCallable callback.old }
         ensures called { FoldsTo (λ p x q. F.step p x tt q) callback.old (counted self.old) callback.new }
@@ -58,14 +58,14 @@ impl CountingBitSet {
         self.counts.fill(0);
     }
 
-    /// No count goes above this.
+    /// The maximum of each count.
     pub fn max_count(&self) -> u64
         ensures { result ≡ 2 ^ 64 - 1 }
     {
         u64::MAX
     }
 
-    /// All numbers that are counted are below this.
+    /// The capacity: every counted number is below it.
     pub fn capacity(&self) -> usize
         ensures { result ≡ length self.now }
     {
@@ -73,7 +73,7 @@ impl CountingBitSet {
     }
 }
 
-// Calls `callback` with each count above 0, by rising place.
+// Calls `callback` with each count above 0, by rising number.
 fn call_counted<F: FnMut(BitState)>(callback: &mut F, counts: &[u64])
     requires { F.IsAlwaysCallable callback.old }
     ensures called { FoldsTo (λ p x q. F.step p x tt q) callback.old (counted counts.now) callback.new }
@@ -90,7 +90,7 @@ fn call_counted<F: FnMut(BitState)>(callback: &mut F, counts: &[u64])
     }
 }
 
-/// A count for each number below `CAPACITY`. Clauses see the counts.
+/// A counter for each number below `CAPACITY`. Contracts see the counts.
 #[derive(Debug, Drop)]
 pub struct FixedSizeCountingBitSet<const CAPACITY: usize> {
     set: CountingBitSet,
@@ -107,7 +107,7 @@ impl<const CAPACITY: usize> Model for FixedSizeCountingBitSet<CAPACITY> {
 }
 
 impl<const CAPACITY: usize> FixedSizeCountingBitSet<CAPACITY> {
-    /// A count of 0 for each number, with its memory.
+    /// A count of 0 for each number; allocates the memory for all counts, and fails only where an allocation fails.
     pub fn new(alloc: Global) -> Result<FixedSizeCountingBitSet<CAPACITY>, AllocError>
         ensures { IfOk result (λ s. s ≡ replicate CAPACITY 0) }
     {
@@ -116,7 +116,7 @@ impl<const CAPACITY: usize> FixedSizeCountingBitSet<CAPACITY> {
         })
     }
 
-    /// Counts the number once more; false if its count is `max_count` already, and then it stays.
+    /// Raises the count of the number by one and returns true. If its count is `max_count` already, it stays, and the result is false.
     pub fn set(&mut self, id: usize) -> bool
         requires { id < CAPACITY }
         ensures answer { result ≡ nat_lt (slice_index self.old id) (2 ^ 64 - 1) }
@@ -125,7 +125,7 @@ impl<const CAPACITY: usize> FixedSizeCountingBitSet<CAPACITY> {
         self.set.set(id)
     }
 
-    /// Takes all counts out, and calls `callback` with each count above 0, by rising number.
+    /// Calls `callback` with each count above 0, by rising number, and resets all counts to 0.
     pub fn reset_all<F: FnMut(BitState)>(&mut self, callback: &mut F)
         requires { F.IsAlwaysCallable callback.old }
         ensures called { FoldsTo (λ p x q. F.step p x tt q) callback.old (counted self.old) callback.new }
@@ -136,14 +136,14 @@ impl<const CAPACITY: usize> FixedSizeCountingBitSet<CAPACITY> {
         self.set.reset_all(callback);
     }
 
-    /// No count goes above this.
+    /// The maximum of each count.
     pub fn max_count(&self) -> u64
         ensures { result ≡ 2 ^ 64 - 1 }
     {
         self.set.max_count()
     }
 
-    /// All numbers that are counted are below this.
+    /// The capacity: every counted number is below it.
     pub fn capacity(&self) -> usize
         ensures capacity { result ≡ CAPACITY }
         ensures places { length self.now ≡ CAPACITY }

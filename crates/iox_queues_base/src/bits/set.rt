@@ -6,7 +6,7 @@ ghost use Rattle.iox_queues_base.specs.Bits.{BitList, IsNext, AreClear, ListsMem
 use std::alloc::{AllocError, Global};
 use std::marker::Model;
 
-/// A set of numbers below a capacity that is set when it is made.
+/// A set of numbers below a capacity that is chosen by `new`.
 #[derive(Debug, Drop)]
 pub struct BitSet {
     bits: Vec<bool>,
@@ -25,7 +25,7 @@ impl Model for BitSet {
 }
 
 impl BitSet {
-    /// The empty set of numbers below `capacity`, with its memory.
+    /// The empty set of numbers below `capacity`; allocates the memory for all of them, and fails only where an allocation fails.
     pub fn new(alloc: Global, capacity: usize) -> Result<BitSet, AllocError>
         ensures { IfOk result (λ s. s ≡ record { bits = replicate capacity false; next = 0 }) }
     {
@@ -35,7 +35,7 @@ impl BitSet {
         })
     }
 
-    /// Puts the number into the set; true if it was not there before.
+    /// Adds the number to the set; true if it was not a member before.
     pub fn set(&mut self, id: usize) -> bool
         requires { id < length self.old.bits }
         ensures answer { result ≡ not (slice_index_or self.old.bits id false) }
@@ -46,8 +46,8 @@ impl BitSet {
         was_clear
     }
 
-    /// Takes the next member out; None if the set is empty. The search begins behind the number
-    /// that the last call took out, and goes round once.
+    /// Removes the next member and returns it; `None` if the set is empty. The search starts behind the number that the last call removed,
+    /// and wraps around once.
     pub fn reset_next(&mut self) -> Option<usize>
         ensures none { IfNone result (AreClear self.old.bits 0 (length self.old.bits) × (self.new ≡ self.old)) }
         ensures next { IfSome result (IsNext self.old.bits self.old.next) }
@@ -59,7 +59,7 @@ impl BitSet {
         Some(id)
     }
 
-    /// Takes all members out, and calls `callback` with each of them, rising.
+    /// Calls `callback` with each member, in rising order, and removes all members.
     pub fn reset_all<F: FnMut(usize)>(&mut self, callback: &mut F)
         requires { F.IsAlwaysCallable callback.old }
         ensures called { FoldsTo (λ p x q. F.step p x tt q) callback.old (members self.old.bits) callback.new }
@@ -71,7 +71,7 @@ impl BitSet {
         self.bits.fill(false);
     }
 
-    /// All numbers of the set are below this.
+    /// The capacity: every number of the set is below it.
     pub fn capacity(&self) -> usize
         ensures { result ≡ length self.now.bits }
     {
@@ -79,7 +79,7 @@ impl BitSet {
     }
 }
 
-// The first place from `from` up to `to` that is set.
+// The first member at or above `from` and below `to`.
 fn first_set(bits: &[bool], from: usize, to: usize) -> Option<usize>
     requires { to ≤ length bits.now }
     ensures none { IfNone result (AreClear bits.now from to) }
@@ -93,7 +93,7 @@ fn first_set(bits: &[bool], from: usize, to: usize) -> Option<usize>
     None
 }
 
-// The first set place from `from` on, going round once.
+// The first member at or above `from`, wrapping around once.
 fn next_set(bits: &[bool], from: usize) -> Option<usize>
     requires { from ≤ length bits.now }
     ensures none { IfNone result (AreClear bits.now 0 (length bits.now)) }
@@ -106,7 +106,7 @@ fn next_set(bits: &[bool], from: usize) -> Option<usize>
     }
 }
 
-// Calls `callback` with each set place, rising.
+// Calls `callback` with each member, in rising order.
 fn call_members<F: FnMut(usize)>(callback: &mut F, bits: &[bool])
     requires { F.IsAlwaysCallable callback.old }
     ensures called { FoldsTo (λ p x q. F.step p x tt q) callback.old (members bits.now) callback.new }
@@ -143,7 +143,7 @@ impl<const CAPACITY: usize> Model for FixedSizeBitSet<CAPACITY> {
 }
 
 impl<const CAPACITY: usize> FixedSizeBitSet<CAPACITY> {
-    /// The empty set, with its memory.
+    /// The empty set; allocates all its memory, and fails only where an allocation fails.
     pub fn new(alloc: Global) -> Result<FixedSizeBitSet<CAPACITY>, AllocError>
         ensures { IfOk result (λ s. s ≡ record { bits = replicate CAPACITY false; next = 0 }) }
     {
@@ -152,7 +152,7 @@ impl<const CAPACITY: usize> FixedSizeBitSet<CAPACITY> {
         })
     }
 
-    /// Puts the number into the set; true if it was not there before.
+    /// Adds the number to the set; true if it was not a member before.
     pub fn set(&mut self, id: usize) -> bool
         requires { id < CAPACITY }
         ensures answer { result ≡ not (slice_index_or self.old.bits id false) }
@@ -162,8 +162,8 @@ impl<const CAPACITY: usize> FixedSizeBitSet<CAPACITY> {
         self.set.set(id)
     }
 
-    /// Takes the next member out; None if the set is empty. The search begins behind the number
-    /// that the last call took out, and goes round once.
+    /// Removes the next member and returns it; `None` if the set is empty. The search starts behind the number that the last call removed,
+    /// and wraps around once.
     pub fn reset_next(&mut self) -> Option<usize>
         ensures none { IfNone result (AreClear self.old.bits 0 CAPACITY × (self.new ≡ self.old)) }
         ensures next { IfSome result (IsNext self.old.bits self.old.next) }
@@ -172,7 +172,7 @@ impl<const CAPACITY: usize> FixedSizeBitSet<CAPACITY> {
         self.set.reset_next()
     }
 
-    /// Takes all members out, and calls `callback` with each of them, rising.
+    /// Calls `callback` with each member, in rising order, and removes all members.
     pub fn reset_all<F: FnMut(usize)>(&mut self, callback: &mut F)
         requires { F.IsAlwaysCallable callback.old }
         ensures called { FoldsTo (λ p x q. F.step p x tt q) callback.old (members self.old.bits) callback.new }
@@ -183,7 +183,7 @@ impl<const CAPACITY: usize> FixedSizeBitSet<CAPACITY> {
         self.set.reset_all(callback);
     }
 
-    /// All numbers of the set are below this.
+    /// The capacity: every number of the set is below it.
     pub fn capacity(&self) -> usize
         ensures capacity { result ≡ CAPACITY }
         ensures places { length self.now.bits ≡ CAPACITY }

@@ -1,4 +1,4 @@
-//! Arrays of values of one word.
+//! Arrays of values that are copied as one word each.
 ghost use Rattle.std.specs.Prelude.{◌≡◌, length, All, refl};
 ghost use Rattle.iox_queues_base.specs.Each.{first_words, each_of_words, many_first, each_given_back, one_each};
 
@@ -9,7 +9,7 @@ pub trait OneWord: Words {
     ghost one: { Self.WORDS ≡ 1 };
 }
 
-/// One word for each element.
+/// One word for each element, in order.
 impl<T: OneWord, const N: usize> Words for [T; N] {
     ghost parts = { first_words T.parts N };
 

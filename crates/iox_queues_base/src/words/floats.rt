@@ -1,4 +1,4 @@
-//! Floats, as their bits, and characters, as their codes.
+//! Floats as their bits, and characters as their codes.
 ghost use Rattle.std.specs.Prelude.{◌≡◌, ◌∷◌, [], slice_index, T, to_bits, from_bits, refl};
 ghost use Rattle.std.specs.Float.{binary32, binary64};
 ghost use Rattle.std.specs.Float.Ieee.{fits};
@@ -11,7 +11,7 @@ use std::num::{
     f32_from_bits_with_nan, f32_to_bits_with_nan, f64_from_bits_with_nan, f64_to_bits_with_nan,
 };
 
-/// Its bits. Every NaN is one value here, and has the bits of the quiet one with a clear sign.
+/// One word, the bits of the float. All NaNs are one value here, encoded as the quiet NaN with a clear sign.
 impl Words for f32 {
     ghost parts = { λ x. to_bits binary32 x ∷ [] };
 
@@ -40,7 +40,7 @@ impl Words for f32 {
     ghost given_back = { float-narrowed };
 }
 
-/// Its bits. Every NaN is one value here, and has the bits of the quiet one with a clear sign.
+/// One word, the bits of the float. All NaNs are one value here, encoded as the quiet NaN with a clear sign.
 impl Words for f64 {
     ghost parts = { λ x. to_bits binary64 x ∷ [] };
 
@@ -69,17 +69,17 @@ impl Words for f64 {
     ghost given_back = { float-given_back };
 }
 
-/// Does nothing: the format holds the value.
+/// Does nothing at run time. For the prover it recalls that the format holds the value.
 fn holds_f32(value: f32)
     ensures { T (fits binary32 value) }
 {}
 
-/// Does nothing: the format holds the value.
+/// Does nothing at run time. For the prover it recalls that the format holds the value.
 fn holds_f64(value: f64)
     ensures { T (fits binary64 value) }
 {}
 
-/// Its code.
+/// One word, the code of the character.
 impl Words for char {
     ghost parts = { λ x. x ∷ [] };
 

@@ -1,4 +1,4 @@
-//! Signed integers, as the unsigned ones of the same bits: in two's complement.
+//! Signed integers as the unsigned integers with the same bits, in two's complement.
 ghost use Rattle.std.specs.Prelude.{◌≡◌, ◌∷◌, [], ◌+◌, ◌*◌, ◌/◌, ◌%◌, ◌^◌, slice_index, FitsSigned, refl};
 ghost use Rattle.std.specs.Int.{cast_signed, cast_unsigned, w8, w16, w32, w64, w128};
 ghost use Rattle.iox_queues_base.specs.Coding.{narrowed};
@@ -147,7 +147,7 @@ impl Words for isize {
     ghost given_back = { to_z-of_z w64 };
 }
 
-/// The low word comes first.
+/// Two words, the low one first.
 impl Words for i128 {
     ghost parts = { λ x. (cast_unsigned w128 x % 2 ^ 64) ∷ (cast_unsigned w128 x / 2 ^ 64) ∷ [] };
 

@@ -9,24 +9,26 @@ use crate::rings::overflowing::{Pop as OverflowingPop, Push as OverflowingPush};
 use crate::rings::refusing::{Pop as RefusingPop, Push as RefusingPush};
 use crate::{Access, Act, End, PopAnswer, PushAnswer};
 
-/// What a full ring does with a push.
+/// What a ring does with a push when it is full.
 #[derive(Clone, Copy, Debug, PartialEq, Eq)]
 pub enum RingKind {
-    /// It hands its oldest number out.
+    /// The ring removes its oldest number and returns it.
     Overflowing,
-    /// It refuses the push.
+    /// The ring refuses the push.
     Refusing,
 }
 
-/// Where a push stands.
+/// The stage of a push.
 #[derive(Clone, Copy)]
 pub enum Push {
+    /// A push into an overflowing ring.
     Overflowing(OverflowingPush),
+    /// A push into a refusing ring.
     Refusing(RefusingPush),
 }
 
 impl Push {
-    /// No push is under way.
+    /// The stage at which no push is in progress.
     pub fn idle(kind: RingKind) -> Push
         ensures { result ≡ push_idle kind }
     {
@@ -36,7 +38,7 @@ impl Push {
         }
     }
 
-    /// A push of the value into a ring where at most `limit` numbers wait.
+    /// A push of the value into a ring in which at most `limit` numbers wait.
     pub fn begin(kind: RingKind, limit: u64, value: u64) -> Push
         ensures { result ≡ push_begun kind limit value }
     {
@@ -46,7 +48,7 @@ impl Push {
         }
     }
 
-    /// The access that comes next.
+    /// The next access of the push.
     pub fn next(&self) -> Access
         ensures { result ≡ push_next self.now }
     {
@@ -56,7 +58,7 @@ impl Push {
         }
     }
 
-    /// Where the push stands after the answer of that access.
+    /// The stage after the result of that access.
     pub fn take(self, answer: u64) -> Push
         ensures { result ≡ push_take self answer }
     {
@@ -66,7 +68,7 @@ impl Push {
         }
     }
 
-    /// No call is under way.
+    /// Whether no push is in progress.
     pub fn is_idle(&self) -> bool
         ensures { result ≡ push_is_idle self.now }
     {
@@ -76,7 +78,7 @@ impl Push {
         }
     }
 
-    /// The next step is the last of its call.
+    /// Whether the next step is the last one of the push.
     pub fn is_over(&self) -> bool
         ensures { result ≡ push_is_over self.now }
     {
@@ -86,7 +88,7 @@ impl Push {
         }
     }
 
-    /// The put that stands at the next step, where the read position is `position`.
+    /// The put that takes effect at the next step while the read position is `position`, if one does.
     pub fn placed(&self, limit: u64, position: u64) -> Option<Act>
         ensures { option_to_list result ≡ placed_by_push limit position self.now }
     {
@@ -96,7 +98,7 @@ impl Push {
         }
     }
 
-    /// The put that waits for the next move of the read position, which is `position`.
+    /// The put that takes effect at the next move of the read position, which is `position`, if one does.
     pub fn late(&self, position: u64) -> Option<Act>
         ensures { option_to_list result ≡ late_put position self.now }
     {
@@ -107,15 +109,17 @@ impl Push {
     }
 }
 
-/// Where a pop stands, or a look that only asks whether something waits.
+/// The stage of a pop, or of a look, which only returns whether a number waits.
 #[derive(Clone, Copy)]
 pub enum Pop {
+    /// A pop from an overflowing ring, or a look at it.
     Overflowing(OverflowingPop),
+    /// A pop from a refusing ring, or a look at it.
     Refusing(RefusingPop),
 }
 
 impl Pop {
-    /// No pop or look is under way.
+    /// The stage at which no pop or look is in progress.
     pub fn idle(kind: RingKind) -> Pop
         ensures { result ≡ pop_idle kind }
     {
@@ -145,7 +149,7 @@ impl Pop {
         }
     }
 
-    /// The access that comes next.
+    /// The next access of the pop or look.
     pub fn next(&self) -> Access
         ensures { result ≡ pop_next self.now }
     {
@@ -155,7 +159,7 @@ impl Pop {
         }
     }
 
-    /// Where the pop stands after the answer of that access.
+    /// The stage after the result of that access.
     pub fn take(self, answer: u64) -> Pop
         ensures { result ≡ pop_take self answer }
     {
@@ -165,7 +169,7 @@ impl Pop {
         }
     }
 
-    /// No call is under way.
+    /// Whether no pop or look is in progress.
     pub fn is_idle(&self) -> bool
         ensures { result ≡ pop_is_idle self.now }
     {
@@ -175,7 +179,7 @@ impl Pop {
         }
     }
 
-    /// The next step is the last of its call.
+    /// Whether the next step is the last one of the pop or look.
     pub fn is_over(&self) -> bool
         ensures { result ≡ pop_is_over self.now }
     {
@@ -185,7 +189,7 @@ impl Pop {
         }
     }
 
-    /// The take or look that stands at the next step, where these are the positions.
+    /// The take or look that takes effect at the next step while the positions are `write` and `read`, if one does.
     pub fn taken(&self, write: u64, read: u64) -> Option<Act>
         ensures { option_to_list result ≡ taken_by_pop write read self.now }
     {
@@ -195,8 +199,8 @@ impl Pop {
         }
     }
 
-    /// The next step moves the read position, which is `position`, from under a push that may wait
-    /// for that.
+    /// Whether the next step moves the read position, which is `position`, at which a delayed put of a push takes effect. On a refusing
+    /// ring no put is delayed, so this is false.
     pub fn moves(&self, position: u64) -> bool
         ensures { result ≡ pop_moves position self.now }
     {

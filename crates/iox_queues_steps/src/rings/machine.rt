@@ -1,4 +1,4 @@
-//! The machine of a ring.
+//! A machine that runs a ring step by step.
 ghost use Rattle.std.specs.Prelude.{◌≡◌, ◌+◌, ◌<◌, ◌≤◌, ◌^◌, IfOk, length};
 
 use crate::rings::ends::{Pop, Push, RingKind};
@@ -7,10 +7,10 @@ use crate::{Event, Move, Placed, PopCall, PushCall, Stepped};
 use std::alloc::{AllocError, Global};
 use std::marker::Model;
 
-/// A ring of either kind whose two ends go one step at a time, in any order that the caller wants.
+/// A ring of either kind whose two ends make their steps in any order that the caller chooses.
 ///
-/// Either end may stop anywhere. The machine keeps the order of puts and takes, which answers as a
-/// bounded list does, and every step that it made.
+/// Either end may stop at any step. The machine records every step, and the order in which puts, takes and looks took effect. Along this
+/// order, the results are those of a bounded list.
 #[derive(Drop)]
 pub struct RingMachine {
     state: State,
@@ -31,8 +31,8 @@ impl Model for RingMachine {
 impl RingMachine {
     ghost use Rattle.iox_queues_steps.specs.RingMachine.{FollowsOrder, IsTold, RunsTo, StepsTo, Tells, start};
 
-    /// A ring where at most `limit` numbers wait, and these wait now. A push into it when it is full
-    /// hands the oldest out.
+    /// A ring in which at most `limit` numbers wait, and the numbers of `waiting` wait at first. A push into the full ring removes the
+    /// oldest number. It fails only where an allocation fails.
     pub fn overflowing(
         alloc: Global,
         limit: u64,
@@ -54,8 +54,8 @@ impl RingMachine {
         })
     }
 
-    /// A ring where at most `limit` numbers wait, and these wait now. It refuses a push when it is
-    /// full.
+    /// A ring in which at most `limit` numbers wait, and the numbers of `waiting` wait at first. It refuses a push when it is full. It
+    /// fails only where an allocation fails.
     pub fn refusing(alloc: Global, limit: u64, waiting: &[u64]) -> Result<RingMachine, AllocError>
         requires room { length waiting.now ≤ limit }
         ensures { IfOk result (λ m. m ≡ start RingKind.Refusing limit waiting.now) }
@@ -72,7 +72,7 @@ impl RingMachine {
         })
     }
 
-    /// Begins a call, or goes on inside one.
+    /// Begins a call, or makes the next step of a call in progress. A step that isn't possible is skipped.
     pub fn step(&mut self, step: Move) -> Stepped
         requires { self.old.log.moments < 2 ^ 63 }
         ensures steps { StepsTo self.old step result self.new }
@@ -83,8 +83,8 @@ impl RingMachine {
         self.state.step(step)
     }
 
-    /// Makes these steps one after the other, leaves out those that do not fit, and stops where no
-    /// memory is found. The answer is how many were made.
+    /// Makes these steps one after another, skips those that aren't possible, and stops where memory for recording a step runs out. Returns
+    /// how many steps were made.
     pub fn run(&mut self, schedule: &[Move]) -> usize
         requires { self.old.log.moments + length schedule.now < 2 ^ 63 }
         ensures runs { RunsTo self.old schedule.now result self.new }
@@ -105,7 +105,7 @@ impl RingMachine {
         made
     }
 
-    // What every machine keeps.
+    // Recalls the invariants of every machine for the prover.
     fn follows(&self)
         ensures order { FollowsOrder self.now }
         ensures told { IsTold self.now }
@@ -113,7 +113,7 @@ impl RingMachine {
         let _ = &self.state;
     }
 
-    /// The puts, takes and looks so far, in their order.
+    /// The puts, takes and looks so far, in the order in which they took effect.
     pub fn order(&self) -> &[Placed]
         ensures value { result.now ≡ self.now.log.order }
         ensures order { FollowsOrder self.now }
@@ -129,7 +129,7 @@ impl RingMachine {
         self.state.log.events.as_slice()
     }
 
-    /// The pushes that ended, in their order.
+    /// The finished pushes, in their order.
     pub fn pushes(&self) -> &[PushCall]
         ensures value { result.now ≡ self.now.producer.calls }
         ensures order { FollowsOrder self.now }
@@ -138,7 +138,7 @@ impl RingMachine {
         self.state.pushes.as_slice()
     }
 
-    /// The pops and looks that ended, in their order.
+    /// The finished pops and looks, in their order.
     pub fn pops(&self) -> &[PopCall]
         ensures value { result.now ≡ self.now.consumer.calls }
         ensures order { FollowsOrder self.now }
@@ -147,21 +147,21 @@ impl RingMachine {
         self.state.pops.as_slice()
     }
 
-    /// Where the push stands.
+    /// The stage of the push.
     pub fn push(&self) -> Push
         ensures { result ≡ self.now.producer.push }
     {
         self.state.push
     }
 
-    /// Where the pop or look stands.
+    /// The stage of the pop or look.
     pub fn pop(&self) -> Pop
         ensures { result ≡ self.now.consumer.pop }
     {
         self.state.pop
     }
 
-    /// How many steps were made.
+    /// How many steps were made so far.
     pub fn moments(&self) -> u64
         ensures { result ≡ self.now.log.moments }
     {

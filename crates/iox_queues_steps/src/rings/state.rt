@@ -33,7 +33,7 @@ impl State {
     ghost use Rattle.iox_queues_steps.specs.Machine.{machine_of, StateRoom, new_acts, new_pushes, new_pops};
     ghost use Rattle.iox_queues_steps.specs.Recorded.{HasRoom};
 
-    /// Nothing was done yet: `initial` waits in the first cells.
+    /// The state before the first step: the numbers of `initial` are in the first cells.
     pub(crate) fn new(
         alloc: Global,
         kind: RingKind,
@@ -81,7 +81,7 @@ impl State {
         }
     }
 
-    // How many acts stand at this step.
+    // How many acts take effect at this step.
     fn acts(&self, step: Move) -> usize
         ensures { result ≡ new_acts (machine_of self.now) step }
     {
@@ -98,7 +98,7 @@ impl State {
         }
     }
 
-    // How many pushes end with this step.
+    // How many pushes finish with this step.
     fn ended_pushes(&self, step: Move) -> usize
         ensures { result ≡ new_pushes (machine_of self.now) step }
     {
@@ -108,7 +108,7 @@ impl State {
         }
     }
 
-    // How many pops and looks end with this step.
+    // How many pops and looks finish with this step.
     fn ended_pops(&self, step: Move) -> usize
         ensures { result ≡ new_pops (machine_of self.now) step }
     {
@@ -118,7 +118,7 @@ impl State {
         }
     }
 
-    // Room for what this step appends.
+    // Reserves memory for what this step appends.
     fn reserve(&mut self, step: Move) -> Result<(), AllocError>
         ensures same { machine_of self.new ≡ machine_of self.old }
         ensures room { OnOk result (StateRoom step self.new) }
@@ -243,7 +243,7 @@ fn local(party: Party) -> Event
     }
 }
 
-// The put that waited, where the pop moves the read position.
+// The delayed put, if this step of the pop moves the read position.
 fn late_put_at(push: &Push, read: u64, moves: bool) -> Option<Act>
     ensures { option_to_list result ≡ (if moves then late_put read push.now else []) }
 {

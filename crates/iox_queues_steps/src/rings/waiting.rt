@@ -1,9 +1,9 @@
-//! What one step of either end of a ring does to the numbers that wait.
+//! What one step of either end of a ring does to the waiting numbers.
 //!
-//! A number lies aside while its push stored the write position, but its put waits for the next move
-//! of the read position. The two laws are the contracts of functions that do nothing.
+//! A number is called aside while its push has stored the write position, but its put only takes effect at the next move of the read
+//! position. Each of the two theorems is the contract of a function that does nothing.
 //!
-//! A proof cites a law by a call of its function, which does nothing; what it states is then among the facts of the caller:
+//! A proof uses a theorem by calling its function, after which the statement is among the facts of the caller:
 //!
 //! ```
 //! push_moves();
@@ -11,14 +11,14 @@
 
 ghost use Rattle.iox_queues_steps.specs.Moves.{PopMoves, PushMoves};
 
-/// A push's step does nothing to what waits and what lies aside, or stores behind or aside, or moves
-/// the head out and what lies aside up.
+/// A step of a push leaves the waiting numbers and the number aside unchanged, or appends a number to either, or removes the oldest waiting
+/// number and appends the number aside.
 pub fn push_moves()
     ensures { PushMoves }
 {}
 
-/// A pop's or a look's step does nothing to what waits and what lies aside, or moves the head out and
-/// what lies aside up.
+/// A step of a pop or a look leaves the waiting numbers and the number aside unchanged, or removes the oldest waiting number and appends
+/// the number aside.
 pub fn pop_moves()
     ensures { PopMoves }
 {}

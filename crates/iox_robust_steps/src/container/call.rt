@@ -16,112 +16,113 @@ use iox_queues_steps::{Access, Word};
 /// A call that a party may begin.
 #[derive(Clone, Copy)]
 pub enum MemberCall {
-    /// Adds the value of this number for this owner.
+    /// Adds the value with this number for this owner.
     Add(usize, u64),
-    /// Takes this owner's member out, which the party added at this index.
+    /// Removes this owner's member, which the party added at this index.
     Remove(u64, u64, ReleaseMode),
     /// Copies the members, if something changed since the party's last copy.
     Update,
-    /// Takes those members of this owner out for which the decisions of this number say so.
+    /// Removes the members of this owner that the list of decisions with this number selects.
     Recover(u64, usize, ReleaseMode),
 }
 
-/// What a call answered.
+/// The result of a call.
 #[derive(Clone, Copy, PartialEq, Eq)]
 pub enum MemberAnswer {
-    /// The member is in at this index, or was refused.
+    /// The member was added at this index, or was refused.
     Added(Result<u64, UniqueIndexSetAcquireFailure>),
-    /// The member is out, or those of an owner are that were to be, which may have locked the set of indices.
+    /// The member was removed, or the selected members of an owner were, and the index set is now locked or not.
     Removed(ReleaseState),
-    /// Whether something was copied.
+    /// Whether the members were copied.
     Updated(bool),
 }
 
-/// Where a call stands. Between its begin and `Done` each stage is one access, or asks the set of indices for one.
+/// The stage of a call. Each stage from its begin to `Done` is one access, or one step of the index set.
 #[derive(Clone, Copy)]
 pub enum ContainerCall {
+    /// No call is in progress.
     Idle,
-    /// An addition takes an index.
+    /// An addition acquires an index.
     Enter {
         number: usize,
         owner: u64,
     },
-    /// It has the index, stores word after word of the value, and then looks at the count of the place.
+    /// The addition has the index, stores word after word of the value, and then reads the count of the place.
     Fill {
         number: usize,
         owner: u64,
         index: u64,
         next: usize,
     },
-    /// It counts the place up: the member is in.
+    /// The addition raises the count of the place; the member is then in the container.
     Show {
         number: usize,
         owner: u64,
         index: u64,
         seen: u64,
     },
-    /// A removal looks at the count of the place.
+    /// A removal reads the count of the place.
     Sink {
         owner: u64,
         index: u64,
         mode: ReleaseMode,
     },
-    /// It counts the place up: the member is out.
+    /// The removal raises the count of the place; the member is then out of the container.
     Hide {
         owner: u64,
         index: u64,
         mode: ReleaseMode,
         seen: u64,
     },
-    /// It begins to give the index back.
+    /// The removal begins to release the index.
     Leave {
         owner: u64,
         index: u64,
         mode: ReleaseMode,
     },
-    /// It gives the index back.
+    /// The removal releases the index.
     Drop {
         owner: u64,
         index: u64,
         mode: ReleaseMode,
     },
-    /// A call that changed the members looks at the count of changes.
+    /// A call that changed the members reads the count of changes.
     Count {
         call: MemberCall,
         answer: MemberAnswer,
     },
-    /// It counts its change.
+    /// The call raises the count of changes.
     Raise {
         call: MemberCall,
         answer: MemberAnswer,
         seen: u64,
     },
-    /// A copy looks at the count of changes.
+    /// A copy reads the count of changes.
     Look,
-    /// It looks at the count of a place.
+    /// The copy reads the count of a place.
     Visit {
         place: u64,
     },
-    /// It found a member there, loads word after word of its value, and then looks at the count again.
+    /// The copy found a member there, loads word after word of its value, and then reads the count again.
     Gather {
         place: u64,
         seen: u64,
         next: usize,
     },
-    /// A recovery begins to recover in the set of indices.
+    /// A recovery begins its recovery in the index set.
     Search {
         owner: u64,
         number: usize,
         mode: ReleaseMode,
     },
-    /// It looks at the count of a place, before the set looks whose the index is.
+    /// The recovery reads the count of a place, before the set checks which owner has the index.
     Watch {
         owner: u64,
         number: usize,
         mode: ReleaseMode,
         place: u64,
     },
-    /// It saw this count; the set looks whose the index is.
+    /// The recovery has read this count, and the set checks which owner has the index.
     Ask {
         owner: u64,
         number: usize,
@@ -129,8 +130,8 @@ pub enum ContainerCall {
         place: u64,
         seen: u64,
     },
-    /// The index is the owner's, and a member is in: it counts the place up, if the count is still the one that it saw, so that the
-    /// member is out.
+    /// The index is the owner's, and has a member. The recovery raises the count of the place if it hasn't changed; the member is then out
+    /// of the container.
     Expel {
         owner: u64,
         number: usize,
@@ -138,20 +139,20 @@ pub enum ContainerCall {
         place: u64,
         seen: u64,
     },
-    /// No member is in, and the set frees the index.
+    /// The place has no member, and the set frees the index.
     Clear {
         owner: u64,
         number: usize,
         mode: ReleaseMode,
         place: u64,
     },
-    /// It went over each place, and the set ends its recovery.
+    /// The recovery has visited each place, and the set finishes its recovery.
     Close {
         owner: u64,
         number: usize,
         mode: ReleaseMode,
     },
-    /// The call answered; its last step is to come.
+    /// The call has its result, and its last step is still to come.
     Done {
         call: MemberCall,
         answer: MemberAnswer,
@@ -159,7 +160,7 @@ pub enum ContainerCall {
 }
 
 impl ContainerCall {
-    /// The call's first stage.
+    /// The first stage of the call.
     pub fn begin(call: MemberCall) -> ContainerCall
         ensures { result ≡ member_begun call }
     {
@@ -175,8 +176,8 @@ impl ContainerCall {
         }
     }
 
-    /// The access that comes next, where so many places have values of so many words. While the set of indices is asked, the access
-    /// is the set's own.
+    /// The next access of the call, in a container of `capacity` places with values of `width` words. While the index set makes a step, the
+    /// access is a local one.
     pub fn next(&self, capacity: u64, width: usize, values: &[Vec<u64>]) -> Access
         ensures { result ≡ member_next capacity width values.now self.now }
     {
@@ -227,8 +228,8 @@ impl ContainerCall {
         }
     }
 
-    /// Where the call stands after the answer of that access, or of the set of indices, if that has one. The count of changes that
-    /// the party's last copy saw is `saw`; `finds` says whether the set is about to free an index.
+    /// The stage after the result of that access, or after the result of the call on the index set, if that has one. `saw` is the count of
+    /// changes that the party's last copy read; `finds` says whether the set is about to free an index.
     pub fn take(
         self,
         capacity: u64,
@@ -381,14 +382,14 @@ impl ContainerCall {
         }
     }
 
-    /// No call is under way.
+    /// Whether no call is in progress.
     pub fn is_idle(&self) -> bool
         ensures { result ≡ member_is_idle self.now }
     {
         matches!(*self, ContainerCall::Idle)
     }
 
-    /// The next step is the last of its call.
+    /// Whether the next step is the last one of its call.
     pub fn is_over(&self) -> bool
         ensures { result ≡ member_is_over self.now }
     {
@@ -396,7 +397,7 @@ impl ContainerCall {
     }
 }
 
-// The answer that a call on the set of indices has, if it has one.
+// The result of a call on the index set, if it has one.
 pub(crate) fn answer_at(stage: RobustCall) -> Option<Answer>
     ensures { result ≡ answer_at stage }
 {
@@ -406,21 +407,21 @@ pub(crate) fn answer_at(stage: RobustCall) -> Option<Answer>
     }
 }
 
-// A call on the set is about to free an index.
+// Whether a call on the set is about to free an index.
 pub(crate) fn is_clearing(stage: RobustCall) -> bool
     ensures { result ≡ is_clearing stage }
 {
     matches!(stage, RobustCall::Clear { .. })
 }
 
-// A party at this stage looks at the count of changes, to copy.
+// Whether a party at this stage reads the count of changes in order to copy.
 pub(crate) fn is_look(stage: ContainerCall) -> bool
     ensures { result ≡ is_look stage }
 {
     matches!(stage, ContainerCall::Look)
 }
 
-// A member is in at a place whose count is odd.
+// Whether a place with this count has a member: its count is odd.
 pub(crate) fn is_shown(count: u64) -> bool
     ensures { result ≡ is_shown count }
 {
@@ -436,7 +437,7 @@ fn updated(copied: bool) -> ContainerCall
     }
 }
 
-// To the next place, if one is left.
+// The stage at the next place, if one is left.
 fn visits_from(capacity: u64, place: u64) -> ContainerCall
     ensures { result ≡ visits_from capacity place }
 {
@@ -447,7 +448,7 @@ fn visits_from(capacity: u64, place: u64) -> ContainerCall
     }
 }
 
-// It found this count at a place.
+// The stage of a copy after it read this count at a place.
 fn visited(capacity: u64, place: u64, count: u64) -> ContainerCall
     ensures { result ≡ visited capacity place count }
 {
@@ -462,7 +463,7 @@ fn visited(capacity: u64, place: u64, count: u64) -> ContainerCall
     }
 }
 
-// An addition has the answer of the set, if that has one.
+// The stage of an addition after a step of the set.
 fn entered(number: usize, owner: u64, got: Option<Answer>) -> ContainerCall
     ensures { result ≡ entered number owner got }
 {
@@ -481,7 +482,7 @@ fn entered(number: usize, owner: u64, got: Option<Answer>) -> ContainerCall
     }
 }
 
-// A removal has the answer of the set, if that has one.
+// The stage of a removal after a step of the set.
 fn dropped(owner: u64, index: u64, mode: ReleaseMode, got: Option<Answer>) -> ContainerCall
     ensures { result ≡ dropped owner index mode got }
 {
@@ -494,7 +495,7 @@ fn dropped(owner: u64, index: u64, mode: ReleaseMode, got: Option<Answer>) -> Co
     }
 }
 
-// A recovery goes on to the next place, if one is left.
+// The stage of a recovery at the next place, if one is left.
 fn watches_from(
     capacity: u64,
     owner: u64,
@@ -520,7 +521,7 @@ fn watches_from(
     }
 }
 
-// The set looked whose the index is, and is to free it or not.
+// The stage of a recovery after the set checked which owner has the index.
 fn asked_for_place(
     capacity: u64,
     owner: u64,
@@ -552,7 +553,7 @@ fn asked_for_place(
     }
 }
 
-// A recovery has the answer of the set, if that has one.
+// The stage of a recovery after a step of the set.
 fn closed(owner: u64, number: usize, mode: ReleaseMode, got: Option<Answer>) -> ContainerCall
     ensures { result ≡ closed owner number mode got }
 {
@@ -569,7 +570,7 @@ fn closed(owner: u64, number: usize, mode: ReleaseMode, got: Option<Answer>) -> 
     }
 }
 
-// The cell of word `j` of the value at a place; positions stop at the largest number.
+// The cell of word `j` of the value at a place; cell numbers stop at the largest 64-bit number.
 fn value_cell(capacity: u64, width: usize, place: u64, j: usize) -> u64
     ensures { result ≡ value_cell capacity width place j }
 {

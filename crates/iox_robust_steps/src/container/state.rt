@@ -19,22 +19,26 @@ use iox_queues::values::value_of;
 use iox_queues_steps::{Access, Ring, Stepped, Word};
 use std::alloc::{AllocError, Global};
 
-/// Where a party stands, the number of its call's first step, the count of changes that its last copy saw, and the number of the step
-/// that saw it.
+/// The stage of a party's call, the number of the call's first step, the count of changes that the party's last copy read, and the number
+/// of the step that read it.
 #[derive(Clone, Copy)]
 pub struct MemberSeat {
+    /// The stage of the party's call.
     pub stage: ContainerCall,
+    /// The number of the first step of this call.
     pub first: u64,
+    /// The count of changes that the party's last copy read.
     pub saw: u64,
+    /// The number of the step that read this count.
     pub since: u64,
 }
 
 #[derive(Drop)]
 pub(crate) struct MemberState {
     pub(crate) set: RobustSetMachine,
-    // The values that may be added, each of as many words as the first.
+    // The values that may be added, each with as many words as the first.
     pub(crate) values: Vec<Vec<u64>>,
-    // A count for each place, the values of the places, and a spare cell. The count of changes lies in the write position.
+    // A count for each place, the values of the places, and a spare cell. The write position of the ring stores the count of changes.
     pub(crate) ring: Ring,
     pub(crate) seats: Vec<MemberSeat>,
     pub(crate) events: Vec<Event>,
@@ -132,7 +136,7 @@ impl MemberState {
         }
     }
 
-    // Room for one step, and for a call that ends with it.
+    // Reserves memory for one step, and for the call that finishes with it.
     fn reserve(&mut self, ends: bool) -> Result<(), AllocError>
         ensures same { parts_of self.new ≡ parts_of self.old }
         ensures event { OnOk result (vec_len self.new.events < vec_capacity self.new.events) }
@@ -144,7 +148,7 @@ impl MemberState {
         self.events.reserve(1)
     }
 
-    // A party begins a call; where the set finds no memory nothing happens.
+    // Begins a call of a party; if memory for the set's step runs out, nothing happens.
     fn begin(&mut self, party: usize, call: MemberCall) -> bool
         requires fit { member_fits (parts_of self.old) (MemberMove.Begin party call) ≡ true }
         requires there { party < length self.old.seats.items }
@@ -176,7 +180,7 @@ impl MemberState {
         true
     }
 
-    // A party goes on; where the set finds no memory nothing happens.
+    // Makes the next step of a party; if memory for the set's step runs out, nothing happens.
     fn go_on(&mut self, party: usize) -> bool
         requires fit { may_ask self.old.set party (member_stage self.old.seats.items party) ≡ true }
         requires there { party < length self.old.seats.items }
@@ -237,7 +241,7 @@ impl MemberState {
     }
 }
 
-// Whether the set of indices makes a step that fits.
+// Makes a possible step of the index set; false if memory runs out.
 fn makes(set: &mut RobustSetMachine, step: Move) -> bool
     requires { fits set.old step ≡ true }
     ensures done { result ≡ true → set.new ≡ happens set.old step }
@@ -249,7 +253,7 @@ fn makes(set: &mut RobustSetMachine, step: Move) -> bool
     }
 }
 
-// A recovery that saw no member at a place insists that its index is freed.
+// The step that a recovery asks of the set: it insists on freeing the index if it saw no member at the place.
 fn asks_with(party: usize, seen: u64) -> Move
     ensures { result ≡ asks_with party seen }
 {
@@ -260,7 +264,7 @@ fn asks_with(party: usize, seen: u64) -> Move
     }
 }
 
-// The step that a call at this stage asks of the set fits there, if it asks one.
+// Whether the step that a call at this stage asks of the set is possible there, if it asks one.
 fn may_ask(set: &RobustSetMachine, party: usize, stage: ContainerCall) -> bool
     ensures { result ≡ may_ask set.now party stage }
 {
@@ -287,7 +291,7 @@ fn may_ask(set: &RobustSetMachine, party: usize, stage: ContainerCall) -> bool
     }
 }
 
-// The set makes the step that a call at this stage asks for, if it asks for one.
+// Makes the step of the set that a call at this stage asks for, if it asks for one.
 fn ask(set: &mut RobustSetMachine, party: usize, stage: ContainerCall) -> bool
     requires { may_ask set.old party stage ≡ true }
     ensures done { result ≡ true → set.new ≡ asked_at set.old party stage }
@@ -343,7 +347,7 @@ fn resting() -> MemberSeat
     }
 }
 
-// Records the call, if it is over.
+// Records the call, if it is finished.
 fn end_call(finished: &mut Vec<MemberFinished>, party: usize, seat: MemberSeat, last: u64)
     requires { member_is_over seat.stage ≡ true → vec_len finished.old < vec_capacity finished.old }
     ensures { finished.new.items ≡ finished.old.items ++ member_ended party seat.first last seat.stage }

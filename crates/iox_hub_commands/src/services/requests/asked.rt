@@ -1,4 +1,4 @@
-//! What is asked of a service of each pattern.
+//! The requirements on a service of each pattern.
 ghost use Rattle.std.specs.Prelude.{◌≡◌, []};
 ghost use Rattle.std.specs.Option.{option_map};
 ghost use Rattle.iox_hub_base.specs.DescribeBase.Attributes.{required};
@@ -8,14 +8,14 @@ use iox_command::{EventOptions, NumberOrOff, PublishSubscribeOptions, RequestRes
 use iox_describe_base::{AttributeVerifier, Header, MessageTypeDetails, TypeVariant, ZeroCopySend};
 use iox_describe_verdict::requirement;
 
-/// The types of messages that carry slices of `T`, with a user header of `U`.
+/// The types of messages that are slices of `T`, with a user header of `U`.
 pub fn message_types<T: ZeroCopySend, U: ZeroCopySend>() -> MessageTypeDetails
     ensures { result ≡ types_of T.name T.size T.alignment U.name U.size U.alignment }
 {
     MessageTypeDetails::from::<Header, U, T>(TypeVariant::Dynamic)
 }
 
-/// What is asked of a publish-subscribe service whose messages are of these types: each setting that is named, and no attribute.
+/// The requirement on a publish-subscribe service whose messages have these types: each setting that is named, and no attribute.
 pub fn publish_subscribe(
     options: &PublishSubscribeOptions,
     types: MessageTypeDetails,
@@ -36,7 +36,7 @@ pub fn publish_subscribe(
     }
 }
 
-/// What is asked of an event service: each setting that is named, and no attribute.
+/// The requirement on an event service: each setting that is named, and no attribute.
 pub fn event(options: &EventOptions) -> requirement::event::Requirement
     ensures { result ≡ required_event options.now (required [] []) }
 {
@@ -53,7 +53,7 @@ pub fn event(options: &EventOptions) -> requirement::event::Requirement
     }
 }
 
-/// What is asked of a request-response service whose requests and responses are of these types: each setting that is named, and no
+/// The requirement on a request-response service whose requests and responses have these types: each setting that is named, and no
 /// attribute.
 pub fn request_response(
     options: &RequestResponseOptions,
@@ -79,7 +79,7 @@ pub fn request_response(
     }
 }
 
-// What a setting that may be off is required to be, where it is named.
+// The value that is required of a setting that can be off, if it is named.
 fn named(option: Option<NumberOrOff>) -> Option<Option<u64>>
     ensures { result ≡ option_map set_to option }
 {

@@ -1,4 +1,4 @@
-//! The service that a foreign node publishes.
+//! The service that another node publishes.
 ghost use Rattle.std.specs.Prelude.{◌≡◌, []};
 ghost use Rattle.iox_negotiate_table.specs.Describe.Within.{HasForm};
 ghost use Rattle.iox_hub_commands.specs.Asking.{agreed_of};
@@ -12,8 +12,8 @@ use iox_describe_base::{AttributeSpecifier, MessageTypeDetails, ServiceName, ser
 use iox_describe_settings::{Description, Settings};
 use iox_negotiate::laws::parts_have_form;
 
-/// What a foreign node publishes of these options: the defaults for what isn't named, adjusted, with no attributes. It has the form of a
-/// description, and takes no memory.
+/// The description that another node publishes with these options: the defaults for what isn't named, adjusted, and no attributes. It has
+/// the form of a description, and takes no memory.
 pub fn description(
     name: &ServiceName,
     options: &ServiceOptions,
@@ -29,8 +29,8 @@ pub fn description(
     described
 }
 
-/// What would be agreed of a service that is created with these options and attributes has the form of a description, which is told of it.
-/// It takes no memory.
+/// States that the agreement of a service that is created with these options and attributes has the form of a description. It takes no
+/// memory.
 /// Example: `agreed_has_form(&asked.name, &asked.options, &types, &attributes);`
 #[inline(never)]
 pub fn agreed_has_form(
@@ -45,7 +45,7 @@ pub fn agreed_has_form(
     parts_have_form(*name, hash, settings(options, *types), attributes);
 }
 
-// The settings that a service is created with of which options ask.
+// The settings with which a service with these options is created.
 fn settings(options: &ServiceOptions, types: MessageTypeDetails) -> Settings
     ensures { result ≡ settings_of types options.now }
 {
@@ -60,7 +60,7 @@ fn settings(options: &ServiceOptions, types: MessageTypeDetails) -> Settings
     }
 }
 
-// Those that a service of a pattern is created with of which this is asked.
+// The settings with which a service of a pattern with this requirement is created.
 fn created_settings<P: Pattern>(requirement: &P::Requirement) -> Settings
     ensures { result ≡ P.settings (P.adjusted (P.asked requirement.now)) }
 {

@@ -1,4 +1,4 @@
-//! The steps of foreign nodes before each access.
+//! The actions of other nodes before each access.
 ghost use Rattle.std.specs.Prelude.{◌≡◌, ℕ, [], map, min, IfOk, IsOk};
 ghost use Rattle.std.specs.List.{AllByRecursion};
 ghost use Rattle.iox_hub_commands.specs.Steps.{PublishesInForm, step_of, list_of, list_before, last_access, acts_first, lists_of};
@@ -9,12 +9,12 @@ use iox_describe_base::{MessageTypeDetails, ServiceName};
 use iox_negotiate_table::{ForeignStep, StepList};
 use std::alloc::{AllocError, Global};
 
-/// How many lists of steps a call can come to at most: no call makes more accesses before which foreign nodes act.
+/// The maximum number of lists of actions of a call: no call makes more accesses before which other nodes act.
 pub const MOST_LISTS: u64 = 16;
 
-/// The steps on the service of a name, in their order; what they publish has the form of a description.
+/// The actions on the service of a name, in their order; what they publish has the form of a description.
 ///
-/// Refused only where an allocation fails, which doesn't happen where there are no steps.
+/// Refused only if an allocation fails; an empty list takes no memory.
 pub fn step_list(
     alloc: Global,
     name: &ServiceName,
@@ -32,9 +32,9 @@ pub fn step_list(
     Ok(StepList::new(list))
 }
 
-/// The steps before each access, up to the last that has any, and to the sixteenth; what they publish has the form of a description.
+/// The actions before each access, up to the last that has any, and at most the sixteenth; what they publish has the form of a description.
 ///
-/// Refused only where an allocation fails, which doesn't happen where there are no steps.
+/// Refused only if an allocation fails; without actions no memory is taken.
 pub fn step_lists(
     alloc: Global,
     name: &ServiceName,
@@ -56,7 +56,7 @@ pub fn step_lists(
     Ok(lists)
 }
 
-// The steps before one access.
+// The actions before one access.
 fn list_before(
     alloc: Global,
     access: u64,
@@ -76,7 +76,7 @@ fn list_before(
     Ok(StepList::new(list))
 }
 
-// The last access before which there are steps; 0 where there are none.
+// The last access before which there are actions; 0 if there are none.
 fn last_access(steps: &[StepBefore]) -> u64
     ensures { result ≡ last_access steps.now }
 {
@@ -89,7 +89,7 @@ fn last_access(steps: &[StepBefore]) -> u64
     last
 }
 
-/// Whether a step is named before the first access.
+/// Whether an action is named before the first access.
 /// Example: `let is_first = acts_first(&steps);`
 pub fn acts_first(steps: &[StepBefore]) -> bool
     ensures { result ≡ acts_first steps.now }
@@ -97,7 +97,7 @@ pub fn acts_first(steps: &[StepBefore]) -> bool
     steps.iter().any(|before| before.access == 1)
 }
 
-/// What the steps publish has the form of a description, which is told of each. It takes no memory.
+/// States that what the actions publish has the form of a description. It takes no memory.
 /// Example: `steps_have_form(&name, &types, &steps);`
 #[inline(never)]
 pub fn steps_have_form(name: &ServiceName, types: &MessageTypeDetails, steps: &[StepBefore])
@@ -110,7 +110,7 @@ pub fn steps_have_form(name: &ServiceName, types: &MessageTypeDetails, steps: &[
     }
 }
 
-// A step on the service of a name.
+// An action on the service of a name.
 fn step(named: &Named, name: &ServiceName, types: &MessageTypeDetails) -> ForeignStep
     ensures value { result ≡ step_of name.now types.now named.now }
     ensures form { PublishesInForm result }

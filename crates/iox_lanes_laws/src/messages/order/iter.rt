@@ -1,4 +1,4 @@
-//! The walk over the order of a connection.
+//! The iterator over the order of a connection.
 ghost use Rattle.std.specs.Prelude.{◌≡◌, []};
 ghost use Rattle.std.specs.Iterator.{YieldsFirst, item_count};
 
@@ -11,7 +11,7 @@ use std::marker::Model;
 
 /// The entries of an order, one after the other, each with the number of its message.
 ///
-/// Contracts see it as the list of those that are left. This port's own.
+/// Contracts see it as the list of the entries that are left. Not in `iceoryx2`.
 #[derive(Drop)]
 pub struct Iter<'a> {
     pub(super) messages: &'a [Message],

@@ -6,18 +6,27 @@ ghost use Rattle.iox_queues_steps.specs.Overflowing.{pop_is_idle, pop_is_over, p
 
 use crate::{Access, Act, End, PopAnswer, Word};
 
-/// Where a pop stands, or a look that only asks whether something waits. Between `Begun` and
-/// `Popped`, or `LookBegun` and `Looked`, each stage is one access.
+/// The stage of a pop, or of a look, which only returns whether a number waits. Each stage from `Begun` to `Popped`, or from `LookBegun` to
+/// `Looked`, is one access after the one before.
 #[derive(Clone, Copy)]
 pub enum Pop {
+    /// No pop or look is in progress.
     Idle,
+    /// A pop loads the read position.
     Begun,
+    /// The pop has the read position, and loads the write position.
     SawRead { read: u64 },
+    /// The pop has found that a number waits, and loads the cell of the read position.
     Nonempty { read: u64, next: u64 },
+    /// The pop has the number, and exchanges the read position to take it.
     SawCell { read: u64, next: u64, value: u64 },
+    /// The pop has its result, and its last step is still to come.
     Popped { got: Option<u64> },
+    /// A look loads the read position.
     LookBegun,
+    /// The look has the read position, and loads the write position.
     LookRead { read: u64 },
+    /// The look has its result, and its last step is still to come.
     Looked { waiting: bool },
 }
 
@@ -36,14 +45,14 @@ impl Pop {
         Pop::LookBegun
     }
 
-    /// No call is under way.
+    /// Whether no pop or look is in progress.
     pub fn is_idle(&self) -> bool
         ensures { result ≡ pop_is_idle self.now }
     {
         matches!(*self, Pop::Idle)
     }
 
-    /// The take or look that stands at the next step, where these are the positions.
+    /// The take or look that takes effect at the next step while the positions are `write` and `read`, if one does.
     pub fn taken(&self, write: u64, read: u64) -> Option<Act>
         ensures { option_to_list result ≡ taken_by_pop write read self.now }
     {
@@ -61,7 +70,7 @@ impl Pop {
         }
     }
 
-    /// The next step moves the read position, which is `position`.
+    /// Whether the next step moves the read position, which is `position`.
     pub fn moves(&self, position: u64) -> bool
         ensures { result ≡ pop_moves position self.now }
     {
@@ -112,7 +121,7 @@ impl End for Pop {
     }
 }
 
-// A take with this answer, if it stands.
+// A take with this result, if it takes effect.
 fn take_if(stands: bool, got: Option<u64>) -> Option<Act>
     ensures { option_to_list result ≡ (if stands then Act.Take (PopAnswer.Got got) ∷ [] else []) }
 {
@@ -124,7 +133,7 @@ fn take_if(stands: bool, got: Option<u64>) -> Option<Act>
     })
 }
 
-// After the load of the write position: done if nothing waits.
+// The stage after the load of the write position: done if no number waits.
 fn emptied(empty: bool, read: u64) -> Pop
     ensures { result ≡ pop_emptied empty read }
 {
@@ -138,7 +147,7 @@ fn emptied(empty: bool, read: u64) -> Pop
     }
 }
 
-// After the exchange of the read position: the value, or again from the position found.
+// The stage after the exchange of the read position: done with the value, or a new try from the position found.
 fn swapped(won: bool, found: u64, value: u64) -> Pop
     ensures { result ≡ pop_swapped won found value }
 {

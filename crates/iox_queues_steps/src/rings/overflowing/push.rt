@@ -6,20 +6,24 @@ ghost use Rattle.iox_queues_steps.specs.Overflowing.{push_is_idle, push_is_over,
 
 use crate::{Access, Act, End, PushAnswer, Word};
 
-/// Where a push stands. Between `Begun` and `Pushed` each stage is one access.
+/// The stage of a push. Each stage from `Begun` to `Pushed` is one access after the one before.
 #[derive(Clone, Copy)]
 pub enum Push {
+    /// No push is in progress.
     Idle,
+    /// The push loads the write position.
     Begun {
         limit: u64,
         value: u64,
     },
+    /// The push has the write position, and loads the read position.
     SawWrite {
         limit: u64,
         value: u64,
         write: u64,
         next: u64,
     },
+    /// The push has both positions, and stores the value in the cell of the write position.
     SawRead {
         limit: u64,
         value: u64,
@@ -27,6 +31,7 @@ pub enum Push {
         next: u64,
         read: u64,
     },
+    /// The push has stored the value, and stores the next write position.
     Filled {
         limit: u64,
         value: u64,
@@ -34,17 +39,20 @@ pub enum Push {
         next: u64,
         read: u64,
     },
+    /// More than `limit` numbers may wait, so the push loads the oldest one.
     Full {
         value: u64,
         read: u64,
         next: u64,
     },
+    /// The push has the oldest number, and exchanges the read position to remove it.
     SawOldest {
         value: u64,
         read: u64,
         next: u64,
         oldest: u64,
     },
+    /// The push has its result, and its last step is still to come.
     Pushed {
         value: u64,
         answer: PushAnswer,
@@ -52,21 +60,21 @@ pub enum Push {
 }
 
 impl Push {
-    /// A push of the value into a ring where at most `limit` numbers wait.
+    /// A push of the value into a ring in which at most `limit` numbers wait.
     pub fn begin(limit: u64, value: u64) -> Push
         ensures { result ≡ Push.Begun limit value }
     {
         Push::Begun { limit, value }
     }
 
-    /// No call is under way.
+    /// Whether no push is in progress.
     pub fn is_idle(&self) -> bool
         ensures { result ≡ push_is_idle self.now }
     {
         matches!(*self, Push::Idle)
     }
 
-    /// The put that stands at the next step, where the read position is `position`.
+    /// The put that takes effect at the next step while the read position is `position`, if one does.
     pub fn placed(&self, limit: u64, position: u64) -> Option<Act>
         ensures { option_to_list result ≡ placed_by_push limit position self.now }
     {
@@ -85,7 +93,7 @@ impl Push {
         }
     }
 
-    /// The put that waits for the next move of the read position, which is `position`.
+    /// The put that takes effect at the next move of the read position, which is `position`, if one does.
     pub fn late(&self, position: u64) -> Option<Act>
         ensures { option_to_list result ≡ late_put position self.now }
     {
@@ -178,7 +186,7 @@ impl End for Push {
     }
 }
 
-// A put for which nothing left, unless it waits.
+// A put that removes no number, unless it is delayed.
 fn put_kept(value: u64, waits: bool) -> Option<Act>
     ensures { option_to_list result ≡ (if waits then [] else Act.Put value PushAnswer.Kept ∷ []) }
 {
@@ -191,7 +199,7 @@ fn put_kept(value: u64, waits: bool) -> Option<Act>
     })
 }
 
-// A put for which the oldest left, if its exchange is won.
+// A put that removes the oldest number, if its exchange succeeds.
 fn put_swapped(value: u64, oldest: u64, won: bool) -> Option<Act>
     ensures { option_to_list result ≡ (if won then Act.Put value (PushAnswer.LeftOut oldest) ∷ [] else []) }
 {
@@ -204,7 +212,7 @@ fn put_swapped(value: u64, oldest: u64, won: bool) -> Option<Act>
     })
 }
 
-// After the store of the write position: done, unless more than the limit may wait now.
+// The stage after the store of the write position: done, unless more than `limit` numbers may wait now.
 fn filled(limit: u64, value: u64, next: u64, read: u64) -> Push
     ensures { result ≡ push_filled limit value next read }
 {
@@ -222,7 +230,7 @@ fn filled(limit: u64, value: u64, next: u64, read: u64) -> Push
     }
 }
 
-// After the exchange of the read position: the oldest left by this push, or by a pop before it.
+// The stage after the exchange of the read position: the oldest number was removed by this push, or by a pop before it.
 fn swapped(value: u64, won: bool, oldest: u64) -> Push
     ensures { result ≡ push_swapped value won oldest }
 {

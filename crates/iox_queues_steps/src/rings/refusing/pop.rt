@@ -5,18 +5,27 @@ ghost use Rattle.iox_queues_steps.specs.Refusing.{pop_is_idle, pop_is_over, pop_
 
 use crate::{Access, Act, End, PopAnswer, Word};
 
-/// Where a pop stands, or a look that only asks whether something waits. Between `Begun` and
-/// `Popped`, or `LookBegun` and `Looked`, each stage is one access.
+/// The stage of a pop, or of a look, which only returns whether a number waits. Each stage from `Begun` to `Popped`, or from `LookBegun` to
+/// `Looked`, is one access after the one before.
 #[derive(Clone, Copy)]
 pub enum Pop {
+    /// No pop or look is in progress.
     Idle,
+    /// A pop loads the read position.
     Begun,
+    /// The pop has the read position, and loads the write position.
     SawRead { read: u64 },
+    /// The pop has found that a number waits, and loads the cell of the read position.
     Nonempty { read: u64, next: u64 },
+    /// The pop has the number, and stores the next read position.
     SawCell { next: u64, value: u64 },
+    /// The pop has its result, and its last step is still to come.
     Popped { got: Option<u64> },
+    /// A look loads the read position.
     LookBegun,
+    /// The look has the read position, and loads the write position.
     LookRead { read: u64 },
+    /// The look has its result, and its last step is still to come.
     Looked { waiting: bool },
 }
 
@@ -35,14 +44,14 @@ impl Pop {
         Pop::LookBegun
     }
 
-    /// No call is under way.
+    /// Whether no pop or look is in progress.
     pub fn is_idle(&self) -> bool
         ensures { result ≡ pop_is_idle self.now }
     {
         matches!(*self, Pop::Idle)
     }
 
-    /// The take or look that stands at the next step, where the write position is `position`.
+    /// The take or look that takes effect at the next step while the write position is `position`, if one does.
     pub fn placed(&self, position: u64) -> Option<Act>
         ensures { option_to_list result ≡ placed_by_pop position self.now }
     {
@@ -98,7 +107,7 @@ impl End for Pop {
     }
 }
 
-// A take that found nothing, if it did.
+// A take that found no number, if the ring is empty.
 fn none_if(empty: bool) -> Option<Act>
     ensures { option_to_list result ≡ (if empty then Act.Take (PopAnswer.Got None) ∷ [] else []) }
 {
@@ -110,7 +119,7 @@ fn none_if(empty: bool) -> Option<Act>
     })
 }
 
-// After the load of the write position: done if nothing waits.
+// The stage after the load of the write position: done if no number waits.
 fn emptied(empty: bool, read: u64) -> Pop
     ensures { result ≡ pop_emptied empty read }
 {

@@ -5,29 +5,35 @@ ghost use Rattle.iox_queues_steps.specs.Refusing.{push_is_idle, push_is_over, pu
 
 use crate::{Access, Act, End, PushAnswer, Word};
 
-/// Where a push stands. Between `Begun` and `Pushed` each stage is one access.
+/// The stage of a push. Each stage from `Begun` to `Pushed` is one access after the one before.
 #[derive(Clone, Copy)]
 pub enum Push {
+    /// No push is in progress.
     Idle,
+    /// The push loads the write position.
     Begun {
         limit: u64,
         value: u64,
     },
+    /// The push has the write position, and loads the read position.
     SawWrite {
         limit: u64,
         value: u64,
         write: u64,
         next: u64,
     },
+    /// The push has found that the ring isn't full, and stores the value in the cell of the write position.
     SawRoom {
         value: u64,
         write: u64,
         next: u64,
     },
+    /// The push has stored the value, and stores the next write position.
     Filled {
         value: u64,
         next: u64,
     },
+    /// The push has its result, and its last step is still to come.
     Pushed {
         value: u64,
         answer: PushAnswer,
@@ -35,21 +41,21 @@ pub enum Push {
 }
 
 impl Push {
-    /// A push of the value into a ring where at most `limit` numbers wait.
+    /// A push of the value into a ring in which at most `limit` numbers wait.
     pub fn begin(limit: u64, value: u64) -> Push
         ensures { result ≡ Push.Begun limit value }
     {
         Push::Begun { limit, value }
     }
 
-    /// No call is under way.
+    /// Whether no push is in progress.
     pub fn is_idle(&self) -> bool
         ensures { result ≡ push_is_idle self.now }
     {
         matches!(*self, Push::Idle)
     }
 
-    /// The put that stands at the next step, where the read position is `position`.
+    /// The put that takes effect at the next step while the read position is `position`, if one does.
     pub fn placed(&self, position: u64) -> Option<Act>
         ensures { option_to_list result ≡ placed_by_push position self.now }
     {
@@ -114,7 +120,7 @@ impl End for Push {
     }
 }
 
-// A refused put, unless there is room.
+// A refused put, unless the ring has capacity for it.
 fn refused_unless(value: u64, room: bool) -> Option<Act>
     ensures { option_to_list result ≡ (if room then [] else Act.Put value PushAnswer.Refused ∷ []) }
 {
@@ -127,7 +133,7 @@ fn refused_unless(value: u64, room: bool) -> Option<Act>
     })
 }
 
-// After the load of the read position: on if there is room, else refused.
+// The stage after the load of the read position: the push goes on if the ring isn't full, else it is refused.
 fn measured(limit: u64, value: u64, write: u64, next: u64, read: u64) -> Push
     ensures { result ≡ push_measured limit value write next read }
 {
