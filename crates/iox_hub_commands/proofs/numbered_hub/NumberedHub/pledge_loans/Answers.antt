@@ -14,8 +14,8 @@ returns-clause-room g c = λ room.
     anew_pledges c.pledged_anew.new.numbers left left c.loans_left-left.result c.args.more c.in_ok-self.field-0 (omega arith)
     c.loans_left-left.ensures c.in_ok-self.ensures.room c.in_ok-self.ensures.small
 
-pub returns-in_err-pledged_anew-clause-grows : goal.returns-in_err-pledged_anew-clause-grows
-returns-in_err-pledged_anew-clause-grows g c =
+pub returns-in_err-self-clause-grows : goal.returns-in_err-self-clause-grows
+returns-in_err-self-clause-grows g c =
     grows_counted (loans_left_in c.args.self.now.hub.services.domains) c.loans_left-left.result c.args.more _ c.len-factories.result
     c.args.self.now.made.loans c.pledged_anew.new.numbers (omega (arith, c.loans_left-left.ensures)) c.len-factories.ensures.value
     c.pledged_anew.ensures.grows

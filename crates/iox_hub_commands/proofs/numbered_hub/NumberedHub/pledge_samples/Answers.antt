@@ -13,8 +13,8 @@ returns-clause-room g c = λ room.
     held_pledges c.pledged_anew.new.numbers (samples_left_in c.args.self.now.hub.services.domains) c.most_held-most.result c.args.more
     c.in_ok-self.field-0 (c.most_held-most.ensures.enough room) c.in_ok-self.ensures.room c.in_ok-self.ensures.small
 
-pub returns-in_err-pledged_anew-clause-grows : goal.returns-in_err-pledged_anew-clause-grows
-returns-in_err-pledged_anew-clause-grows g c =
+pub returns-in_err-self-clause-grows : goal.returns-in_err-self-clause-grows
+returns-in_err-self-clause-grows g c =
     grows_counted (samples_at_most_in c.args.self.now.hub.services.domains) c.most_held-most.result c.args.more _ c.len-factories.result
     c.args.self.now.made.samples c.pledged_anew.new.numbers c.most_held-most.ensures.few c.len-factories.ensures.value
     c.pledged_anew.ensures.grows
