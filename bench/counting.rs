@@ -2,8 +2,10 @@
 //! time, or its requests for memory. It needs no debugger, and nothing of the processor's counters. Linux on x86-64.
 //!
 //! Standard input is a file of lines. One that begins with `count ` is read alone, without that word; the others are read in blocks.
+//! What a program writes that begins with `measure ` is counted, too, from there to its next write; its requests for memory from there on.
 //! For each counted line, when its reply is written, and at the end of the program, a row is appended to the file that `COUNTS` names:
-//! the instructions from the end of the read to the write, the requests for memory so far, the bytes in use, and the most that ever were.
+//! the instructions from the end of the read, or of that write, to the next write, the requests for memory so far, the bytes in use, and
+//! the most that ever were.
 //! `COUNT_OF=steps` counts instructions, and no memory, `COUNT_OF=memory` the other way round. What the C library takes to find memory
 //! and to take it back isn't counted: it differs by what came before, and from library to library.
 use std::arch::asm;
@@ -31,6 +33,7 @@ const WRITE: i64 = 1;
 const EXIT_GROUP: i64 = 231;
 const TRAP: c_int = 5;
 const MARK: &[u8] = b"count ";
+const WRITTEN_MARK: &[u8] = b"measure ";
 // In bytes, how much is read at once.
 const BLOCK: usize = 16_384;
 
@@ -100,6 +103,10 @@ fn next_block(most: usize) -> (&'static [u8], bool) {
         }
         end = behind;
     }
+    if end == first {
+        // A line that is longer than what is asked for is read in parts.
+        end = text.len().min(first + most);
+    }
     AT.store(end, Relaxed);
     (&text[first..end], false)
 }
@@ -112,12 +119,23 @@ unsafe extern "C" fn read(file: c_int, to: *mut u8, length: usize) -> isize {
     let (block, is_counted) = next_block(length);
     unsafe { std::ptr::copy_nonoverlapping(block.as_ptr(), to, block.len()) };
     IS_COUNTED.store(is_counted, Relaxed);
-    if is_counted && !IS_OF_MEMORY.load(Relaxed) {
+    if is_counted {
+        begin_to_count();
+    }
+    block.len() as isize
+}
+
+#[inline(always)]
+fn begin_to_count() {
+    if !IS_OF_MEMORY.load(Relaxed) {
         STEPS.store(0, Relaxed);
         // From here on the processor stops behind each instruction.
         unsafe { asm!("pushfq", "or qword ptr [rsp], 0x100", "popfq") };
     }
-    block.len() as isize
+}
+
+fn begins_a_count(from: *const c_void, length: usize) -> bool {
+    NOTES.load(Relaxed) >= 0 && unsafe { std::slice::from_raw_parts(from as *const u8, length) }.starts_with(WRITTEN_MARK)
 }
 
 #[unsafe(no_mangle)]
@@ -127,7 +145,13 @@ unsafe extern "C" fn write(file: c_int, from: *const c_void, length: usize) -> i
         IS_COUNTED.store(false, Relaxed);
         tell();
     }
-    unsafe { syscall(WRITE, file, from, length) as isize }
+    let written = unsafe { syscall(WRITE, file, from, length) as isize };
+    if file == 1 && begins_a_count(from, length) {
+        REQUESTS.store(0, Relaxed);
+        IS_COUNTED.store(true, Relaxed);
+        begin_to_count();
+    }
+    written
 }
 
 fn tell() {

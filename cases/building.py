@@ -13,12 +13,14 @@ from tool.progress import UNPROVED
 
 from cases.kit import (
     BUILD,
+    CASES,
     PATIENCE,
     PROGRAM,
     REPLIES,
     SCRIPT,
     TOP,
     Copy,
+    Ran,
     await_that,
     case,
     expect,
@@ -371,3 +373,19 @@ def the_program_can_be_copied_and_run_without_the_launcher():
         ran = subprocess.run([copy.top / "mine"], input=SCRIPT.read_bytes(), capture_output=True, timeout=PATIENCE)
         expect((ran.returncode, ran.stdout), (0, REPLIES))
         copy.run("--path", "--model").expect_one_line(3, "model/script_model.py")
+
+
+@case
+def cases_are_listed_and_chosen_by_their_names_and_near_names_are_told():
+    def listed(*words):
+        ran = Ran("--list", *words, at=TOP / "check")
+        return ran.status, ran.out.decode().splitlines(), ran.err.decode()
+
+    every = [it.__name__ + " *" * of_program for it, of_program in CASES.items()]
+    expect(listed(), (0, every, ""))
+    expect(listed("-k", "schedule", "-k", "near"), (0, [it for it in every if "schedule" in it or "near" in it], ""))
+    name = "cases_are_listed_and_chosen_by_their_names_and_near_names_are_told"
+    expect(listed(name), (0, [name], ""))
+    expect(listed(name.replace("near", "other")), (64, [], f"check: no case {name.replace('near', 'other')}; near it: {name}\n"))
+    expect(listed("unheard-of"), (64, [], "check: no case unheard-of; ./check --list has them\n"))
+    expect(listed("-k", "unheard-of"), (64, [], "check: no case has unheard-of in its name; ./check --list has them\n"))

@@ -1,4 +1,7 @@
-"""Machines that go a step at a time: schedules as lines of `crates/script_cases`, held against the plain models of `model/step_machines.py`."""
+"""Machines that go a step at a time: schedules as lines of `crates/script_cases`, held against the plain models of `model/step_machines.py`.
+
+What calls take is counted too: it doesn't grow with the capacity.
+"""
 import sys
 
 from cases.kit import TOP, answered, case, expect

@@ -22,7 +22,10 @@ WAYS = ("absent", "locked", "published", "renewed", "emptied")
 MOODS = [(way, then) for way in WAYS for then in WAYS] + [("published", "renewed"), ("absent", "locked")] * 4
 # What is asked at times: a setting that others may not meet, or one beyond the limits.
 ASKED = {
-    "ps": ["nodes=1", "nodes=2", "overflow=0", "buffer=3", "history=2", "overflow=0 buffer=1 history=2", "publishers=16777216", "sequence=1", "sequence=0"],
+    "ps": [
+        *("nodes=1", "nodes=2", "overflow=0", "buffer=3", "history=2", "overflow=0 buffer=1 history=2"),
+        *("publishers=16777216", "sequence=1", "sequence=0"),
+    ],
     "ev": ["nodes=1", "nodes=2", "maxid=7", "deadline=off", "deadline=9", "nodes=16777216"],
     "rr": ["nodes=1", "nodes=2", "fire=0", "active=5", "servers=0", "nodes=16777216"],
 }
@@ -47,7 +50,10 @@ class Foreign:
         if phase is None and way != "absent":
             self.take("lock", self.dice.below(3))
         elif isinstance(phase, tuple) and phase[0] == "x" and way != "locked":
-            self.take("giveup", phase[1]) if way == "absent" else self.take(self.dice.of(["publish", "publish", "publish1"]), phase[1], self.dice.of([None, None, 1, 2]))
+            if way == "absent":
+                self.take("giveup", phase[1])
+            else:
+                self.take(self.dice.of(["publish", "publish", "publish1"]), phase[1], self.dice.of([None, None, 1, 2]))
         elif isinstance(phase, Life) and phase.emptied_by is not None and phase.emptied_by[0] == "x" and way != "emptied":
             self.take("remove", phase.emptied_by[1])
         elif isinstance(phase, Life) and way != "published" and [it for (it, _), _ in phase.nodes if it == "x"]:

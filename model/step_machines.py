@@ -3,7 +3,8 @@
 
 A call is a generator: it yields the access that it makes next, and is sent what the word held. Its begin is a step that touches no word,
 and so is its last one. A party's step that doesn't fit is skipped. What each call does word by word is what the doc comments of its
-stages say: `RingMachine`, `SetMachine`, `IndexSetMachine`, `AtomicMachine`, `RobustSetMachine` and `ContainerMachine`.
+stages say: `RingMachine`, `SetMachine`, `IndexSetMachine`, `AtomicMachine`, `RobustSetMachine` and `ContainerMachine`. `Plain` is a
+`BitSet`, which has no steps.
 
 A schedule is a block of `crates/script_cases`: its first line says which machine, each further one what a party does.
 """
@@ -52,6 +53,10 @@ class Machine:
     def may_go_on(self, party, begun):
         return True
 
+    def ends_at_once(self):
+        """Whether a call is a single step."""
+        return False
+
     def begin(self, party, verb, *numbers):
         if party not in self.parties or party in self.calls or not self.may_begin(party, verb, *numbers):
             return SKIPPED
@@ -96,7 +101,7 @@ class Machine:
         if verb == "go":
             return self.go(party, *numbers)
         told = self.begin(party, verb, *numbers)
-        return told if is_begin or told == SKIPPED else self.go(party, 100_000)
+        return told if is_begin or told == SKIPPED or self.ends_at_once() else self.go(party, 100_000)
 
     def answer(self, line):
         counted = re.fullmatch(r"(\d+) times (.*)", line)
@@ -204,6 +209,32 @@ class Bits(Machine):
 
     def seen(self, what, place="0"):
         return str(self.words.get(("cell", int(place)), 0)) if what == "count" else super().seen(what)
+
+
+class Plain(Machine):
+    """A set of numbers, each of whose calls is a single step: its begin tells the answer."""
+
+    def __init__(self, **sizes):
+        super().__init__(**sizes)
+        self.members, self.next = set(), 0
+
+    def begin(self, party, verb, place=None):
+        if verb == "set":
+            told = SKIPPED if place >= self.capacity else is_so(place not in self.members)
+            self.members |= {place} if told != SKIPPED else set()
+            return told
+        if not self.members:
+            return "none"
+        place = min(self.members, key=lambda it: (it < self.next, it))
+        self.members.remove(place)
+        self.next = place + 1
+        return str(place)
+
+    def go(self, party, steps):
+        return SKIPPED
+
+    def ends_at_once(self):
+        return True
 
 
 # ------------------------------------------------------------------------------------------------------ index sets
@@ -508,7 +539,7 @@ def machine_of(head):
     sizes = {key: int(size) for key, size in (it.split("=") for it in sizes)}
     if kind in RINGS:
         return Ring(kind == "overflowing", **sizes)
-    return {"bits": Bits, "indices": Indices, "value": Value, "robust": Robust, "members": Members}[kind](**sizes)
+    return {"bits": Bits, "plain": Plain, "indices": Indices, "value": Value, "robust": Robust, "members": Members}[kind](**sizes)
 
 
 def answers(head, lines):
@@ -529,6 +560,10 @@ def ring_call(chance, machine, party):
 
 def bits_call(chance, machine, party):
     return chance.choice((f"set {chance.randrange(machine.capacity)}",) * 4 + ("next", "next", "all"))
+
+
+def plain_call(chance, machine, party):
+    return chance.choice((f"set {chance.randrange(machine.capacity + 1)}",) * 3 + ("next",))
 
 
 def indices_call(chance, machine, party):
@@ -566,6 +601,7 @@ KINDS = {
     "overflowing": (ring_call, ()),
     "refusing": (ring_call, ()),
     "bits": (bits_call, ("parties", "max")),
+    "plain": (plain_call, ()),
     "indices": (indices_call, ("parties",)),
     "value": (value_call, ("parties", "words")),
     "robust": (robust_call, ("parties",)),
@@ -592,7 +628,7 @@ def schedule(chance, kind, lines):
     head = head_of(chance, kind)
     machine = machine_of(head)
     told = [machine.answer(line_of(chance, kind, machine)) for _ in range(lines)]
-    return [f"a schedule of chance: {kind}", head, *told, machine.answer("steps")]
+    return [f"a schedule of chance: {kind}", head, *told, *([] if machine.ends_at_once() else [machine.answer("steps")])]
 
 
 def schedules(seed, lines):

@@ -2,13 +2,14 @@
 
 `rows.txt` has what a line may take once much has been, `verbs.txt` what a line of each verb takes, `memory.txt` what asks for no memory and
 what keeps none. It is the proved program that is counted, as `rt ci` built it, or the one that COSTS_OF names in the environment.
+`machines.txt` has what a call of a set, a ring or a container takes whatever its capacity is: there it is crates/script_cases that is counted.
 With CHECK_TIMES=1 each figure is printed.
 """
 import os
 from concurrent.futures import ThreadPoolExecutor
 
 from cases.costs import counting
-from cases.costs.table import Line, Script, at, read
+from cases.costs.table import HERE, Line, Script, at, read
 from cases.kit import COMMANDS, Differs, case, case_of_program, expect
 
 # Lines that take more instructions are counted only after the least number of times and the most.
@@ -20,8 +21,25 @@ GROWTH, MARGIN = 1.15, 1.15
 GONE = 1.05
 # In bytes, how much more may be in use after 10,000 times than after 10.
 KEPT = 16_384
+# How many places a set, a ring or a container has.
+CAPACITIES = (10, 10_000)
+# A domain that is taken out of its hub and put back after so many messages, of which some wait and one is held.
+PUT_BACK = """\
+a domain that is put back
+hub
+node
+create n1 ps A
+publisher f1
+subscriber f1
+{n} times put p1 3; receive s1; release m#
+put p1 4
+receive s1
+put p1 5
+measure take 1
+measure put
+"""
 # What two sensors and two displays ask for in all, and the most bytes in use.
-IN_THREADS = counting.Counted(steps=0, requests=81, in_use=0, most=15_352)
+IN_THREADS = counting.Counted(steps=0, requests=83, in_use=0, most=15_400)
 
 
 def note(text):
@@ -163,6 +181,44 @@ def calls_that_take_no_memory_ask_for_none_and_what_ends_keeps_none():
     judged(read("memory.txt"), judge_one)
 
 
+# ---- machines, and domains that are put back, by the program of cases
+
+
+def measured(what, given):
+    """What was counted of each line that begins with `measure`, with the line."""
+    text, counted = counting.run(counting.built("script_cases"), what, given)
+    lines = [it for it in text.splitlines() if it.startswith("measure ")]
+    # The last row is of the program's end.
+    return list(zip(lines, counted[:-1], strict=True))
+
+
+def judge_capacity(at_few, at_many):
+    """Which calls take more at the larger capacity."""
+    wrong = []
+    for (line, few), (_, many) in zip(at_few, at_many, strict=True):
+        note(f"{line}: {few.steps:,} at few places, {many.steps:,} at many")
+        if many.steps > GROWTH * few.steps:
+            wrong.append(f"`{line}` takes {few.steps:,} at few places, and {many.steps:,} at many")
+    return wrong
+
+
+@case
+def a_call_takes_no_more_at_a_larger_capacity():
+    text = "".join(it for it in (HERE / "machines.txt").read_text(encoding="ascii").splitlines(True) if not it.startswith("#")).strip()
+    few, many = (measured("steps", text.replace("{n}", str(times))) for times in CAPACITIES)
+    wrong = judge_capacity(few, many)
+    if wrong or not few:
+        raise Differs("; ".join(wrong) or "no line is measured")
+
+
+@case
+def a_domain_is_taken_out_and_put_back_without_a_request_for_memory():
+    for times in (10, 10_000):
+        for (line, counted), said in zip(measured("memory", PUT_BACK.replace("{n}", str(times))), ("take 1", "put"), strict=True):
+            note(f"{line}: {counted.requests:,} requests for memory after {times:,} messages")
+            expect((line, counted.requests), (f"measure {said} -> true", 0))
+
+
 # ---- threads
 
 
@@ -219,3 +275,10 @@ def memory_that_is_asked_for_or_kept_is_told():
     expect_told(judge_memory(Script("a put", said={"keeps": "nothing"}), kept), "keeps 16,385 bytes more after 10,000 times than after 10")
     expect_told(judge_memory(Script("a put", said={"keeps": "known: it is lame"}), kept))
     expect_told(judge_memory(Script("a put", said={"keeps": "known: it is lame"}), none), "keeps 0 bytes more", "(it is lame)")
+
+
+@case
+def a_call_that_takes_more_at_a_larger_capacity_is_told():
+    at = lambda steps: [("measure 0 set 5 -> true", counting.Counted(steps, 0, 0, 0))]
+    expect_told(judge_capacity(at(1_000), at(1_149)))
+    expect_told(judge_capacity(at(1_000), at(1_151)), "`measure 0 set 5 -> true` takes 1,000 at few places, and 1,151 at many")

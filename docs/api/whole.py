@@ -1,4 +1,4 @@
-"""Whole functions that the API pages show at calls whose short examples can't stand alone: those of docs/api/whole.md, which `check` runs."""
+"""Whole functions that the API pages show at calls whose short examples can't stand alone: docs/api/whole.md has them, `check` runs them."""
 
 import re
 from pathlib import Path

@@ -22,10 +22,14 @@ CASES = (
     "a_line_takes_no_more_once_much_has_been",
     "a_line_of_each_verb_takes_what_the_table_says",
     "a_message_in_threads_asks_for_no_memory",
+    "a_call_takes_no_more_at_a_larger_capacity",
+    "a_domain_is_taken_out_and_put_back_without_a_request_for_memory",
 )
 # For each case that counts the program that it takes from the environment, with the library that names all of its own.
 COUNTED = {case: ("COSTS_OF", "iox", "iox_script") for case in CASES[1:4]}
 COUNTED[CASES[4]] = ("COSTS_OF_example_threads", "example_threads", "iox_lanes")
+# (the libraries that a program names are those of its line in crates.txt)
+COUNTED |= {case: ("COSTS_OF_script_cases", "script_cases", "") for case in CASES[5:]}
 
 
 @dataclass(frozen=True)
@@ -71,12 +75,12 @@ def copied(scratch: Path, crates: list[str]) -> None:
     subprocess.run(["git", "init", "-q", scratch], check=True)
 
 
-def keep_one(crate: Path, test: str) -> None:
-    """Leaves a single test of a crate: the others are functions that nobody calls."""
-    name = test.rpartition("::")[2]
+def keep_one(crate: Path, *tests: str) -> None:
+    """Leaves these tests of a crate alone. What is no test is not handed a runtime with all handles, so the others go as a whole."""
+    names = "|".join(re.escape(test.rpartition("::")[2]) for test in tests)
     for file in crate.glob("src/**/*.rt"):
         text = file.read_text(encoding="utf-8")
-        kept = re.sub(rf"(?m)^ *#\[test\]\n(?! *(?:pub )?fn {re.escape(name)}\b)", "", text)
+        kept = re.sub(rf"(?ms)^#\[test\]\nfn (?!(?:{names})\b).*?^}}\n", "", text)
         if kept != text:
             file.write_text(kept, encoding="utf-8")
 
@@ -124,7 +128,8 @@ def counted_program(top: Path, case: str) -> tuple[dict[str, str], float]:
     """The environment that names a case the program of a copy, built without proof and without checks; and what the build took."""
     variable, crate, library = COUNTED[case]
     program = top.parent / crate
-    words = ["bench/split.py", "build", crate, f"crates/{crate}/src/main.rt", str(program), library]
+    named = [library] if library else prover.below_each()[crate]
+    words = ["bench/split.py", "build", crate, f"crates/{crate}/src/main.rt", str(program), *named]
     took = 0.0 if program.exists() else prover.timed([sys.executable, *words], top).seconds
     return {variable: str(program)}, took
 

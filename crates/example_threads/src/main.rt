@@ -33,7 +33,7 @@ fn sizes() -> LaneSizes
         kind: RingKind::Overflowing,
         buffer: 4,
         most_borrowed: 1,
-        history: 0,
+        history: 1,
         most_loans: 1,
         slots: 12,
         user_header_words: 0,
@@ -41,10 +41,18 @@ fn sizes() -> LaneSizes
     }
 }
 
+// Sends number 0, word by word; true if it was sent.
+fn begin(port: &mut LanePublisher, sensor: u64) -> bool {
+    let Some(LoanAnswer::Slot(loan)) = port.loan_uninit() else {
+        return false;
+    };
+    port.write(loan, &[0, sensor, 0, 0, 0, 0, 0, 0], &[]) && port.send(loan).is_some()
+}
+
 // Sends the numbers up to the last one; returns how many were sent.
 fn measure(port: &mut LanePublisher, sensor: u64) -> u64 {
-    let mut sent = 0u64;
-    for number in 0..=LAST {
+    let mut sent = u64::from(begin(port, sensor));
+    for number in 1..=LAST {
         let Some(LoanAnswer::Slot(loan)) = port.loan_uninit() else {
             return sent;
         };

@@ -23,7 +23,7 @@ pub enum HubError {
 }
 
 impl HubError {
-    /// What it displays as.
+    /// The text that the error displays as.
     pub fn text(&self) -> &'static str
         ensures { result.now ≡ hub_text self.now }
     {

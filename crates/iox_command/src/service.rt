@@ -4,7 +4,7 @@ ghost use Rattle.iox_command.specs.Patterns.{pattern_of};
 
 use iox_describe_base::MessagingPattern;
 
-/// A number, or nothing.
+/// A number, or no value.
 ///
 /// Not in `iceoryx2`.
 #[derive(Clone, Copy)]

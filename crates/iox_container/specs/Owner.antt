@@ -1,4 +1,4 @@
--- Which numbers an owner may have.
+-- Which numbers are owner ids.
 use Rattle.std.specs.Prelude.{ℕ, ◌<◌, ◌^◌}
 
 -- An owner id is neither 0 nor in the upper half of the 64-bit numbers.

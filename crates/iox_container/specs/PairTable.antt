@@ -30,12 +30,12 @@ module _ {K V : Type 0} where
   abbrev pub value_of : (K → K → Bool) → K → SlotTable (K × V) → Option V
   value_of eq key table = option_map (λ (found : ℕ × (K × V)). found.1.1) (place_of eq key table)
 
-  -- The table with another value in the pair that was found.
+  -- The table with another value in the pair that was found, or the table as it was if none was found.
   abbrev pub with_value_at : Option (ℕ × (K × V)) → SlotTable (K × V) → V → SlotTable (K × V)
   with_value_at None table value = table
   with_value_at (Some found) table value = record { values = slice_set table.values found.0 (Some (found.1.0, value)); free = table.free }
 
-  -- The table with another value under this key.
+  -- The table with another value under this key, or the table as it was if it lacks the key.
   abbrev pub with_value_of : (K → K → Bool) → K → SlotTable (K × V) → V → SlotTable (K × V)
   with_value_of eq key table value = with_value_at (place_of eq key table) table value
 

@@ -48,7 +48,7 @@ freed index set = record set { free = index ∷ set.free }
 abbrev pub settled : ReleaseMode → UniqueSetState → UniqueSetState
 settled mode set = record set { locked = set.locked || locks mode (borrowed set) }
 
--- The index is free in the set `old` and held in the set `new`, and no other index differs.
+-- The index isn't held in the set `old` and is held in the set `new`, and no other index differs.
 pub record Takes (index : ℕ) (old new : UniqueSetState) : Type 0 where
   pub was_free : is_held index old ≡ false
   pub is_taken : is_held index new ≡ true

@@ -27,7 +27,9 @@ use std::marker::Model;
 pub struct Member<T> {
     /// Identifies the member: no other member that the container ever had has the same number.
     pub number: u64,
+    /// The owner of the member.
     pub owner: OwnerId,
+    /// The value of the member.
     pub value: T,
 }
 

@@ -6,7 +6,7 @@ use std::alloc::{AllocError, Global};
 
 /// A machine that answers lines, one after the other.
 ///
-/// This port's own.
+/// Not in `iceoryx2`.
 pub trait AnswersLines: Drop {
     // the answer to a line, without a newline, and the machine afterwards
     ghost answers: { Self → List ℕ → List ℕ → Self → Type 0 };

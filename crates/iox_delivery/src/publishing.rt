@@ -27,7 +27,7 @@ pub fn holds<T: Copy, U: Copy, H: Home<T, U>>(port: PortId, home: &H) -> bool
     }
 }
 
-/// Whether a send of the publisher waits.
+/// Whether a send of the publisher is blocked.
 ///
 /// Not in `iceoryx2`.
 /// Example: `let waits = publishing::is_blocked(port, home);`

@@ -1,4 +1,4 @@
-//! What a send answers, and a send that waits.
+//! What a send answers, and a blocked send.
 ghost use Rattle.iox_domain.specs.Homes as homes;
 ghost use Rattle.std.specs.Prelude.{◌≡◌, true};
 ghost use Rattle.iox_delivery.specs.Holding.{publisher_blocked};
@@ -17,11 +17,11 @@ use std::marker::PhantomData;
 pub enum Sent<T, U> {
     /// The send is finished, and so many connections took the message.
     Delivered(usize),
-    /// The send waits at a full mailbox.
+    /// The send is blocked at a full mailbox.
     Blocked(BlockedSend<T, U>),
 }
 
-/// A send that waits at a full mailbox, until it is tried again or given up. Until then its publisher can't loan, send or
+/// A send that is blocked at a full mailbox, until it is tried again or given up. Until then its publisher can't loan, send or
 /// update.
 ///
 /// Not in `iceoryx2`: `iceoryx2::port::publisher::Publisher::send` waits itself.
@@ -31,7 +31,7 @@ pub struct BlockedSend<T, U> {
 }
 
 impl<T: Copy, U: Copy> BlockedSend<T, U> {
-    /// Whether the send waits in this home, which its calls require.
+    /// Whether the send is blocked in this home, which its calls require.
     /// Example: `let waits = blocked.holds(home);`
     pub fn holds<H: Home<T, U>>(&self, home: &H) -> bool
         ensures { result ≡ publisher_blocked self.now.port.number (homes.ports_of H.domain_of self.now.port.domain home.now) }
@@ -39,7 +39,7 @@ impl<T: Copy, U: Copy> BlockedSend<T, U> {
         publishing::is_blocked(self.port, home)
     }
 
-    /// Tries the mailbox at which the send waits once more, `elapsed_ns` nanoseconds after it was first found full, and
+    /// Tries once more the mailbox at which the send is blocked, `elapsed_ns` nanoseconds after it was first found full, and
     /// continues; the call answers as the send did. The count of retries at the mailbox is one higher.
     ///
     /// Not in `iceoryx2`.
@@ -91,7 +91,7 @@ impl<T: Copy, U: Copy> BlockedSend<T, U> {
     }
 }
 
-// The answer of a send, with a waiting send as a value.
+// The answer of a send, with a blocked send as a value.
 pub(crate) fn sent_of<T, U>(
     port: PortId,
     sent: Result<Sending, SendError>,

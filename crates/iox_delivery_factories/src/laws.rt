@@ -1,4 +1,4 @@
-//! Theorems about builders, said without their steps. They are the contracts of functions that do nothing.
+//! Theorems about builders. They are the contracts of functions that do nothing.
 ghost use Rattle.iox_delivery_factories.specs.Elements.{ElementsHaveValues};
 
 /// How many values an element of a service has for which a builder creates publishers: as many as it has bytes, if values are

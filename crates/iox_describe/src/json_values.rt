@@ -3,7 +3,7 @@
 //! Contracts see a `Value` as `serde_json`'s `Data`. `proofs/ReadBack` has the theorems about plain values: they have no float, their text
 //! is UTF-8, and reading the text gives the value back.
 //!
-//! First calls. `decode` makes them.
+//! First calls, as `decode` makes them:
 //!
 //! ```
 //! let name = text_at(&value, "name");

@@ -84,7 +84,7 @@ pub fn is_within_limits(description: &Description) -> bool
 /// Every description has texts and attributes within their limits, a hash of 20 bytes, and 64-bit numbers in its settings. This function
 /// does nothing; a proof calls it to use this fact about a description.
 ///
-/// This port's own.
+/// Not in `iceoryx2`.
 pub fn has_form(description: &Description)
     ensures { HasForm description.now }
 {

@@ -30,7 +30,7 @@ pub fn encode(alloc: Global, description: &Description) -> Result<Vec<u8>, Alloc
 /// Encodes a description as its line of version 1, for readers that don't know version 2. Refused with `NotInVersion1` exactly if the
 /// service numbers its messages, whatever memory there is, and with `OutOfMemory` only where an allocation fails.
 ///
-/// This port's own.
+/// Not in `iceoryx2`.
 pub fn encode_v1(alloc: Global, description: &Description) -> Result<Vec<u8>, DescriptionError>
     ensures text { IfOk result (λ text. (text.items ≡ line One description.now) × HasAll One description.now.settings) }
     ensures refused { MatchResult result (λ text. Unit {0}) (λ error. (error ≡ OutOfMemory) × HasAll One description.now.settings
@@ -44,7 +44,7 @@ pub fn encode_v1(alloc: Global, description: &Description) -> Result<Vec<u8>, De
 
 /// Whether a line of the version can state all of these settings.
 ///
-/// This port's own.
+/// Not in `iceoryx2`.
 pub fn has_all(version: Version, settings: &Settings) -> bool
     ensures { IsTrue result ↔ HasAll version settings.now }
 {
@@ -56,7 +56,7 @@ pub fn has_all(version: Version, settings: &Settings) -> bool
 
 /// Encodes a description as its line of a version that can state all of its settings. It fails only where an allocation fails.
 ///
-/// This port's own.
+/// Not in `iceoryx2`.
 pub fn encode_as(
     alloc: Global,
     version: Version,

@@ -19,7 +19,7 @@ IsAttribute a = IsText 1 64 a.key × IsText 0 256 a.value
 abbrev pub AreAttributes : List Attribute → Type 0
 AreAttributes pairs = (length pairs ≤ 8) × All IsAttribute pairs
 
--- The answer to one more attribute or key: accepted only within the limits, and out of memory only if it is the first one.
+-- The answer to one more attribute or key: it is refused exactly outside the limits, and memory runs out only for the first one.
 abbrev pub AnswersOneMore : Type 0 → Type 0 → Result (Unit {0}) AttributeError → Type 0
 AnswersOneMore is_within is_first (Ok taken) = is_within
 AnswersOneMore is_within is_first (Err (refusal.LimitError limit)) = is_within → ⊥

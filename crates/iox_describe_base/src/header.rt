@@ -40,7 +40,7 @@ impl Header {
 
     /// The sequence number that its send gave the message; `None` for a loan, and if the service doesn't number its messages.
     ///
-    /// This port's own: an iceoryx2 message has no number.
+    /// Not in `iceoryx2`: an iceoryx2 message has no number.
     pub fn sequence(&self) -> Option<u64>
         ensures { result ≡ self.now.sequence }
     {

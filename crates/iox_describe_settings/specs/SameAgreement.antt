@@ -32,7 +32,7 @@ same_agreement a b =
     pointwise nat_eq a.name b.name && (pointwise nat_eq a.service_hash.digest b.service_hash.digest
     && (same_settings a.settings b.settings && same_attributes a.attributes b.attributes))
 
--- ---- the tests tell whether they are one
+-- ---- the tests decide whether two values are equal
 
 switches : (a b : Bool) → Decides (same_switch a b) (a ≡ b)
 switches true true = (λ e. refl, λ e. refl)

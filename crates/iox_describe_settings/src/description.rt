@@ -11,7 +11,7 @@ use std::marker::Model;
 
 /// A version of the line that encodes a description.
 ///
-/// This port's own.
+/// Not in `iceoryx2`.
 #[derive(Clone, Copy)]
 pub enum Version {
     /// Version 1, which has no `sequence_numbers`.

@@ -27,7 +27,7 @@ pub struct NumberRule {
     pub default: u64,
     /// The smallest number that is possible; `create` raises a smaller one to it.
     pub least: u64,
-    /// The number must be below this; `None` if any 64-bit number is possible.
+    /// The number must be below this; `None` if only its 64 bits bound it.
     pub end: Option<u64>,
 }
 

@@ -72,18 +72,18 @@ none-cons : {X : Type 0} (b : Bool) (x : X) (o : Option X) → b ≡ false → o
 none-cons true x o e f = absurd cc
 none-cons false x o e f = f
 
--- where nothing is found, each element fails the test
+-- If nothing is found in a list, each of its elements fails the test.
 find-none : {X : Type 0} (p : X → Bool) (xs : List X) (k : ℕ) (d : X) → find p xs ≡ None → k < length xs → p (get_or xs k d) ≡ false
 find-none p [] k d e lt = absurd (omega arith)
 find-none p (x ∷ xs) zero d e lt = none-head (p x) x (find p xs) e
 find-none p (x ∷ xs) (suc k) d e lt = find-none p xs k d (none-tail (p x) x (find p xs) e) (omega arith)
 
--- where each element fails the test, nothing is found
+-- If each element of a list fails the test, nothing is found in the list.
 none-find : {X : Type 0} (p : X → Bool) (xs : List X) → ((k : ℕ) (d : X) → k < length xs → p (get_or xs k d) ≡ false) → find p xs ≡ None
 none-find p [] h = refl
 none-find p (x ∷ xs) h = none-cons (p x) x (find p xs) (h 0 x (omega arith)) (none-find p xs (λ k d lt. h (suc k) d (omega arith)))
 
--- what is found nowhere among more is found nowhere among fewer
+-- If nothing is found in a list, nothing is found in a list of some of its elements.
 fewer : {X : Type 0} (p : X → Bool) (weak strong : List X) → All (λ x. Contains strong x) weak → find p strong ≡ None → find p weak ≡ None
 fewer p weak strong h e = none-find p weak (λ k d lt.
     let c = h k d lt in

@@ -1,4 +1,4 @@
--- A theorem about every home, said without what the home lends.
+-- A theorem about every home.
 use Rattle.std.specs.Prelude.{ℕ, ◌≡◌, Option}
 use Rattle.iox_domain.specs.declared.domain_id.DomainId.{DomainId}
 use Rattle.iox_domain.specs.declared.ports.service_ports.ServicePorts.{ServicePorts}

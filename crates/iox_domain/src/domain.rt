@@ -41,7 +41,7 @@ impl<T: Drop, U: Drop, B: Drop, D: Drop> Drop for Domain<T, U, B, D> {
 }
 
 impl<T, U, B, D> Domain<T, U, B, D> {
-    // Its fields.
+    // The domain's fields.
     pub(crate) fn into_fields(self) -> (DomainId, StaticConfig, DomainState<T, U, B, D>)
         ensures { result ≡ (self.id, self.agreed, self.state) }
     {

@@ -1,4 +1,4 @@
-//! Theorems about a domain, said without its calls. They are the contracts of functions that do nothing.
+//! Theorems about domains and homes. They are the contracts of functions that do nothing.
 ghost use Rattle.iox_domain.specs.DomainValues.declared.degradation.DegradationCause.TheVariants as cause;
 ghost use Rattle.iox_domain.specs.HomesLaws.{AreApart};
 ghost use Rattle.iox_domain.specs.PartsLaws.{PartsAgree};

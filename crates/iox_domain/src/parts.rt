@@ -39,7 +39,7 @@ pub struct DomainParts<T, U, B = Handlers, D = DegradationHandler> {
     pub publisher_handlers: Kept<B>,
     /// The handler of each subscriber.
     pub subscriber_handlers: Kept<D>,
-    /// What fills a slot that was never written.
+    /// The value that fills a slot that was never written.
     pub blank: T,
 }
 

@@ -1,4 +1,4 @@
-//! Theorems about the calls of a service's ports, said without their steps.
+//! Theorems about the calls of a service's ports.
 //!
 //! Each theorem is the contract of a function that does nothing: it is proved of the definitions that the contracts of the
 //! calls name.

@@ -40,10 +40,10 @@ pub record IsAskedSo (factory : ℕ) (options : SubscriberOptions) (config : Sub
   pub owner : config.owner.number ≡ factory
   pub buffer_size : config.buffer_size ≡ options.buffer_size
 
--- A subscriber is created through a factory of the service, and follows the list of publishers; or the reply says why it isn't
--- created. It gets the next number, which no subscriber has yet. The service lets at least one message wait; one more port and
--- one more change of the list of subscribers can be counted; and the ports are roomy, as they are after any calls
--- (`SamplesLeft`).
+-- Creating a subscriber through a factory of the service matches the command: it follows the list of publishers, or the reply
+-- says why it isn't created. The theorem assumes that no subscriber has the next number, that the service lets at least one
+-- message wait, that one more port and one more change of the list of subscribers can be counted, and that the ports are roomy,
+-- as they are after any calls (`SamplesLeft`).
 abbrev pub SubscriberComesMatches : (T U : Type 0) → Choices T → (DegradationInfo → DegradationAction → Type 0) → Type 0
 SubscriberComesMatches T U choices may = (types : MessageTypeDetails) (buffer : ℕ) (names : Naming) (lent : List (ℕ × LentSlot))
     (held : List (ℕ × Taken)) (old new : ServicePorts T U) (service : Service T) (state : State T) (factory : ℕ) (made : Factory)

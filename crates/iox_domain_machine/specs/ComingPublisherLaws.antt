@@ -49,9 +49,10 @@ pub record IsPublisherAskedSo (overrides : ℕ → ℕ → Type 0) (factory : �
   pub first_sequence : config.first_sequence ≡ publisher_defaults.first_sequence
   pub slots : (needed named : ℕ) → overrides needed named → named ≡ unwrap_or options.preallocated_samples needed
 
--- A publisher is created through a factory of the service, and follows the list of subscribers; or the reply says why it isn't
--- created. It gets the next number, which no publisher has yet. One more port and one more change of the list of publishers can
--- be counted, and the ports are roomy, as they are after any calls (`SamplesLeft`). Connections that it makes get names.
+-- Creating a publisher through a factory of the service matches the command: it follows the list of subscribers, or the reply
+-- says why it isn't created. Connections that it makes get names. The theorem assumes that no publisher has the next number,
+-- that one more port and one more change of the list of publishers can be counted, and that the ports are roomy, as they are
+-- after any calls (`SamplesLeft`).
 abbrev pub PublisherComesMatches : (T U : Type 0) → Choices T → (ℕ → ℕ → Type 0) → (DegradationInfo → DegradationAction → Type 0)
     → Type 0
 PublisherComesMatches T U choices overrides may = (types : MessageTypeDetails) (buffer : ℕ) (names : Naming)

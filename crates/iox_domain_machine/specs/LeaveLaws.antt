@@ -17,8 +17,8 @@ use Rattle.iox_machine.specs.Choices.{Choices}
 use Rattle.iox_machine.specs.Service.{Service}
 use Rattle.iox_machine.specs.State.{State}
 
--- Closing a publisher matches the command, if the ports are sound, as they are after any calls (`HeldStays`), and one more
--- change of the list of publishers can be counted.
+-- Closing a publisher matches the command. The theorem assumes that the ports are sound, as they are after any calls
+-- (`HeldStays`), and that one more change of the list of publishers can be counted.
 abbrev pub PublisherLeaveMatches : (T U : Type 0) → Choices T → Type 0
 PublisherLeaveMatches T U choices = (types : MessageTypeDetails) (buffer : ℕ) (names : Naming) (lent : List (ℕ × LentSlot))
     (held : List (ℕ × Taken)) (old new : ServicePorts T U) (service : Service T) (state : State T) (number : ℕ) (answer : Bool)
@@ -27,8 +27,8 @@ PublisherLeaveMatches T U choices = (types : MessageTypeDetails) (buffer : ℕ) 
     → Matches T U choices types buffer (command.Leave (port.Publisher (names.publisher number))) (done_or_skipped answer) state
     service names lent held new
 
--- Closing a subscriber matches the command, if the ports are roomy, as they are after any calls (`SamplesLeft`), and one more
--- change of the list of subscribers can be counted.
+-- Closing a subscriber matches the command. The theorem assumes that the ports are roomy, as they are after any calls
+-- (`SamplesLeft`), and that one more change of the list of subscribers can be counted.
 abbrev pub SubscriberLeaveMatches : (T U : Type 0) → Choices T → Type 0
 SubscriberLeaveMatches T U choices = (types : MessageTypeDetails) (buffer : ℕ) (names : Naming) (lent : List (ℕ × LentSlot))
     (held : List (ℕ × Taken)) (old new : ServicePorts T U) (service : Service T) (state : State T) (number : ℕ) (answer : Bool)

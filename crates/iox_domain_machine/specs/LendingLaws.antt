@@ -53,8 +53,8 @@ with_lent_values number values (Some (Ok slot)) ports = with_values_in number sl
 with_lent_values number values (Some (Err why)) ports = ports
 
 module _ (T U : Type 0) (choices : Choices T) where
-  -- The loan of `values` values that aren't written matches the command. The loan gets the next number, which no loan has yet,
-  -- and its message the publisher's next name. The ports are sound.
+  -- The loan of `values` values that aren't written matches the command. Its message gets the publisher's next name. The
+  -- theorem assumes that no loan has the next number, and that the ports are sound, as they are after any calls (`HeldStays`).
   abbrev pub LendUninitMatches : Type 0
   LendUninitMatches = (types : MessageTypeDetails) (buffer : ℕ) (names : Naming) (lent : List (ℕ × LentSlot)) (held : List (ℕ × Taken))
       (old new : ServicePorts T U) (service : Service T) (state : State T) (number values : ℕ) (answer : Option (Result ℕ LoanError))
@@ -64,8 +64,8 @@ module _ (T U : Type 0) (choices : Choices T) where
       (lent_or_not (state.made.loans + 1) answer) state service (with_lent_name number name answer names)
       (with_lent (state.made.loans + 1) number answer lent) held new
 
-  -- The loan of `values` values, each of which is then written as the same default, matches the command, like that of values
-  -- that aren't written.
+  -- The loan of `values` values, each of which is then written as the same default, matches the command. The theorem assumes
+  -- the same as for values that aren't written.
   abbrev pub LendMatches : Type 0
   LendMatches = (types : MessageTypeDetails) (buffer : ℕ) (names : Naming) (lent : List (ℕ × LentSlot)) (held : List (ℕ × Taken))
       (old made : ServicePorts T U) (service : Service T) (state : State T) (number values : ℕ) (value : T)

@@ -21,15 +21,16 @@ use Rattle.iox_machine.specs.Service.{Publisher, Service}
 use Rattle.iox_machine.specs.State.{State}
 use Rattle.iox_machine.specs.Table.{at}
 
--- If the machine's publisher with this name is open, each answer of the handler may be chosen for it.
+-- If the machine's publisher with this name is open, each answer of the handler is a choice of it.
 abbrev pub DegradesAs : {T : Type 0} → Choices T → (DegradationInfo → DegradationAction → Type 0) → ℕ → Service T → Type 0
 DegradesAs {T} choices may name service =
     (publisher : Publisher T) → at name service.publishers ≡ Some publisher → publisher.stands ≡ true
     → (info : DegradationInfo) (action : DegradationAction) → may info action → choices.publisher_acts name publisher.degradation action
 
 module _ (T U : Type 0) (choices : Choices T) (may : DegradationInfo → DegradationAction → Type 0) where
-  -- Updating a publisher matches the command, if ties are apart and sizes are those allowed, as they are after any calls
-  -- (`AtMostOnce`, `SizesAgree`). New connections get names.
+  -- Updating a publisher matches the command, and new connections get names. The theorem assumes that ties are apart and sizes
+  -- are those allowed, as they are after any calls (`AtMostOnce`, `SizesAgree`), and that each answer of the handler is a
+  -- choice of the machine's publisher.
   abbrev pub PublisherUpdateMatches : Type 0
   PublisherUpdateMatches = (types : MessageTypeDetails) (buffer : ℕ) (names : Naming) (lent : List (ℕ × LentSlot))
       (held : List (ℕ × Taken)) (old new : ServicePorts T U) (service : Service T) (state : State T) (number : ℕ)

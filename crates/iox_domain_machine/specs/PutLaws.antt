@@ -27,8 +27,8 @@ use Rattle.iox_machine.specs.Table.{at}
 -- Putting values matches the command: the publisher loans a message for them, writes and sends it, or the reply says why it
 -- doesn't. It follows the list of subscribers before it sends, if the list changed. No loan with a number is made. The message
 -- and new connections get names, and what is in use keeps its names. The header of the message is recorded as its send begins.
--- The ports are roomy, as they are after any calls (`SamplesLeft`). Each decision at a full mailbox, and each answer for a
--- failed connection, may be chosen for the machine's publisher.
+-- The theorem assumes that the ports are roomy, as they are after any calls (`SamplesLeft`), and that each decision at a full
+-- mailbox, and each answer for a failed connection, is a choice of the machine's publisher.
 abbrev pub PutMatches : (T U : Type 0) → Choices T → (BackpressureInfo → BackpressureDecision → Type 0)
     → (DegradationInfo → DegradationAction → Type 0) → Type 0
 PutMatches T U choices may may_degrade = (types : MessageTypeDetails) (buffer : ℕ) (names : Naming) (lent : List (ℕ × LentSlot))

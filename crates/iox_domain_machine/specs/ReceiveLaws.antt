@@ -58,8 +58,9 @@ with_held sample (Some (Err why)) held = held
 -- The machine's messages have certain types, `choices` says what handlers may choose, and `may` says what a handler may answer
 -- for a failed connection.
 module _ (T U : Type 0) (choices : Choices T) (may : DegradationInfo → DegradationAction → Type 0) where
-  -- Asking whether some connection of the subscriber has data, after an update, matches the command, if the ports are roomy, as
-  -- they are after any calls (`SamplesLeft`). New connections get names.
+  -- Asking whether some connection of the subscriber has data, after an update, matches the command. New connections get names.
+  -- The theorem assumes that the ports are roomy, as they are after any calls (`SamplesLeft`), and that each answer of the
+  -- handler is a choice of the machine's subscriber.
   abbrev pub HasMatches : Type 0
   HasMatches = (types : MessageTypeDetails) (buffer : ℕ) (names : Naming) (lent : List (ℕ × LentSlot)) (held : List (ℕ × Taken))
       (old new : ServicePorts T U) (service : Service T) (state : State T) (number : ℕ) (answer : Option (Result Bool ConnectionFailure))
@@ -68,8 +69,10 @@ module _ (T U : Type 0) (choices : Choices T) (may : DegradationInfo → Degrada
       → (reader : ℕ → ℕ → ℕ) × Matches T U choices types buffer (command.Has (names.subscriber number)) (told_or_skipped answer) state
       service (record names { reader = reader }) lent held new
 
-  -- Receiving, after an update, matches the command: the subscriber gets a sample with the next number, which no sample has
-  -- yet, or the reply says why it gets none. The ports are roomy, and the subscriber holds fewer than 2^64 - 1 samples.
+  -- Receiving, after an update, matches the command: the subscriber gets a sample with the next number, or the reply says why
+  -- it gets none. New connections get names. The theorem assumes that no sample has the next number, that the subscriber holds
+  -- fewer than 2^64 - 1 samples, that the ports are roomy, as they are after any calls (`SamplesLeft`), and that each answer of
+  -- the handler is a choice of the machine's subscriber.
   abbrev pub ReceiveMatches : Type 0
   ReceiveMatches = (types : MessageTypeDetails) (buffer : ℕ) (names : Naming) (lent : List (ℕ × LentSlot)) (held : List (ℕ × Taken))
       (old new : ServicePorts T U) (service : Service T) (state : State T) (number : ℕ)

@@ -15,8 +15,8 @@ use Rattle.iox_machine.specs.Service.{Service}
 use Rattle.iox_machine.specs.State.{State}
 use Rattle.iox_machine.specs.Table.{at, removed}
 
--- Releasing a sample, by the subscriber that received it, matches the command, if the ports are sound, as they are after any
--- calls (`HeldStays`).
+-- Releasing a sample, by the subscriber that received it, matches the command. The theorem assumes that the ports are sound, as
+-- they are after any calls (`HeldStays`).
 abbrev pub ReleaseMatches : (T U : Type 0) → Choices T → Type 0
 ReleaseMatches T U choices = (types : MessageTypeDetails) (buffer : ℕ) (names : Naming) (lent : List (ℕ × LentSlot))
     (held : List (ℕ × Taken)) (old new : ServicePorts T U) (service : Service T) (state : State T) (sample : ℕ) (taken : Taken)

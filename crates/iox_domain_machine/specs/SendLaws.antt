@@ -39,8 +39,8 @@ abbrev pub lent_after_send : ℕ → Option (Result Sent SendError) → List (�
 lent_after_send loan None lent = lent
 lent_after_send loan (Some result) lent = removed loan lent
 
--- Each decision that may be made at a full mailbox may be chosen for the machine's publisher with this name, which counts
--- retries beyond 2^64 - 1.
+-- Each decision that may be made at a full mailbox is a choice of the machine's publisher with this name; the machine counts
+-- retries without a limit.
 abbrev pub DecidesAs : {T : Type 0} → Choices T → (BackpressureInfo → BackpressureDecision → Type 0) → ℕ → Publisher T → Type 0
 DecidesAs choices may name publisher =
     (info : BackpressureInfo) (decision : BackpressureDecision) (retries : ℕ) → may info decision
@@ -48,8 +48,9 @@ DecidesAs choices may name publisher =
     → choices.publisher_decides name retries info.elapsed_time (decision_of publisher.strategy publisher.handler) decision
 
 module _ (T U : Type 0) (choices : Choices T) (may : BackpressureInfo → BackpressureDecision → Type 0) where
-  -- Retrying a waiting send, after this number of nanoseconds, matches the command, if the ports are roomy, as they are after
-  -- any calls (`SamplesLeft`). Each decision at a full mailbox may be chosen for the machine's publisher.
+  -- Retrying a blocked send, after this number of nanoseconds, matches the command. The theorem assumes that the ports are
+  -- roomy, as they are after any calls (`SamplesLeft`), and that each decision at a full mailbox is a choice of the machine's
+  -- publisher.
   abbrev pub RetryMatches : Type 0
   RetryMatches = (types : MessageTypeDetails) (buffer : ℕ) (names : Naming) (lent : List (ℕ × LentSlot)) (held : List (ℕ × Taken))
       (old new : ServicePorts T U) (service : Service T) (state : State T) (number nanoseconds : ℕ)
@@ -62,8 +63,9 @@ module _ (T U : Type 0) (choices : Choices T) (may : BackpressureInfo → Backpr
       names lent held new
 
   -- Sending the loan with this number matches the command: its publisher follows the list of subscribers first, if the list
-  -- changed, and new connections get names. The ports are roomy, as they are after any calls (`SamplesLeft`). Each decision at
-  -- a full mailbox, and each answer for a failed connection, may be chosen for the machine's publisher.
+  -- changed, and new connections get names. The theorem assumes that the ports are roomy, as they are after any calls
+  -- (`SamplesLeft`), and that each decision at a full mailbox, and each answer for a failed connection, is a choice of the
+  -- machine's publisher.
   abbrev pub SendMatches : (DegradationInfo → DegradationAction → Type 0) → Type 0
   SendMatches may_degrade = (types : MessageTypeDetails) (buffer : ℕ) (names : Naming) (lent : List (ℕ × LentSlot))
       (held : List (ℕ × Taken)) (old new : ServicePorts T U) (service : Service T) (state : State T) (loan : ℕ) (out : LentSlot)

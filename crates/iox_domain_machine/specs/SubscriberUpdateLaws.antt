@@ -28,14 +28,15 @@ updated_or_skipped None = reply.Skipped
 updated_or_skipped (Some (Ok done)) = reply.Done
 updated_or_skipped (Some (Err failure)) = reply.Refused (refusal.Connection failure)
 
--- If the machine's subscriber with this name is open, each answer of the handler may be chosen for it.
+-- If the machine's subscriber with this name is open, each answer of the handler is a choice of it.
 abbrev pub ActsAs : {T : Type 0} → Choices T → (DegradationInfo → DegradationAction → Type 0) → ℕ → Service T → Type 0
 ActsAs choices may name service =
     (subscriber : Subscriber) → at name service.subscribers ≡ Some subscriber → subscriber.stands ≡ true
     → (info : DegradationInfo) (action : DegradationAction) → may info action → choices.subscriber_acts name subscriber.degradation action
 
--- Updating a subscriber matches the command: connections of closed publishers end or expire, and listed publishers are
--- connected. The ports are roomy, as they are after any calls (`SamplesLeft`). New connections get names.
+-- Updating a subscriber matches the command: connections of closed publishers end or expire, listed publishers are connected,
+-- and new connections get names. The theorem assumes that the ports are roomy, as they are after any calls (`SamplesLeft`), and
+-- that each answer of the handler is a choice of the machine's subscriber.
 abbrev pub SubscriberUpdateMatches : (T U : Type 0) → Choices T → (DegradationInfo → DegradationAction → Type 0) → Type 0
 SubscriberUpdateMatches T U choices may = (types : MessageTypeDetails) (buffer : ℕ) (names : Naming) (lent : List (ℕ × LentSlot))
     (held : List (ℕ × Taken)) (old new : ServicePorts T U) (service : Service T) (state : State T) (number : ℕ)

@@ -1,4 +1,4 @@
--- What a loan does, said without its steps.
+-- Theorems about loans.
 use Rattle.std.specs.Prelude.{ℕ, ◌+◌, ◌<◌, ◌≤◌, ◌≡◌, ◌⊎◌, ◌++◌, ◌∷◌, [], length, IsSome, Option, None, Some, Result, Ok, Err}
 use Rattle.iox_domain_values.specs.declared.data_segment.AllocationStrategy.{AllocationStrategy}
 use Rattle.iox_domain_values.specs.declared.data_segment.AllocationStrategy.TheVariants as strategy

@@ -1,4 +1,4 @@
--- What the steps of a publisher do, said without the steps.
+-- Theorems about the steps of a publisher.
 use Rattle.std.specs.Prelude.{ℕ, ◌+◌, ◌<◌, ◌≤◌, ◌≡◌, ◌≢◌, ◌↔◌, ◌&&◌, Bool, true, if◌then◌else◌, List, [], ◌∷◌, eqb, nat_lt, nat_le}
 use Rattle.std.specs.Prelude.{slice_get, Option, Some}
 use Rattle.std.specs.List.{list_any}

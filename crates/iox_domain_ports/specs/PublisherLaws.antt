@@ -1,4 +1,4 @@
--- What a send does, said without its steps.
+-- Theorems about sends.
 use Rattle.std.specs.Prelude.{zero, suc, ℕ, ◌+◌, ◌≡◌, Bool, false, length, get_or, Option, None, Some, Result, Ok, Err, ◌≢◌, if◌then◌else◌}
 use Rattle.iox_domain_values.specs.declared.port_error.SendError.{SendError}
 use Rattle.iox_domain_values.specs.declared.port_error.SendError.TheVariants as sending
@@ -22,8 +22,8 @@ live_from (suc count) place port = (if is_live_tie (get_or port.ties.items place
 abbrev pub live_ties : {T U : Type 0} → PublisherPort T U → ℕ
 live_ties port = live_from (length port.ties.items) 0 port
 
--- Each live connection took the message: a send that answers Ok reports all of them as delivered, and no send fails with
--- `UnableToDeliver`.
+-- Each live connection to which a place is tied took the message: a send that answers Ok reports as many of them, and the send
+-- doesn't fail with `UnableToDeliver`.
 abbrev pub ReachesAll : {T U : Type 0} → Option (Result Sent SendError) → PublisherPort T U → Type 0
 ReachesAll answer new = ((done : Sent) → answer ≡ Some (Ok done) → done ≡ sent.Delivered (live_ties new))
     × (answer ≢ Some (Err sending.UnableToDeliver))

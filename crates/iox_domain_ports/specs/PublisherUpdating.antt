@@ -122,7 +122,7 @@ abbrev pub Updates : {T U : Type 0} → (DegradationInfo → DegradationAction �
 Updates may listed changes old answer new =
     UpdatesIf (old.seen == changes) may listed changes old answer new
 
--- At most the connections, ties and readers changed, and the state of the list that was seen last.
+-- At most the connections, ties and readers changed, and the number of changes of the list that the publisher has seen.
 abbrev pub OnlyConnections : {T U : Type 0} → PublisherPort T U → PublisherPort T U → Type 0
 OnlyConnections old new = new ≡ record (with_connections new.sender.uses.connections old)
     { seen = new.seen; ties = new.ties; readers = new.readers }

@@ -1,4 +1,4 @@
--- What the steps of a subscriber do, said without the steps.
+-- Theorems about the steps of a subscriber.
 use Rattle.std.specs.Prelude.{ℕ, ◌≡◌, true, List, Option, Some, Result, Ok}
 use Rattle.iox_domain_values.specs.declared.port_error.ReceiveError.{ReceiveError}
 use Rattle.iox_domain_ports.specs.declared.publisher_port.PublisherPort.{PublisherPort}

@@ -1,4 +1,4 @@
--- What an update does, said without its steps.
+-- Theorems about updates.
 use Rattle.std.specs.Prelude.{ℕ, ◌≡◌, ◌≢◌, List, get_or, Option, None, Result}
 use Rattle.iox_domain_slots.specs.Container.declared.container.Member.{Member}
 use Rattle.iox_domain_values.specs.declared.connection_failure.ConnectionFailure.{ConnectionFailure}

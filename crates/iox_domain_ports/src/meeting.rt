@@ -3,7 +3,7 @@
 /// What a message meets at a place of the list of subscribers.
 #[derive(Clone, Copy)]
 pub enum Meeting {
-    /// There is no such place.
+    /// There is no such place: all places are visited.
     Over,
     /// No connection is at the place, or it is full and no subscriber reads from it.
     Passed,
@@ -20,6 +20,6 @@ pub enum Meeting {
 pub enum Sent {
     /// The send is finished, and so many connections took the message.
     Delivered(usize),
-    /// The send waits at a full mailbox.
+    /// The send is blocked at a full mailbox.
     Blocked,
 }

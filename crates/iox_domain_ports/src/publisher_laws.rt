@@ -1,4 +1,4 @@
-//! Theorems about what a publisher does, said without its steps. They are the contracts of functions that do nothing.
+//! Theorems about what a publisher does. They are the contracts of functions that do nothing.
 ghost use Rattle.iox_domain_values.specs.declared.degradation.DegradationCause.TheVariants as cause;
 ghost use Rattle.iox_domain_ports.specs.Lengths.{CountsElements};
 ghost use Rattle.iox_domain_ports.specs.LoanLaws.{LoanTells, NewSegmentIsFree};

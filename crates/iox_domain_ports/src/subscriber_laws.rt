@@ -1,4 +1,4 @@
-//! Theorems about the steps of a subscriber, said without the steps. They are the contracts of functions that do nothing.
+//! Theorems about the steps of a subscriber. They are the contracts of functions that do nothing.
 ghost use Rattle.iox_domain_ports.specs.SubscriberLaws.{ReceivesIfGiven};
 
 /// A subscriber receives a message exactly if some connection below the limit of borrowed messages has data.

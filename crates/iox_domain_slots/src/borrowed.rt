@@ -17,12 +17,12 @@ use std::marker::Model;
 #[derive(Drop)]
 pub(crate) struct Borrowed {
     order: Loans,
-    // What lies in the cells that were made.
+    // The slots in the cells that were made.
     slots: Vec<u64>,
     cells: usize,
-    // No slot lies further than this behind the cell that its number names.
+    // No slot lies more than this number of steps behind the cell that its number names.
     reach: usize,
-    // Whether a slot may be there twice.
+    // Whether a slot may be borrowed twice.
     twice: bool,
 }
 
@@ -160,7 +160,7 @@ fn cell_of(cells: usize, slot: u64, step: usize) -> usize
     }
 }
 
-// The first cell within reach in which a slot of this number lies.
+// The first cell within reach that contains a slot with this number.
 fn near(order: &Loans, slots: &[u64], cells: usize, slot: u64, reach: usize) -> Option<usize>
     requires made { order.now.made ≡ length slots.now }
     requires reach { reach < cells }
@@ -178,7 +178,7 @@ fn near(order: &Loans, slots: &[u64], cells: usize, slot: u64, reach: usize) -> 
     None
 }
 
-// The cell in which the oldest slot of this number lies, if one is borrowed.
+// The cell that contains the oldest borrowed slot with this number, if there is one.
 fn oldest(
     order: &Loans,
     slots: &[u64],
@@ -230,7 +230,7 @@ fn further(cells: usize, reach: usize, step: usize) -> usize
     if reach < step { step } else { reach }
 }
 
-// How many steps behind the cell that a slot's number names the first free one is.
+// How many steps the first free cell lies behind the one that a slot's number names.
 fn free_step(order: &Loans, cells: usize, slot: u64) -> usize
     requires { length order.now.items < cells }
     ensures within { result < cells }

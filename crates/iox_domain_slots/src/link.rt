@@ -21,7 +21,7 @@ use std::marker::Model;
 pub struct Link {
     // The slots of the messages that wait, the oldest first.
     waiting: Queue<u64>,
-    // Whether a full mailbox lets its oldest go; else it refuses.
+    // Whether a full mailbox drops its oldest slot; otherwise it refuses the new one.
     overflows: bool,
     borrowed: Borrowed,
     returned: Queue<u64>,
@@ -48,7 +48,7 @@ impl Model for Link {
       delivered = l.delivered;
     } };
 
-    // A put since the last taking back may make one slot more of the connection than wait and are borrowed at most.
+    // A put since the returned slots were last taken back may give the connection one slot more than may wait and be borrowed.
     ghost invariant = { λ l. (length l.waiting.items ≤ l.waiting.capacity)
         × (length l.borrowed.items ≤ l.most_borrowed) × (l.most_borrowed < l.borrowed.cells)
         × (l.waiting.capacity + l.most_borrowed < l.returned.capacity)

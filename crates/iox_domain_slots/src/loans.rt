@@ -20,7 +20,7 @@ pub(crate) struct Loans {
     len: usize,
     // Whether a loan is in the slot.
     lent: Vec<bool>,
-    // For so many slots the memory was taken at the start.
+    // For how many slots memory was allocated at the start.
     room: usize,
 }
 

@@ -23,7 +23,7 @@ pub(crate) fn put_behind(waiting: &mut Queue<u64>, overflows: bool, slot: u64) -
     ensures after { waiting.new.items ≡ put_into overflows waiting.old.capacity waiting.old.items slot }
     ensures limit { waiting.new.capacity ≡ waiting.old.capacity }
 {
-    // No more wait than may.
+    // By the contract of `len` no more slots wait than the capacity.
     let _count = waiting.len();
     if overflows {
         return match waiting.push_with_overflow(slot) {

@@ -20,7 +20,7 @@ use std::marker::Model;
 pub struct Slots {
     // Of the current segment, the places whose slots have a use are held.
     places: UniqueIndexSet,
-    // Whether all others are held too: from the first claim to the next loan, so that no claim looks for its place among the free ones.
+    // Whether all other places are held, too: from the first claim until the next loan, so that no claim searches the free ones.
     all_held: bool,
     references: Vec<u64>,
     loans: Loans,

@@ -20,7 +20,7 @@ pub enum ZeroCopyCreationError {
 }
 
 impl ZeroCopyCreationError {
-    /// What it displays as.
+    /// The text that the error displays as.
     pub fn text(&self) -> &'static str
         ensures { result.now ≡ zero_copy_creation_text self.now }
     {
@@ -48,7 +48,7 @@ pub enum ConnectionFailure {
 }
 
 impl ConnectionFailure {
-    /// What it displays as.
+    /// The text that the error displays as.
     pub fn text(&self) -> &'static str
         ensures { result.now ≡ connection_text self.now }
     {

@@ -6,7 +6,7 @@ use std::alloc::{AllocError, Global};
 
 /// A handler that is handed in for a run. Its variant is its kind.
 ///
-/// `P` decides at a full mailbox, `D` at a failed connection. This port's own.
+/// `P` decides at a full mailbox, `D` at a failed connection. Not in `iceoryx2`.
 #[derive(Drop)]
 pub enum GivenHandler<P, D> {
     /// A handler for full mailboxes.
@@ -17,7 +17,7 @@ pub enum GivenHandler<P, D> {
 
 /// The handlers that are handed in for runs, by their places, counted from 1. A place is empty once its handler is taken.
 ///
-/// This port's own.
+/// Not in `iceoryx2`.
 #[derive(Drop)]
 pub struct GivenHandlers<P, D> {
     /// The places, in their order.

@@ -3,7 +3,7 @@ use iox_command::{Command, PublisherOptions, SubscriberOptions};
 
 /// One command. Places of handlers are counted from 1.
 ///
-/// This port's own.
+/// Not in `iceoryx2`.
 #[derive(Drop)]
 pub enum HandledCommand<'a, T> {
     /// A command that names no handler: its ports get fixed actions.

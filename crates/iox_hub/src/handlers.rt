@@ -16,7 +16,7 @@ use iox_hub_commands::PublisherHandlers;
 /// Handlers of a publisher that can be made of handed-in ones: of one that decides at a full mailbox, and of one that decides at a failed
 /// connection. In the place of a missing handler there is a fixed action.
 ///
-/// This port's own.
+/// Not in `iceoryx2`.
 pub trait TakesHandlers<P, D>: PublisherHandlers {
     // the handlers with this strategy and these handed-in handlers, and with these actions in the place of missing ones
     ghost handled: { BackpressureStrategy → Option BackpressureAction → DegradationAction → Option P → Option D → Self };

@@ -27,7 +27,7 @@ use std::alloc::Global;
 /// too (`open_or_create` with the error of an opening), and nothing has changed except that there may be more capacity. A creation whose
 /// settings are impossible is refused for these first.
 ///
-/// This port's own: the builders of `iceoryx2` find the services of their machine by themselves.
+/// Not in `iceoryx2`: the builders of `iceoryx2` find the services of their machine by themselves.
 pub trait HubBuilder<P: Negotiated>: Sized {
     // the id of the builder's hub
     ghost hub_of: { Self → ℕ };

@@ -15,7 +15,7 @@ impl<T: Copy, U: Copy, B: Drop, D: Drop> Hub<T, U, B, D> {
     /// Refused with `StillInUse`, the factory handed back and nothing changed: while the domain of the service is out; while a port that
     /// the factory made exists, or a loan or a blocked send of such a publisher, or a sample of such a subscriber; and for the last factory
     /// of its service in the hub, while any port, loan, blocked send or sample of the domain exists. Refused with
-    /// `UnableToRemoveDescription` and `UnableToRemoveSegment` if the table reports these; the factory is spent then.
+    /// `UnableToRemoveDescription` and `UnableToRemoveSegment` if the table reports these; the factory is consumed then.
     ///
     /// Corresponds to dropping an `iceoryx2::service::port_factory`, which the ports of `iceoryx2` keep alive.
     /// Example: `let closed = hub.close(factory);`
@@ -44,7 +44,7 @@ impl<T: Copy, U: Copy, B: Drop, D: Drop> Hub<T, U, B, D> {
 
     /// Whether a factory of this hub is in use, so that `close` would refuse with `StillInUse`.
     ///
-    /// This port's own.
+    /// Not in `iceoryx2`.
     /// Example: `let stays = hub.is_in_use(&factory);`
     pub fn is_in_use<P: Pattern>(&self, factory: &PortFactory<P>) -> bool
         requires { factory.now.service.membership.storage ≡ self.now.table.id }

@@ -11,7 +11,7 @@ use std::mem;
 
 /// The number of open factories of each service that has one.
 ///
-/// Contracts see each count with the service's number, by rising number. This port's own.
+/// Contracts see each count with the service's number, by rising number. Not in `iceoryx2`.
 #[derive(Drop)]
 pub struct Counts {
     entries: Vec<(u64, u64)>,

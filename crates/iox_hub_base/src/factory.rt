@@ -52,7 +52,7 @@ impl<P: Pattern> PortFactory<P> {
 
     /// The description of the service, on which its nodes agree.
     ///
-    /// This port's own.
+    /// Not in `iceoryx2`.
     /// Example: `let hash = factory.description().service_hash();`
     pub fn description(&self) -> &Description
         ensures value { result.now ≡ self.now.service.membership.service.description }

@@ -16,7 +16,7 @@ impl<T: Copy, U: Copy, B: Drop, D: Drop> Hub<T, U, B, D> {
     ///
     /// Refused with `HubError::OutOfMemory` at the first action that runs out of memory; the actions before it stay done.
     ///
-    /// This port's own: in `iceoryx2` other processes act by themselves.
+    /// Not in `iceoryx2`: in `iceoryx2` other processes act by themselves.
     /// Example: `hub.foreign(MessagingPattern::PublishSubscribe, &name, &steps)?;`
     pub fn foreign(
         &mut self,

@@ -123,7 +123,7 @@ impl<T: Copy, U: Copy, B: Drop, D: Drop> Hub<T, U, B, D> {
 
     /// Whether a node of this number was made: they are counted from 1.
     ///
-    /// This port's own.
+    /// Not in `iceoryx2`.
     /// Example: `let was_made = hub.has_node(1);`
     pub fn has_node(&self, number: u64) -> bool
         ensures { result ≡ is_node number self.now.nodes }
@@ -150,7 +150,7 @@ impl<T: Copy, U: Copy, B: Drop, D: Drop> Hub<T, U, B, D> {
     /// What lies under the hash of a pattern and a name. Nothing changes, and the answer doesn't depend on memory: the description of an
     /// existing service is copied if there is memory for it, and dropped at once; otherwise nothing is allocated.
     ///
-    /// This port's own.
+    /// Not in `iceoryx2`.
     /// Example: `let state = hub.state_under(MessagingPattern::Event, &name);`
     pub fn state_under(&mut self, pattern: MessagingPattern, name: &ServiceName) -> HashState
         ensures state { result ≡ hash_state (entry_at (service_hash_of pattern name.now) self.old.table) }
@@ -165,7 +165,7 @@ impl<T: Copy, U: Copy, B: Drop, D: Drop> Hub<T, U, B, D> {
 
     /// How many loans the publishers of all domains in the hub may still make; domains that are out don't count. At most 2^64 - 1.
     ///
-    /// This port's own.
+    /// Not in `iceoryx2`.
     /// Example: `let loans = hub.loans_left();`
     pub fn loans_left(&self) -> u64
         ensures { result ≡ min (loans_left_in self.now.services.domains) (2 ^ 64 - 1) }
@@ -176,7 +176,7 @@ impl<T: Copy, U: Copy, B: Drop, D: Drop> Hub<T, U, B, D> {
     /// How many samples the subscribers of all domains in the hub may hold at once: for each open subscriber and each publisher that
     /// exists, as many as may be borrowed of one connection. At most 2^64 - 1.
     ///
-    /// This port's own.
+    /// Not in `iceoryx2`.
     /// Example: `let samples = hub.samples_at_most();`
     pub fn samples_at_most(&self) -> u64
         ensures { result ≡ min (samples_at_most_in self.now.services.domains) (2 ^ 64 - 1) }

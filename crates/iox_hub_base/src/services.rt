@@ -20,7 +20,7 @@ use std::marker::Model;
 /// driven elsewhere.
 ///
 /// Contracts see the id of the hub, and each service with its number, by rising number. A domain that is in the hub has the hub's id and
-/// the number under which it is kept. This port's own.
+/// the number under which it is kept. Not in `iceoryx2`.
 #[derive(Drop)]
 pub struct Services<T, U, B = Handlers, D = DegradationHandler> {
     pub(crate) hub: u64,

@@ -9,7 +9,7 @@ use iox_domain::Domain;
 use std::fmt;
 use thiserror::Error;
 
-/// Why a domain can't be taken. This port's own.
+/// Why a domain can't be taken. Not in `iceoryx2`.
 #[derive(Clone, Copy, Debug, PartialEq, Eq, Hash, Error)]
 #[error("{}", self.text())]
 pub enum TakeError {
@@ -30,7 +30,7 @@ impl TakeError {
 }
 
 /// The error for a domain that can't be put back: its hub, its service and its agreement aren't those of a domain that is out. The domain
-/// is handed back. This port's own.
+/// is handed back. Not in `iceoryx2`.
 #[derive(Drop)]
 pub struct DomainIsForeign<X> {
     /// The domain that is handed back.

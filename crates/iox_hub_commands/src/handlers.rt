@@ -17,7 +17,7 @@ use iox_domain_values::{
 
 /// Handlers of a publisher that can be made of fixed actions, as a command names them.
 ///
-/// This port's own.
+/// Not in `iceoryx2`.
 pub trait PublisherHandlers: Decides + Degrades {
     // the handlers with this strategy and these actions
     ghost fixed: { BackpressureStrategy → Option BackpressureAction → DegradationAction → Self };
@@ -33,7 +33,7 @@ pub trait PublisherHandlers: Decides + Degrades {
 
 /// A handler of a subscriber that can be made of a fixed action, as a command names it.
 ///
-/// This port's own.
+/// Not in `iceoryx2`.
 pub trait SubscriberHandler: Degrades {
     // the handler with this action
     ghost fixed: { DegradationAction → Self };
@@ -77,7 +77,7 @@ impl SubscriberHandler for DegradationHandler {
 
 /// Handlers of a publisher that are fixed actions. A hub whose ports are made only by commands needs no other handlers, and no boxes.
 ///
-/// This port's own.
+/// Not in `iceoryx2`.
 #[derive(Clone, Copy)]
 pub struct FixedHandlers {
     /// The strategy at a full mailbox, if no action is named.
@@ -122,7 +122,7 @@ impl PublisherHandlers for FixedHandlers {
 
 /// A handler of a subscriber that has one action at a failed connection.
 ///
-/// This port's own.
+/// Not in `iceoryx2`.
 #[derive(Clone, Copy)]
 pub struct FixedDegradation {
     /// The action.
@@ -149,7 +149,7 @@ impl SubscriberHandler for FixedDegradation {
 
 /// The number of slots of a publisher: the one that a command named, or else as many as the publisher needs in the worst case.
 ///
-/// This port's own.
+/// Not in `iceoryx2`.
 #[derive(Clone, Copy)]
 pub struct NamedSlots {
     /// The number of slots, if one is named.

@@ -14,8 +14,8 @@ use std::alloc::Global;
 /// A hub, and what commands made in it, by numbers that are counted from 1 for each kind. A number names nothing any longer once its
 /// factory, port, loan or sample has ended.
 ///
-/// `T` is the element of messages, `U` their user header, `B` the handlers of a publisher, `D` the handler of a subscriber. This port's
-/// own.
+/// `T` is the element of messages, `U` their user header, `B` the handlers of a publisher, `D` the handler of a subscriber.
+/// Not in `iceoryx2`.
 pub struct NumberedHub<T, U, B = FixedHandlers, D = FixedDegradation> {
     /// The hub.
     pub hub: Hub<T, U, B, D>,

@@ -16,7 +16,7 @@ use std::alloc::AllocError;
 /// How many numbers of loans and of samples are reserved: at least as many as are in use, and as the existing ports may still need. A port
 /// reserves what it may need when it is created; what a closed one had reserved may stay reserved.
 ///
-/// This port's own.
+/// Not in `iceoryx2`.
 #[derive(Clone, Copy)]
 pub struct Pledged {
     /// The reserved numbers of loans.

@@ -19,7 +19,7 @@ use std::alloc::Global;
 
 /// The replies to a list of commands.
 ///
-/// This port's own.
+/// Not in `iceoryx2`.
 #[derive(Drop)]
 pub struct RunReport<T> {
     /// One reply for each command, in order, unless the run stopped.

@@ -14,7 +14,7 @@ use Rattle.iox_index_steps.specs.declared.atomic.call.Call.TheVariants as call
 use Rattle.iox_index_steps.specs.declared.atomic.call.AtomicCall.{AtomicCall}
 use Rattle.iox_index_steps.specs.declared.atomic.call.AtomicCall.TheVariants as stage
 
--- The shared words are consistent with the steps: the counter counts the finished stores, the half that loads read holds the `n` current
+-- The shared words are consistent with the steps: the counter counts its moves from 1 on, the half that loads read holds the `n` current
 -- words, and the other half holds the words that were stored since.
 pub record HalvesFit (n : ℕ) (words : RingWords) (current put : List ℕ) (moved : ℕ) : Type 0 where
   pub counter : words.write ≡ moved + 1

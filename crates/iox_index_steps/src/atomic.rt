@@ -23,9 +23,13 @@ pub enum Move {
 /// A finished call, with its first and its last step, by their numbers among the steps made.
 #[derive(Clone, Copy)]
 pub struct Finished {
+    /// The number of the party that made the call.
     pub party: usize,
+    /// The call.
     pub call: Call,
+    /// The number of its first step.
     pub first: u64,
+    /// The number of its last step.
     pub last: u64,
 }
 

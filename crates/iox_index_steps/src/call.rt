@@ -31,6 +31,7 @@ pub enum Answer {
 /// The stage of a call. Each stage from its begin to `Done` is one access after the one before.
 #[derive(Clone, Copy)]
 pub enum IndexCall {
+    /// No call is in progress.
     Idle,
     /// An acquire reads the head.
     Acquire {

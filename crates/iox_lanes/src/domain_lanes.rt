@@ -25,7 +25,7 @@ use std::alloc::{AllocError, Global};
 
 /// The ports of a domain as lanes, and the domain as it was when they began.
 ///
-/// This port's own.
+/// Not in `iceoryx2`.
 #[derive(Drop)]
 pub struct DomainLanes<T, U> {
     /// The lanes: a publisher and a subscriber for each one that the domain lists, in the order of their places there. They keep their

@@ -3,7 +3,7 @@ use thiserror::Error;
 
 /// Why lanes didn't become a domain.
 ///
-/// This port's own.
+/// Not in `iceoryx2`.
 #[derive(Clone, Copy, Debug, PartialEq, Eq, Error)]
 pub enum IntoDomainError {
     /// A publisher or a subscriber is inside a call.

@@ -43,7 +43,7 @@ impl<T: Words, U: Words> DomainLanes<T, U> {
     /// back as they were. What is said of the messages holds for at most 2^63 steps, and for lanes that are joined with the domain beside
     /// them (`IsJoined`), as those of `into_lanes` are, and remain after any steps.
     ///
-    /// This port's own.
+    /// Not in `iceoryx2`.
     pub fn into_domain(self) -> Result<Domain<T, U>, StillLanes<T, U>>
         ensures told { IfErr result (λ still. IsUnrest (unrest_of still.error) self.lanes.lanes) }
         ensures kept { IfErr result (λ still. still.lanes ≡ self) }

@@ -13,7 +13,7 @@ use std::marker::Model;
 /// Any number of publishers and subscribers of one service, and the words that they share. They make one step at a time, in any order that
 /// the caller chooses, and any of them may stop anywhere.
 ///
-/// A port's own data change only by its own steps, and each step touches at most one shared word. This port's own.
+/// A port's own data change only by its own steps, and each step touches at most one shared word. Not in `iceoryx2`.
 pub struct LaneMachine {
     pub(crate) state: State,
 }

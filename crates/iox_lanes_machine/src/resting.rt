@@ -12,7 +12,7 @@ use iox_lanes_parties::{Call, Move, PublisherLane, SubscriberLane};
 
 /// Why lanes can't be handed on: what a party is doing, or holds.
 ///
-/// This port's own.
+/// Not in `iceoryx2`.
 #[derive(Clone, Copy, Debug, PartialEq, Eq)]
 pub enum Unrest {
     /// A publisher or a subscriber is inside a call.

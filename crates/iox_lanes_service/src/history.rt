@@ -7,7 +7,7 @@ use std::marker::Model;
 
 /// What was asked of lanes by calls that don't overlap, and their answers. It takes no memory, and nothing is done with it at run time.
 ///
-/// This port's own.
+/// Not in `iceoryx2`.
 #[derive(Drop)]
 pub(crate) struct TurnHistory {
     pub(crate) ghost turns: { Turns },

@@ -30,7 +30,7 @@ use std::marker::Model;
 
 /// A loan of such lanes, by its publisher's place and its slot. Its number, by which commands name it, exists for proofs only.
 ///
-/// This port's own.
+/// Not in `iceoryx2`.
 #[derive(Drop)]
 pub struct TurnLoan {
     /// The place of its publisher.
@@ -43,7 +43,7 @@ pub struct TurnLoan {
 
 /// A sample of such lanes, by its subscriber's place and its slot. Its number, by which commands name it, exists for proofs only.
 ///
-/// This port's own.
+/// Not in `iceoryx2`.
 #[derive(Drop)]
 pub struct TurnSample {
     /// The place of its subscriber.
@@ -56,7 +56,7 @@ pub struct TurnSample {
 
 /// What ran out within a call.
 ///
-/// This port's own.
+/// Not in `iceoryx2`.
 #[derive(Clone, Copy, Debug, PartialEq, Eq)]
 pub enum RanOut {
     /// A step found no memory for what it records.
@@ -76,7 +76,7 @@ pub enum RanOut {
 /// publishers and S subscribers, if B messages may wait and R samples be borrowed, a call makes at most 4 · S · (B + R + 3) + 8 · P + 7
 /// steps, and one more for each word of user header and payload.
 ///
-/// `answers_as_machine` says that what was asked and answered is a run of the machine. This port's own.
+/// `answers_as_machine` says that what was asked and answered is a run of the machine. Not in `iceoryx2`.
 #[derive(Drop)]
 pub struct LanesInTurn {
     lanes: LaneMachine,

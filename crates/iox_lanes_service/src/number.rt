@@ -5,7 +5,7 @@ use std::marker::Model;
 
 /// A number for proofs only. It takes no memory.
 ///
-/// This port's own.
+/// Not in `iceoryx2`.
 #[derive(Drop)]
 pub struct TurnNumber {
     pub ghost value: { ℕ },

@@ -6,7 +6,7 @@ use std::marker::Model;
 
 /// Lanes as they were. It takes no memory, and nothing is done with it at run time.
 ///
-/// This port's own.
+/// Not in `iceoryx2`.
 #[derive(Drop)]
 pub(crate) struct Seen {
     pub(crate) ghost lanes: { World },

@@ -4,7 +4,7 @@ ghost use Rattle.iox_line.specs.LineFault.{fault_text};
 
 use thiserror::Error;
 
-/// Why a line isn't a command. This port's own.
+/// Why a line isn't a command. Not in `iceoryx2`.
 #[derive(Clone, Copy, Debug, PartialEq, Eq, Hash, Error)]
 #[error("{}", self.text())]
 pub enum LineError {

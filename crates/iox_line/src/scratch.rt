@@ -10,7 +10,7 @@ const MOST_VALUES: usize = 1_025;
 /// Memory for the values of one line, which is allocated once and used for line after line.
 /// Contracts see it as the list of the values in it.
 ///
-/// This port's own.
+/// Not in `iceoryx2`.
 #[derive(Drop)]
 pub struct Scratch {
     room: Vec<u64>,

@@ -3,7 +3,7 @@ ghost use Rattle.std.specs.Prelude.{◌≡◌};
 ghost use Rattle.iox_line.specs.Words.{same};
 ghost use Rattle.iox_line.specs.Verbs.{verb_of, seldom_verb_of, service_verb_of};
 
-/// What a line asks for. This port's own.
+/// What a line asks for. Not in `iceoryx2`.
 #[derive(Clone, Copy)]
 pub enum Verb {
     /// `node`
@@ -48,7 +48,7 @@ pub enum Verb {
     Has,
 }
 
-/// What a line asks for that names a service. This port's own.
+/// What a line asks for that names a service. Not in `iceoryx2`.
 #[derive(Clone, Copy)]
 pub enum ServiceVerb {
     /// `create`

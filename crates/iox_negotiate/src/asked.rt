@@ -64,7 +64,7 @@ impl<'a, P: Pattern> Asked<'a, P> {
 /// Why no service can be created with the settings of a requirement, if that is so. The requirement alone shows it, and the call doesn't
 /// allocate.
 ///
-/// This port's own.
+/// Not in `iceoryx2`.
 /// Example: `let failure = settings_refusal::<PublishSubscribe>(&requirement);`
 pub fn settings_refusal<P: Pattern>(requirement: &P::Requirement) -> Option<CreateFailure>
     ensures { let config = P.adjusted (P.asked requirement.now) in IsRefusal (AreWithinLimits (P.settings config))

@@ -46,7 +46,7 @@ impl Builder {
 
     /// A builder of the service with this name, for this node of the hub with this id.
     ///
-    /// This port's own.
+    /// Not in `iceoryx2`.
     /// Example: `Builder::of_hub(hub.id(), node.number(), name)`
     pub fn of_hub(hub: u64, node: u64, name: ServiceName) -> Self
         ensures { result ≡ record { hub = hub; node = node; name = name } }
@@ -116,7 +116,7 @@ impl Builder {
 
     /// A builder of a service of this pattern with this requirement. It doesn't allocate.
     ///
-    /// This port's own.
+    /// Not in `iceoryx2`.
     /// Example: `Builder::new(1, name).with_requirement::<Event>(requirement)`
     pub fn with_requirement<P: Negotiated>(self, requirement: P::Requirement) -> ServiceBuilder<P>
         ensures { result ≡ record { hub = self.hub; node = self.node; name = self.name; requirement = requirement } }
@@ -145,7 +145,7 @@ pub struct ServiceBuilder<P: Negotiated> {
 impl<P: Negotiated> ServiceBuilder<P> {
     /// The id of the hub to which the builder belongs; 0 if it belongs to no hub.
     ///
-    /// This port's own.
+    /// Not in `iceoryx2`.
     /// Example: `builder.hub()`
     pub fn hub(&self) -> u64
         ensures { result ≡ self.now.hub }
@@ -168,7 +168,7 @@ impl<P: Negotiated> ServiceBuilder<P> {
         })
     }
 
-    /// Creates the service, with only those attributes that the requirement has. See `create_with_attributes`.
+    /// Creates the service, with only those attributes that the builder's requirement has. See `create_with_attributes`.
     /// Example: `let factory = builder.create(alloc, &mut table)?;`
     pub fn create<S: Storage>(
         self,
@@ -208,7 +208,7 @@ impl<P: Negotiated> ServiceBuilder<P> {
         self.created(alloc, attributes, storage)
     }
 
-    /// Opens the service if it meets the requirement of the builder. See `open_with_attributes`.
+    /// Opens the service if it meets the builder's requirement. See `open_with_attributes`.
     /// Example: `let factory = builder.open(alloc, &mut table)?;`
     pub fn open<S: Storage>(
         self,
@@ -222,7 +222,7 @@ impl<P: Negotiated> ServiceBuilder<P> {
         self.opened(alloc, storage)
     }
 
-    /// Opens the service if it meets the requirement of the builder and has these attributes, in at most ten accesses.
+    /// Opens the service if it meets the builder's requirement, whose attributes are replaced by these, in at most ten accesses.
     ///
     /// Refused as `iox_negotiate_base::open` refuses it, with the pattern's error of the same name.
     /// Example: `let factory = builder.open_with_attributes(alloc, attributes, &mut table)?;`
@@ -246,7 +246,7 @@ impl<P: Negotiated> ServiceBuilder<P> {
         builder.opened(alloc, storage)
     }
 
-    /// Opens the service if it meets the requirement of the builder, or creates it if it doesn't exist. See
+    /// Opens the service if it meets the builder's requirement, or creates it with the required pairs if it doesn't exist. See
     /// `open_or_create_with_attributes`.
     /// Example: `let factory = builder.open_or_create(alloc, &mut table)?;`
     pub fn open_or_create<S: Storage>(
@@ -264,8 +264,8 @@ impl<P: Negotiated> ServiceBuilder<P> {
         self.opened_or_created(alloc, storage)
     }
 
-    /// Opens the service if it meets the requirement of the builder and has these attributes, or creates it with the required pairs if it
-    /// doesn't exist, in at most fourteen accesses.
+    /// Opens the service if it meets the builder's requirement, whose attributes are replaced by these, or creates it with the required
+    /// pairs if it doesn't exist, in at most fourteen accesses.
     ///
     /// Refused as `iox_negotiate_base::open_or_create` refuses it, with the pattern's error of the same name.
     /// Example: `let factory = builder.open_or_create_with_attributes(alloc, attributes, &mut table)?;`

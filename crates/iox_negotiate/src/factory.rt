@@ -136,7 +136,7 @@ impl<P: Pattern> PortFactory<P> {
 
     /// The description, which states what the nodes of the service agree on.
     ///
-    /// This port's own.
+    /// Not in `iceoryx2`.
     /// Example: `let fits = Domain::<u64, ()>::fits(factory.description());`
     pub fn description(&self) -> &Description
         ensures value { result.now ≡ self.now.membership.service.description }
@@ -148,7 +148,7 @@ impl<P: Pattern> PortFactory<P> {
 
     /// Whether the call that returned the factory created the service; false if it opened an existing one.
     ///
-    /// This port's own.
+    /// Not in `iceoryx2`.
     /// Example: `factory.is_new()`
     pub fn is_new(&self) -> bool
         ensures { result ≡ self.now.membership.service.is_new }
@@ -158,7 +158,7 @@ impl<P: Pattern> PortFactory<P> {
 
     /// The id of the storage in which the factory was opened.
     ///
-    /// This port's own.
+    /// Not in `iceoryx2`.
     /// Example: `factory.storage()`
     pub fn storage(&self) -> u64
         ensures { result ≡ self.now.membership.storage }

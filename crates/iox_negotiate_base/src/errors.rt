@@ -7,7 +7,7 @@
 //! | `close` | the error of closing a factory |
 //! | `tables` | the tables of names that all patterns share |
 //!
-//! First calls, with a failure of the rounds. The builders of `iox_negotiate` return these errors.
+//! First calls, with a failure of the rounds, as the builders of `iox_negotiate` make them to return these errors:
 //!
 //! ```
 //! let error = PublishSubscribeOpenError::from(failure);

@@ -51,6 +51,6 @@ pub enum OpenOrCreateFailure<V> {
     Open(OpenFailure<V>),
     /// The service doesn't exist, and isn't created.
     Create(CreateFailure),
-    /// The service was created and removed by others in each round.
+    /// In each round, other nodes were creating or removing the service.
     SystemInFlux,
 }

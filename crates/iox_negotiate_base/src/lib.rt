@@ -13,7 +13,7 @@
 //! | `laws` | theorems about all of these |
 //! | `errors` | why a service isn't opened or created, by its pattern; why a factory isn't closed |
 //!
-//! A first call. The builders of `iox_negotiate` make them.
+//! A first call, as the builders of `iox_negotiate` make it:
 //!
 //! ```
 //! let opened = open_or_create(alloc, &request, &mut storage)?;

@@ -9,7 +9,7 @@
 //! | `table` | the table, and its own calls |
 //! | `storage` | the table as a storage |
 //!
-//! First calls. `Hub` of `iox_hub_base` keeps one.
+//! First calls. The `Hub` of `iox_hub_base` contains such a table.
 //!
 //! ```
 //! let mut table = Table::new(alloc, id);

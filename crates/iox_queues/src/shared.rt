@@ -1,7 +1,7 @@
 //! Queues and single values that threads share, based on atomics.
 //!
-//! Each push and pop makes the accesses of its call one after another, as its contract states. Every call is memory-safe and returns.
-//! Nothing is proved of the values that other threads stored.
+//! Each push and pop makes the accesses of its step machine, one after another. Every call is memory-safe and returns. Nothing is proved of
+//! the values that other threads stored.
 //!
 //! - [`words`]: the shared words.
 //! - [`calls`]: a push, a pop, a store or a load as one run of its call.

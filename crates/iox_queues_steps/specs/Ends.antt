@@ -153,7 +153,7 @@ abbrev pub taken_by_pop : ℕ → ℕ → Pop → List Act
 taken_by_pop write read (pop.Overflowing p) = overflowing_ring.taken_by_pop write read p
 taken_by_pop write read (pop.Refusing p) = refusing.placed_by_pop write p
 
--- Whether this step of the pop moves the read position, at which the put of a push may take effect.
+-- Whether this step of the pop moves the read position of an overflowing ring, at which the put of a push may take effect.
 abbrev pub pop_moves : ℕ → Pop → Bool
 pop_moves read (pop.Overflowing p) = overflowing_ring.pop_moves read p
 pop_moves read (pop.Refusing p) = false

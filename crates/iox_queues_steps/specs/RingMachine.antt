@@ -143,7 +143,7 @@ IsAsked (GoOn party) n = Unit {0}
 abbrev pub ended_calls : RingState → ℕ
 ended_calls m = length m.producer.calls + length m.consumer.calls
 
--- One event was appended, and the requested end made it.
+-- One event was appended, the requested end made it, and a begin left this end at the first stage of its call.
 pub record IsMade (m : RingState) (step : Move) (n : RingState) : Type 0 where
   pub event : Event
   pub added : n.log.events ≡ m.log.events ++ event ∷ []

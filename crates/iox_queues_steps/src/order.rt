@@ -33,23 +33,32 @@ pub enum Act {
 /// A put, take or look, and the number of the step at which it took effect.
 #[derive(Clone, Copy, Debug, PartialEq, Eq)]
 pub struct Placed {
+    /// The put, take or look.
     pub act: Act,
+    /// The number of the step at which it took effect.
     pub moment: u64,
 }
 
 /// A finished push, with the numbers of its first and its last step.
 #[derive(Clone, Copy)]
 pub struct PushCall {
+    /// The number that was pushed.
     pub value: u64,
+    /// The result of the push.
     pub answer: PushAnswer,
+    /// The number of its first step.
     pub first: u64,
+    /// The number of its last step.
     pub last: u64,
 }
 
 /// A finished pop or look, with the numbers of its first and its last step.
 #[derive(Clone, Copy)]
 pub struct PopCall {
+    /// The result of the pop or look.
     pub answer: PopAnswer,
+    /// The number of its first step.
     pub first: u64,
+    /// The number of its last step.
     pub last: u64,
 }

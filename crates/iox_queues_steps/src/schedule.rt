@@ -68,7 +68,10 @@ impl Stepped {
 /// A step that was made: who made it, which access it made, and the result of the access.
 #[derive(Clone, Copy)]
 pub struct Event {
+    /// The end that made the step.
     pub party: Party,
+    /// The access that the step made.
     pub access: Access,
+    /// The result of the access.
     pub answer: u64,
 }

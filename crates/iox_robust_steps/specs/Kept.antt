@@ -30,7 +30,7 @@ IsQuiet (place.Counted p) = ⊥
 IsQuiet (place.Held p) = ⊥
 
 -- The words and the steps are consistent with the state of each index, and the holder of an index took it; in a locked set no index is held
--- or about to be; and the count is at most the number of steps.
+-- or about to be; and the count of a set that isn't locked is at most the number of steps.
 pub record WordsFit (n : ℕ) (words : RingWords) (places : List Place) (events : List Event) : Type 0 where
   pub cells : (i : ℕ) → i < n → CellFits (place_of places i) (slice_index words.cells i)
   pub quiet : words.read ≡ lock_mark → (i : ℕ) → i < n → IsQuiet (place_of places i)

@@ -26,10 +26,15 @@ pub enum MemberMove {
 /// A finished call, with its first and its last step, by their numbers among the steps made.
 #[derive(Clone, Copy)]
 pub struct MemberFinished {
+    /// The number of the party that made the call.
     pub party: usize,
+    /// The call.
     pub call: MemberCall,
+    /// The result of the call.
     pub answer: MemberAnswer,
+    /// The number of its first step.
     pub first: u64,
+    /// The number of its last step.
     pub last: u64,
 }
 
@@ -46,10 +51,10 @@ pub struct MemberFinished {
 /// a removal took its member out; each did so by one step of its own, and each counted one change, as a recovery does. An addition is
 /// refused if its call on the set was, and a removal or a recovery returns what its call on the set did. A member stays, with its value,
 /// until the party that added it removes it or a recovery does. Each step of a recovery removes one selected member of its owner, or none.
-/// After a finished recovery, none of the selected members ever comes back, and its owner holds no index without a member, except where a
-/// recovery removed one since this recovery began. Each member in a copy was in the container with exactly that value at one moment of the
-/// copy, and a member whose count didn't change during the copy is in it. A copy reports that nothing changed only if no change began and
-/// finished since the party's last copy.
+/// After a finished recovery, none of its selected members is in the container, for good, and its owner holds no index without a member,
+/// except where a recovery removed one since this recovery began. Each member in a copy was in the container with exactly that value at one
+/// moment of the copy, and a member whose count didn't change during the copy is in it. A copy reports that nothing changed only if no
+/// change began and finished since the party's last copy.
 ///
 /// An addition or removal takes effect at one step of its party, whoever is recovered. Before the step of an addition, no member of the
 /// party is at its index, except one that a recovery removes before that step; before the step of a removal, its member is there. After the

@@ -20,7 +20,7 @@ use std::io::{Read, Write};
 
 /// A hub that a script drives: messages are slices of 64-bit numbers, each with a 64-bit number as user header, which is 0.
 ///
-/// This port's own.
+/// Not in `iceoryx2`.
 #[derive(Drop)]
 pub struct Script {
     hub: NumberedHub<u64, u64, FixedHandlers, FixedDegradation>,

@@ -14,11 +14,13 @@
 //! in how many accesses, after `close` also what a close did; and `amiss` what answers were of no access, or lacking.
 //!
 //! A block whose second line begins with `lanes` has lines about lanes of those sizes in place of a script; one whose second line
-//! begins with `steps`, lines about a machine whose parties go a step at a time.
+//! begins with `steps`, lines about a machine whose parties go a step at a time; and one whose second line is `hub`, lines of a script and
+//! others that take a domain out of the hub.
 //!
 //! Standard output is typed by hand from the formats, and standard input is its lines without their replies.
 #![tactic(auto)]
 
+mod domains;
 mod faults;
 mod lanes;
 mod said;
@@ -26,6 +28,7 @@ mod steps;
 mod storages;
 mod words;
 
+use domains::answer_hub;
 use faults::left_by_faults;
 use iox_script::{HubConfig, Input, Output, serve};
 use lanes::answer_lanes;
@@ -61,6 +64,8 @@ fn answer_lines(rt: &HostRuntime, title: &str, lines: &str) -> io::Result<()> {
         answer_lanes(rt, rt.alloc(), lines)
     } else if lines.starts_with("steps ") {
         answer_steps(rt, rt.alloc(), lines)
+    } else if lines.starts_with("hub\n") {
+        answer_hub(rt, rt.alloc(), config(title), lines)
     } else {
         answer(rt, config(title), lines)
     }
@@ -113,6 +118,7 @@ fn tell_faults(rt: &HostRuntime, config: HubConfig, script: &str, replies: &str)
 
 // How often lines are said, and the lines.
 pub(crate) fn counted(line: &str) -> (usize, &str) {
+    let line = line.strip_prefix("measure ").unwrap_or(line);
     let Some((number, once)) = line.split_once(" times ") else {
         return (1, line);
     };

@@ -2,11 +2,13 @@
 //!
 //! `2 acquire 7` is a whole call of party 2, `2 begin acquire 7` only its first step, and `2 go 3` three steps of the call that it is
 //! in. Each is told what the last step came to, or the call's answer where that was its end. `N times LINES` is told the answers of each
-//! time, but where they are those of the time before.
+//! time, but where they are those of the time before. A line `measure N times LINES` is answered as the one without its first word: a case
+//! of `./check` counts what it takes.
 mod bits;
 mod indices;
 mod loaded;
 mod members;
+mod plain;
 mod rings;
 mod robust;
 mod values;
@@ -199,6 +201,7 @@ pub(crate) fn answer_steps(rt: &HostRuntime, alloc: Global, lines: &str) -> io::
     match word(&mut words) {
         "overflowing" | "refusing" => serve(rt, alloc, rings::ring(alloc, head), rest),
         "bits" => serve(rt, alloc, bits::set(alloc, head), rest),
+        "plain" => serve(rt, alloc, plain::set(alloc, head), rest),
         "indices" => serve(rt, alloc, indices::set(alloc, head), rest),
         "value" => serve(rt, alloc, values::value(alloc, head), rest),
         "robust" => serve(rt, alloc, robust::set(alloc, head), rest),

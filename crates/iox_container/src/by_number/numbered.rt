@@ -19,7 +19,7 @@ const PLACES_FOR_EACH: usize = 4;
 /// Contracts see its entries (numbers with their values, in rising order), the next number, and `room`, the maximum number of values. The
 /// cost of a call and the memory grow with `room` alone: a number whose value was removed costs nothing.
 ///
-/// This port's own.
+/// Not in `iceoryx2`.
 #[derive(Drop)]
 pub struct Numbered<V> {
     // The values below `first`, by rising number.

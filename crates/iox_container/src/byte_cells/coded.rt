@@ -6,7 +6,7 @@ ghost use Rattle.iox_container.specs.Encoding.{Encoding, byte, two_bytes, four_b
 ///
 /// New in this port: iceoryx2 copies the bytes of any `AtomicCopy` type, and this port copies the bytes of the value's encoding.
 pub trait Coded<const SIZE: usize>: Copy {
-    // how a value is spelled as bytes
+    // how a value is encoded as bytes
     ghost encoding: { Encoding Self };
 
     /// The encoding of the value.

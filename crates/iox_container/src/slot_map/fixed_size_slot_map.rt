@@ -79,7 +79,7 @@ impl<T, const CAPACITY: usize> FixedSizeSlotMap<T, CAPACITY> {
         self.map.is_full()
     }
 
-    /// The key that `insert` would give out, or None if the map is full.
+    /// The key that `insert` would give out; `None` if the map is full.
     pub fn next_free_key(&self) -> Option<SlotMapKey>
         ensures first { result ≡ slice_get self.now.free 0 }
         ensures free_keys { FreeKeysAreExact self.now }

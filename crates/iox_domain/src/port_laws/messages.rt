@@ -1,4 +1,4 @@
-//! Theorems about the calls of a service's ports, said without their steps. They are the contracts of functions that do
+//! Theorems about the calls of a service's ports. They are the contracts of functions that do
 //! nothing.
 ghost use Rattle.iox_domain.specs.DomainValues.declared.degradation.DegradationCause.TheVariants as cause;
 ghost use Rattle.iox_domain.specs.Attaching.{AttachesWithoutMemory, KeysStay};
@@ -82,7 +82,7 @@ pub fn attaches_without_memory<T, U, D: Degrades>(_handler: &D)
     ensures { AttachesWithoutMemory T U (D.degrades _handler.now cause.FailedToEstablishConnection) }
 {}
 
-/// A waiting send is where it was after each call of any port of its service, except those that try it again or give it up: its
+/// A blocked send is where it was after each call of any port of its service, except those that try it again or give it up: its
 /// progress, the number of connections that took the message, the message, and the connections to which its places are tied.
 pub fn send_waits<T, U, O: Overrides, B: Decides + Degrades>(_overriding: &O, _handlers: &B)
     ensures { SendWaits T U (O.overrides _overriding.now)

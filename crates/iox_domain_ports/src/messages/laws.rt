@@ -1,4 +1,4 @@
-//! Theorems about the steps of a publisher, said without the steps. They are the contracts of functions that do nothing.
+//! Theorems about the steps of a publisher. They are the contracts of functions that do nothing.
 ghost use Rattle.iox_domain_ports.specs.MessagesLaws.{FullExactlyIf, HeldStays, WholeIsSent};
 
 /// Each slot of a segment is in use exactly if as many different slots of that segment are in use as it has slots. Then

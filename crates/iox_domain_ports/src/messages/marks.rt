@@ -42,7 +42,7 @@ impl Model for Marks {
 
     ghost view = { λ m. record m.rows { payloads = all_marks m.markings.items m.rows.payloads } };
 
-    // The slots of segments to come have room, and a mark for each value.
+    // The slots of future segments have markings already, each of them `EachMarked`.
     ghost invariant = { λ m. (length m.rows.payloads + (m.rows.most_segments - m.rows.segments) * m.rows.size ≤ length m.markings.items)
         × ((slot : ℕ) → length m.rows.payloads ≤ slot → get_or m.markings.items slot EachMarked ≡ EachMarked) };
 }

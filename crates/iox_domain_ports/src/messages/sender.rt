@@ -624,7 +624,7 @@ fn open_slots<U: Copy>(
     let before = headers.len();
     headers.reserve(count)?;
     uses.open_segment(alloc)?;
-    // Its room is there.
+    // `reserve` allocated the memory.
     let _resized = headers.resize(before + count, blank);
     Ok(())
 }

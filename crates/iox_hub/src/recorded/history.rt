@@ -6,7 +6,7 @@ use std::marker::{Model, PhantomData};
 
 /// What a hub was asked, and what it answered. It takes no memory, and nothing is done with it at run time.
 ///
-/// This port's own.
+/// Not in `iceoryx2`.
 #[derive(Drop)]
 pub(crate) struct History<T> {
     of: PhantomData<T>,

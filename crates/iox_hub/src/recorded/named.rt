@@ -5,7 +5,7 @@ use std::marker::Model;
 
 /// A number that only proofs read. It takes no memory.
 ///
-/// This port's own.
+/// Not in `iceoryx2`.
 #[derive(Drop)]
 pub struct Number {
     pub ghost value: { ℕ },
@@ -29,7 +29,7 @@ impl Number {
 
 /// A port, a factory, a loan or a sample of a recorded hub, with its number there, which only proofs read.
 ///
-/// This port's own.
+/// Not in `iceoryx2`.
 #[derive(Drop)]
 pub struct Named<S> {
     /// The value itself.

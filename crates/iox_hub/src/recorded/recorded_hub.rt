@@ -69,7 +69,7 @@ use std::marker::Model;
 ///
 /// Each call says which command it is, and what its answer is; a call that can't be made is recorded as a command that is skipped.
 /// `answers_as_machine` says that commands and answers are a run of the machine. At run time it is a hub, and a flag whether all that was
-/// received fits in a vector. This port's own.
+/// received fits in a vector. Not in `iceoryx2`.
 #[derive(Drop)]
 pub struct RecordedHub<
     T: Words + ZeroCopySend + Default,
@@ -303,7 +303,7 @@ impl<
         calls::with_number(answer, number)
     }
 
-    /// Closes a factory of this hub: the command `Close`. The factory is spent, even if its description or segment couldn't be removed;
+    /// Closes a factory of this hub: the command `Close`. The factory is consumed, even if its description or segment couldn't be removed;
     /// while it is in use it is handed back.
     ///
     /// Refused as the machine refuses it.

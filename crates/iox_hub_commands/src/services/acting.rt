@@ -13,7 +13,7 @@ use std::alloc::Global;
 /// Refused with `HubError::OutOfMemory` at the first action that runs out of memory; the actions before it stay done. Refused so, too, if
 /// an allocation fails for their list, and then nothing happens; an empty list takes no memory.
 ///
-/// This port's own.
+/// Not in `iceoryx2`.
 pub fn foreign<T: Copy + ZeroCopySend, U: Copy + ZeroCopySend, B: Drop, D: Drop>(
     alloc: Global,
     hub: &mut Hub<T, U, B, D>,

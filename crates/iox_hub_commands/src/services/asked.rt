@@ -4,7 +4,7 @@ use iox_describe_base::ServiceName;
 
 /// The service that a node asks for, and what it names of it.
 ///
-/// This port's own.
+/// Not in `iceoryx2`.
 #[derive(Clone, Copy)]
 pub struct ServiceAsked {
     /// The number of the node, counted from 1.

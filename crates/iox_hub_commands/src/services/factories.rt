@@ -20,7 +20,7 @@ use std::alloc::{AllocError, Global};
 /// longer once its factory is closed.
 ///
 /// Each call is handed the hub. Each answers None, and nothing happens, if a number names nothing: no node of the hub, or no factory of it.
-/// This port's own.
+/// Not in `iceoryx2`.
 #[derive(Drop)]
 pub struct Factories {
     /// The open factories.

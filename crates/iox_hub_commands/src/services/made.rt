@@ -13,7 +13,7 @@ use iox_negotiate_base::errors::CloseError;
 
 /// A service that is open, by its pattern.
 ///
-/// This port's own.
+/// Not in `iceoryx2`.
 #[derive(Drop)]
 pub enum MadeFactory {
     /// A publish-subscribe service.
@@ -60,7 +60,7 @@ impl MadeFactory {
         }
     }
 
-    /// Closes the service in its hub, if nothing keeps it from being closed. It is spent, whatever the answer.
+    /// Closes the service in its hub, if nothing keeps it from being closed. It is consumed, whatever the answer.
     ///
     /// Refused with `UnableToRemoveDescription` and `UnableToRemoveSegment` as `Hub::close` refuses it.
     pub fn close<T: Copy, U: Copy, B: Drop, D: Drop>(

@@ -19,6 +19,7 @@ pub enum Call {
 /// The stage of a call. Between its begin and `Done` the call makes one access after another.
 #[derive(Clone, Copy)]
 pub enum AtomicCall {
+    /// No call is in progress.
     Idle,
     /// A store of this value reads the counter.
     Store {

@@ -17,7 +17,9 @@ use std::alloc::{AllocError, Global};
 /// The stage of a party's call, and the number of the call's first step.
 #[derive(Clone, Copy)]
 pub struct Seat {
+    /// The stage of the party's call.
     pub stage: AtomicCall,
+    /// The number of the first step of this call.
     pub first: u64,
 }
 

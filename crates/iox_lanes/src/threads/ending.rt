@@ -54,7 +54,7 @@ fn emptied<T: Copy, U: Copy, B, D>(
 /// Ends all ports of a domain's board: the domain has the same ports again, and no messages. It is as it was when its lanes began, except
 /// that the mailboxes and histories of its publishers are empty, and their sequence numbers go on after the last ones of their ports. Loans
 /// and samples that were still out are void. Nothing is allocated. If a port is missing or belongs to another board, it returns
-/// `NotAllPorts` with all ports and the board as they were. This port's own.
+/// `NotAllPorts` with all ports and the board as they were. Not in `iceoryx2`.
 pub fn end<T: Copy, U: Copy, B, D>(
     board: DomainBoard<T, U, B, D>,
     publishers: Vec<LanePublisher>,
@@ -74,7 +74,8 @@ pub fn end<T: Copy, U: Copy, B, D>(
 
 /// Ends all ports of a domain's board as [`end`] does, with the same error. It requires that each port with the board's number steps on the
 /// board's own words, which holds if no two boards have the same number. In return it ensures that what a subscriber has read of a sample
-/// that it still holds is what the publisher knows of the slot, if the ports know that no write position came to 2^64 - 1. This port's own.
+/// that it still holds is what the publisher knows of the slot, if the ports know that no write position came to 2^64 - 1.
+/// Not in `iceoryx2`.
 pub fn end_together<T: Copy, U: Copy, B, D>(
     board: DomainBoard<T, U, B, D>,
     publishers: Vec<LanePublisher>,

@@ -19,7 +19,7 @@ use std::alloc::Global;
 /// `board` is the number by which the board knows its ports; give two boards two numbers. The lanes come back as they were with an error if
 /// a party is inside a call (`PartyInCall`), a loan or a sample is out (`SamplesOut`), more than 2^63 steps were made (`TooManySteps`), or
 /// an allocation fails (`OutOfMemory`), checked in this order. From then on the ports allocate nothing, and they step on the board's own
-/// words, as `end_together` requires. This port's own.
+/// words, as `end_together` requires. Not in `iceoryx2`.
 pub fn open_threads<T: Words, U: Words>(
     alloc: Global,
     board: u64,

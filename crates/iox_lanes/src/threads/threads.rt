@@ -8,7 +8,7 @@ use std::marker::Model;
 
 /// The board of a domain's ports in threads, with the domain as it was when its lanes began.
 ///
-/// This port's own.
+/// Not in `iceoryx2`.
 pub struct DomainBoard<T, U, B = Handlers, D = DegradationHandler> {
     pub(crate) board: Board,
     pub(crate) domain: Domain<T, U, B, D>,
@@ -65,7 +65,7 @@ impl<T, U, B, D> DomainBoard<T, U, B, D> {
 
 /// All ports of a domain in threads, each with its share of the words, and the board with the domain.
 ///
-/// This port's own.
+/// Not in `iceoryx2`.
 #[derive(Drop)]
 pub struct DomainThreads<T, U, B = Handlers, D = DegradationHandler> {
     /// The board of these ports.

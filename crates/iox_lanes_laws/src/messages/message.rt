@@ -14,7 +14,7 @@ use iox_queues_base::Words;
 use std::alloc::{AllocError, Global};
 use std::marker::Model;
 
-/// A message as it was when its send began, or when it was found. This port's own.
+/// A message as it was when its send began, or when it was found. Not in `iceoryx2`.
 pub struct Message {
     publisher: usize,
     slot: u64,

@@ -14,7 +14,7 @@ pub use iter::Iter;
 /// The puts, takes and looks of a connection, in their order, each with the number of the message that it puts or takes. The number is
 /// looked up when the entry is asked for, among all messages that are kept.
 ///
-/// Contracts see an order as the list of its entries. This port's own.
+/// Contracts see an order as the list of its entries. Not in `iceoryx2`.
 #[derive(Drop)]
 pub struct Order<'a> {
     messages: &'a [Message],

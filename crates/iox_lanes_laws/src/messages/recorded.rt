@@ -17,7 +17,7 @@ use std::alloc::{AllocError, Global};
 use std::marker::Model;
 
 /// Lanes with the messages that were sent on them since they were handed in: each gets the next number when its send begins, from 0 on, or
-/// after the numbers of messages that were found. This port's own.
+/// after the numbers of messages that were found. Not in `iceoryx2`.
 pub struct Lanes {
     alloc: Global,
     lanes: LaneMachine,

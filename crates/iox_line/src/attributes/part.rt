@@ -11,7 +11,7 @@ use std::marker::Model;
 
 /// A key and a value in a line. Contracts see it as an attribute.
 ///
-/// This port's own.
+/// Not in `iceoryx2`.
 #[derive(Drop)]
 pub struct WrittenPair<'a> {
     key: &'a [u8],
@@ -29,7 +29,7 @@ impl<'a> Model for WrittenPair<'a> {
 
 /// A key in a line. Contracts see it as its bytes.
 ///
-/// This port's own.
+/// Not in `iceoryx2`.
 #[derive(Drop)]
 pub struct WrittenKey<'a> {
     bytes: &'a [u8],

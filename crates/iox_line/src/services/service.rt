@@ -11,7 +11,7 @@ use iox_describe_base::{MessagingPattern, ServiceName};
 
 /// A service, as a line names it.
 ///
-/// This port's own.
+/// Not in `iceoryx2`.
 #[derive(Drop)]
 pub struct NamedService<'a> {
     /// The number of the node.

@@ -9,7 +9,7 @@ use crate::text::words::{is, split};
 use iox_command::{ForeignStep, ServiceOptions};
 use iox_describe_base::MessagingPattern;
 
-/// The verb of an action of another node. This port's own.
+/// The verb of an action of another node. Not in `iceoryx2`.
 #[derive(Clone, Copy)]
 pub enum StepVerb {
     /// `lock`

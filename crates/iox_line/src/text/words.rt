@@ -8,7 +8,7 @@ use std::marker::Model;
 /// The words of a line that are still to be read, between its spaces; or the pieces of a text between other bytes. Contracts see the list
 /// of these words.
 ///
-/// This port's own.
+/// Not in `iceoryx2`.
 #[derive(Drop)]
 pub struct Words<'a> {
     text: Option<&'a [u8]>,

@@ -65,7 +65,7 @@ impl ServiceBuilder<PublishSubscribe> {
 
     /// Names whether the messages of each publisher have sequence numbers, by which a subscriber detects the messages that it missed.
     ///
-    /// This port's own.
+    /// Not in `iceoryx2`.
     /// Example: `builder.sequence_numbers(true)`
     pub fn sequence_numbers(mut self, value: bool) -> Self
         ensures { result ≡ record self { requirement = record self.requirement { sequence_numbers = Some value } } }

@@ -132,7 +132,7 @@ pub enum EventOpenOrCreateError {
     EventOpenError(EventOpenError),
     /// The service doesn't exist, and isn't created.
     EventCreateError(EventCreateError),
-    /// The service was created and removed by others in each of five rounds.
+    /// In each of five rounds, other nodes were creating or removing the service.
     SystemInFlux,
 }
 

@@ -137,7 +137,7 @@ pub enum PublishSubscribeOpenOrCreateError {
     PublishSubscribeOpenError(PublishSubscribeOpenError),
     /// The service doesn't exist, and isn't created.
     PublishSubscribeCreateError(PublishSubscribeCreateError),
-    /// The service was created and removed by others in each of five rounds.
+    /// In each of five rounds, other nodes were creating or removing the service.
     SystemInFlux,
 }
 

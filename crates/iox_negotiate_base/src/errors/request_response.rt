@@ -145,7 +145,7 @@ pub enum RequestResponseOpenOrCreateError {
     RequestResponseOpenError(RequestResponseOpenError),
     /// The service doesn't exist, and isn't created.
     RequestResponseCreateError(RequestResponseCreateError),
-    /// The service was created and removed by others in each of five rounds.
+    /// In each of five rounds, other nodes were creating or removing the service.
     SystemInFlux,
 }
 

@@ -31,12 +31,14 @@ pub enum Answer {
 /// The stage of a call. Each stage from its begin to `Done` is one access after the one before.
 #[derive(Clone, Copy)]
 pub enum SetCall {
+    /// No call is in progress.
     Idle,
     /// Raises the count of a place by one, up to `max`.
     Add {
         place: u64,
         max: u64,
     },
+    /// The call has the count, and exchanges it for one more.
     Adding {
         place: u64,
         max: u64,
@@ -53,6 +55,7 @@ pub enum SetCall {
         capacity: u64,
         all: bool,
     },
+    /// The call has found this count at a place, and exchanges it for 0.
     Taking {
         place: u64,
         left: u64,

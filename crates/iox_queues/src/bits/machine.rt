@@ -19,18 +19,26 @@ pub enum Move {
 /// A step that was made: who made it, which access it made, and the result of the access.
 #[derive(Clone, Copy)]
 pub struct Event {
+    /// The number of the party that made the step.
     pub party: usize,
+    /// The access that the step made.
     pub access: Access,
+    /// The result of the access.
     pub answer: u64,
 }
 
 /// A finished call, with its first and its last step, by their numbers among the steps made.
 #[derive(Clone, Copy)]
 pub struct Finished {
+    /// The number of the party that made the call.
     pub party: usize,
+    /// The call.
     pub call: Call,
+    /// The result of the call.
     pub answer: Answer,
+    /// The number of its first step.
     pub first: u64,
+    /// The number of its last step.
     pub last: u64,
 }
 

@@ -13,7 +13,9 @@ use std::alloc::{AllocError, Global};
 /// The stage of a party's call, and the number of the call's first step.
 #[derive(Clone, Copy)]
 pub struct Seat {
+    /// The stage of the party's call.
     pub stage: SetCall,
+    /// The number of the first step of this call.
     pub first: u64,
 }
 

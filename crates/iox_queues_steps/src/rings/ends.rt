@@ -21,7 +21,9 @@ pub enum RingKind {
 /// The stage of a push.
 #[derive(Clone, Copy)]
 pub enum Push {
+    /// A push into an overflowing ring.
     Overflowing(OverflowingPush),
+    /// A push into a refusing ring.
     Refusing(RefusingPush),
 }
 
@@ -110,7 +112,9 @@ impl Push {
 /// The stage of a pop, or of a look, which only returns whether a number waits.
 #[derive(Clone, Copy)]
 pub enum Pop {
+    /// A pop from an overflowing ring, or a look at it.
     Overflowing(OverflowingPop),
+    /// A pop from a refusing ring, or a look at it.
     Refusing(RefusingPop),
 }
 
@@ -195,7 +199,8 @@ impl Pop {
         }
     }
 
-    /// Whether the next step moves the read position, which is `position`, so that a push whose put was delayed takes effect.
+    /// Whether the next step moves the read position, which is `position`, at which a delayed put of a push takes effect. On a refusing
+    /// ring no put is delayed, so this is false.
     pub fn moves(&self, position: u64) -> bool
         ensures { result ≡ pop_moves position self.now }
     {

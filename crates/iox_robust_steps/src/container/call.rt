@@ -40,6 +40,7 @@ pub enum MemberAnswer {
 /// The stage of a call. Each stage from its begin to `Done` is one access, or one step of the index set.
 #[derive(Clone, Copy)]
 pub enum ContainerCall {
+    /// No call is in progress.
     Idle,
     /// An addition acquires an index.
     Enter {

@@ -23,9 +23,13 @@ use std::alloc::{AllocError, Global};
 /// of the step that read it.
 #[derive(Clone, Copy)]
 pub struct MemberSeat {
+    /// The stage of the party's call.
     pub stage: ContainerCall,
+    /// The number of the first step of this call.
     pub first: u64,
+    /// The count of changes that the party's last copy read.
     pub saw: u64,
+    /// The number of the step that read this count.
     pub since: u64,
 }
 

@@ -58,6 +58,7 @@ fn are_published_in(
     let third = builder(b"R")?
         .request_response::<[u32; 3], Slice<i64>>()
         .request_user_header::<u32>()
+        .response_user_header::<u16>()
         .request_payload_alignment(2)
         .response_payload_alignment(32);
     Ok(is_first && is_second && is_published(alloc, third, two, table, line_with_attributes))

@@ -7,9 +7,35 @@ use std::alloc::Global;
 /// The lines of publish-subscribe, event and request-response with settings that are all named.
 fn lines() -> [&'static str; 3] {
     [
-        "{\"attributes\":[],\"name\":\"23\",\"pattern\":\"publish_subscribe\",\"service_hash\":\"40bd001563085fc35165329ea1ff5c5ecbdbbeef\",\"settings\":{\"enable_safe_overflow\":false,\"history_size\":5,\"max_nodes\":11,\"max_publishers\":12,\"max_subscribers\":13,\"sequence_numbers\":true,\"subscriber_max_borrowed_samples\":14,\"subscriber_max_buffer_size\":15,\"types\":{\"header\":{\"alignment\":8,\"name\":\"Header\",\"size\":24,\"variant\":\"FixedSize\"},\"payload\":{\"alignment\":16,\"name\":\"P\",\"size\":40,\"variant\":\"Dynamic\"},\"user_header\":{\"alignment\":4,\"name\":\"H\",\"size\":12,\"variant\":\"FixedSize\"}}},\"version\":2}",
-        "{\"attributes\":[],\"name\":\"23\",\"pattern\":\"event\",\"service_hash\":\"af06318c33c8e41c70083ee23dbe19426f1f9c5b\",\"settings\":{\"deadline\":21,\"event_id_max_value\":28,\"max_listeners\":27,\"max_nodes\":25,\"max_notifiers\":26,\"notifier_created_event\":null,\"notifier_dead_event\":24,\"notifier_dropped_event\":null},\"version\":2}",
-        "{\"attributes\":[],\"name\":\"23\",\"pattern\":\"request_response\",\"service_hash\":\"1bb85661d74e2a15ba3b959218f3c3f93c7ddb88\",\"settings\":{\"enable_fire_and_forget_requests\":false,\"enable_safe_overflow_for_requests\":false,\"enable_safe_overflow_for_responses\":false,\"max_active_requests_per_client\":31,\"max_borrowed_responses_per_pending_response\":36,\"max_clients\":35,\"max_loaned_requests\":32,\"max_nodes\":37,\"max_response_buffer_size\":33,\"max_servers\":34,\"request_types\":{\"header\":{\"alignment\":8,\"name\":\"Header\",\"size\":24,\"variant\":\"FixedSize\"},\"payload\":{\"alignment\":16,\"name\":\"Q\",\"size\":40,\"variant\":\"Dynamic\"},\"user_header\":{\"alignment\":4,\"name\":\"T\",\"size\":12,\"variant\":\"FixedSize\"}},\"response_types\":{\"header\":{\"alignment\":8,\"name\":\"Header\",\"size\":24,\"variant\":\"FixedSize\"},\"payload\":{\"alignment\":32,\"name\":\"S\",\"size\":48,\"variant\":\"FixedSize\"},\"user_header\":{\"alignment\":2,\"name\":\"U\",\"size\":20,\"variant\":\"FixedSize\"}}},\"version\":2}",
+        concat!(
+            "{\"attributes\":[],\"name\":\"23\",\"pattern\":\"publish_subscribe\",",
+            "\"service_hash\":\"40bd001563085fc35165329ea1ff5c5ecbdbbeef\",\"settings\":{\"enable_safe_overflow\":false,",
+            "\"history_size\":5,\"max_nodes\":11,\"max_publishers\":12,\"max_subscribers\":13,\"sequence_numbers\":true,",
+            "\"subscriber_max_borrowed_samples\":14,\"subscriber_max_buffer_size\":15,",
+            "\"types\":{\"header\":{\"alignment\":8,\"name\":\"Header\",\"size\":24,\"variant\":\"FixedSize\"},",
+            "\"payload\":{\"alignment\":16,\"name\":\"P\",\"size\":40,\"variant\":\"Dynamic\"},",
+            "\"user_header\":{\"alignment\":4,\"name\":\"H\",\"size\":12,\"variant\":\"FixedSize\"}}},\"version\":2}",
+        ),
+        concat!(
+            "{\"attributes\":[],\"name\":\"23\",\"pattern\":\"event\",",
+            "\"service_hash\":\"af06318c33c8e41c70083ee23dbe19426f1f9c5b\",\"settings\":{\"deadline\":21,",
+            "\"event_id_max_value\":28,\"max_listeners\":27,\"max_nodes\":25,\"max_notifiers\":26,",
+            "\"notifier_created_event\":null,\"notifier_dead_event\":24,\"notifier_dropped_event\":null},\"version\":2}",
+        ),
+        concat!(
+            "{\"attributes\":[],\"name\":\"23\",\"pattern\":\"request_response\",",
+            "\"service_hash\":\"1bb85661d74e2a15ba3b959218f3c3f93c7ddb88\",",
+            "\"settings\":{\"enable_fire_and_forget_requests\":false,\"enable_safe_overflow_for_requests\":false,",
+            "\"enable_safe_overflow_for_responses\":false,\"max_active_requests_per_client\":31,",
+            "\"max_borrowed_responses_per_pending_response\":36,\"max_clients\":35,\"max_loaned_requests\":32,",
+            "\"max_nodes\":37,\"max_response_buffer_size\":33,\"max_servers\":34,",
+            "\"request_types\":{\"header\":{\"alignment\":8,\"name\":\"Header\",\"size\":24,\"variant\":\"FixedSize\"},",
+            "\"payload\":{\"alignment\":16,\"name\":\"Q\",\"size\":40,\"variant\":\"Dynamic\"},",
+            "\"user_header\":{\"alignment\":4,\"name\":\"T\",\"size\":12,\"variant\":\"FixedSize\"}},",
+            "\"response_types\":{\"header\":{\"alignment\":8,\"name\":\"Header\",\"size\":24,\"variant\":\"FixedSize\"},",
+            "\"payload\":{\"alignment\":32,\"name\":\"S\",\"size\":48,\"variant\":\"FixedSize\"},",
+            "\"user_header\":{\"alignment\":2,\"name\":\"U\",\"size\":20,\"variant\":\"FixedSize\"}}},\"version\":2}",
+        ),
     ]
 }
 

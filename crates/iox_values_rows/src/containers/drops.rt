@@ -20,7 +20,8 @@ impl Drop for Noted<'_> {
     }
 }
 
-/// Fills a vector with 1, 2 and so on, cuts it to so many items, and lets it go; whether these digits are noted by the cut, and these in all.
+/// Fills a vector with 1, 2 and so on, cuts it to so many items, and lets it go. It tells whether these digits are noted by the cut, and
+/// these in all.
 fn goes_so<'a, V: Vector<Noted<'a>> + Drop>(
     made: Result<V, AllocError>,
     notes: &'a Cell<u64>,

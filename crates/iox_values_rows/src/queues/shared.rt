@@ -151,6 +151,7 @@ fn each_shared_form_gives_each_answer(rt: HostRuntime) {
         go::<7>(alloc, 0),
         go::<7>(alloc, 7),
         go::<64>(alloc, 0),
+        go::<64>(alloc, 32),
         go::<64>(alloc, 64),
         go::<1_000>(alloc, 0),
         go::<1_000>(alloc, 7),

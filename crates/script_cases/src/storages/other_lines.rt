@@ -44,8 +44,8 @@ fn types_beside(pattern: &str, answers: &str) -> &'static str {
 }
 
 /// What is found where a line says so. `FoundOther` is the line of another service. Under the hash of the service `FoundName` has another
-/// name, `FoundPattern` another pattern; `FoundTypes`, `FoundAligned`, `FoundRequests` and `FoundResponses` have other types, and `FoundLong` no
-/// description.
+/// name, `FoundPattern` another pattern; `FoundTypes`, `FoundAligned`, `FoundRequests` and `FoundResponses` have other types, and
+/// `FoundLong` has no description.
 pub(crate) fn other_line(
     alloc: Global,
     pattern: &str,

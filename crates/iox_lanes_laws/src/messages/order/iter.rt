@@ -11,7 +11,7 @@ use std::marker::Model;
 
 /// The entries of an order, one after the other, each with the number of its message.
 ///
-/// Contracts see it as the list of the entries that are left. This port's own.
+/// Contracts see it as the list of the entries that are left. Not in `iceoryx2`.
 #[derive(Drop)]
 pub struct Iter<'a> {
     pub(super) messages: &'a [Message],

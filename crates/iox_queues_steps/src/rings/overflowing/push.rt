@@ -9,17 +9,21 @@ use crate::{Access, Act, End, PushAnswer, Word};
 /// The stage of a push. Each stage from `Begun` to `Pushed` is one access after the one before.
 #[derive(Clone, Copy)]
 pub enum Push {
+    /// No push is in progress.
     Idle,
+    /// The push loads the write position.
     Begun {
         limit: u64,
         value: u64,
     },
+    /// The push has the write position, and loads the read position.
     SawWrite {
         limit: u64,
         value: u64,
         write: u64,
         next: u64,
     },
+    /// The push has both positions, and stores the value in the cell of the write position.
     SawRead {
         limit: u64,
         value: u64,
@@ -27,6 +31,7 @@ pub enum Push {
         next: u64,
         read: u64,
     },
+    /// The push has stored the value, and stores the next write position.
     Filled {
         limit: u64,
         value: u64,
@@ -34,17 +39,20 @@ pub enum Push {
         next: u64,
         read: u64,
     },
+    /// More than `limit` numbers may wait, so the push loads the oldest one.
     Full {
         value: u64,
         read: u64,
         next: u64,
     },
+    /// The push has the oldest number, and exchanges the read position to remove it.
     SawOldest {
         value: u64,
         read: u64,
         next: u64,
         oldest: u64,
     },
+    /// The push has its result, and its last step is still to come.
     Pushed {
         value: u64,
         answer: PushAnswer,

@@ -9,14 +9,23 @@ use crate::{Access, Act, End, PopAnswer, Word};
 /// `Looked`, is one access after the one before.
 #[derive(Clone, Copy)]
 pub enum Pop {
+    /// No pop or look is in progress.
     Idle,
+    /// A pop loads the read position.
     Begun,
+    /// The pop has the read position, and loads the write position.
     SawRead { read: u64 },
+    /// The pop has found that a number waits, and loads the cell of the read position.
     Nonempty { read: u64, next: u64 },
+    /// The pop has the number, and stores the next read position.
     SawCell { next: u64, value: u64 },
+    /// The pop has its result, and its last step is still to come.
     Popped { got: Option<u64> },
+    /// A look loads the read position.
     LookBegun,
+    /// The look has the read position, and loads the write position.
     LookRead { read: u64 },
+    /// The look has its result, and its last step is still to come.
     Looked { waiting: bool },
 }
 

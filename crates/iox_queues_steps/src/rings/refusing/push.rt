@@ -8,26 +8,32 @@ use crate::{Access, Act, End, PushAnswer, Word};
 /// The stage of a push. Each stage from `Begun` to `Pushed` is one access after the one before.
 #[derive(Clone, Copy)]
 pub enum Push {
+    /// No push is in progress.
     Idle,
+    /// The push loads the write position.
     Begun {
         limit: u64,
         value: u64,
     },
+    /// The push has the write position, and loads the read position.
     SawWrite {
         limit: u64,
         value: u64,
         write: u64,
         next: u64,
     },
+    /// The push has found that the ring isn't full, and stores the value in the cell of the write position.
     SawRoom {
         value: u64,
         write: u64,
         next: u64,
     },
+    /// The push has stored the value, and stores the next write position.
     Filled {
         value: u64,
         next: u64,
     },
+    /// The push has its result, and its last step is still to come.
     Pushed {
         value: u64,
         answer: PushAnswer,

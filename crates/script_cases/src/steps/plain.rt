@@ -1,0 +1,59 @@
+//! Plain bit sets, each of whose calls is a single step.
+use super::{Asked, Machine};
+use crate::said::{NONE, Said, UNKNOWN};
+use crate::words::size;
+use iox_queues::BitSet;
+use iox_queues_steps::Stepped;
+use std::alloc::{AllocError, Global};
+
+/// A bit set, and what its last call answered.
+#[derive(Drop)]
+pub(crate) struct Plain {
+    set: BitSet,
+    told: Said<'static>,
+}
+
+/// The empty set that a line names.
+pub(crate) fn set(alloc: Global, line: &str) -> Result<Plain, AllocError> {
+    Ok(Plain {
+        set: BitSet::new(alloc, size(line, "capacity", 1) as usize)?,
+        told: NONE,
+    })
+}
+
+// What a call answers; nothing where it doesn't fit.
+fn told(set: &mut BitSet, asked: Asked<'_>) -> Option<Said<'static>> {
+    let place = asked.first as usize;
+    match asked.verb {
+        "set" if place < set.capacity() => Some(Said::Is(set.set(place))),
+        "next" => Some(
+            set.reset_next()
+                .map_or(NONE, |place| Said::Number(place as u64)),
+        ),
+        _ => None,
+    }
+}
+
+impl Machine for Plain {
+    fn begin(&mut self, _party: usize, asked: Asked<'_>) -> Stepped {
+        match told(&mut self.set, asked) {
+            Some(told) => {
+                self.told = told;
+                Stepped::Finished
+            }
+            None => Stepped::Skipped,
+        }
+    }
+
+    fn go_on(&mut self, _party: usize) -> Stepped {
+        Stepped::Skipped
+    }
+
+    fn ended(&self, _party: usize) -> Said<'static> {
+        self.told
+    }
+
+    fn seen(&self, _what: &str, _place: u64) -> Said<'static> {
+        UNKNOWN
+    }
+}
