@@ -138,7 +138,9 @@ fn send<T: Copy, H: Home<T, u64>>(
     match sample.send(alloc, home)? {
         Sent::Delivered(subscribers) => Ok(subscribers),
         Sent::Blocked(waiting) => {
-            let ended = waiting.drop_with(home).map_err(|waiting| waiting.into_port());
+            let ended = waiting
+                .drop_with(home)
+                .map_err(|waiting| waiting.into_port());
             ended.ok().context("no send")
         }
     }

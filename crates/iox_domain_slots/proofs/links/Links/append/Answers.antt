@@ -14,8 +14,7 @@ invariant_of-self-2 c =
     = ap length after ∙ length-append b.items.items (Some c.args.link ∷ []) in
     let lowest : (lower : ℕ) → lower < length b.items.items → is_some (get_or b.items.items lower None) ≡ true
     = rw (← c.self.view_is) at c.requires.lowest in
-    let kind : IsOf b.overflows b.most_waiting b.most_borrowed (Some c.args.link) = rw (← c.self.view_is) at c.requires.kind in
-    (
+    let kind : IsOf b.overflows b.most_waiting b.most_borrowed (Some c.args.link) = rw (← c.self.view_is) at c.requires.kind in (
       omega (arith, long, c.len.ensures, c.if-len-ge-MOST_LINKS.false),
       rw after (end_kinds b.items.items b.overflows b.most_waiting b.most_borrowed c.args.link c.self.invariant.1 kind),
       c.self.invariant.2,
