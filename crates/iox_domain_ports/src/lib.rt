@@ -1,6 +1,7 @@
 //! One publisher with its messages and connections, and one subscriber over the publishers of its service.
 //!
 //! - [`messages`]: a publisher's messages and loans by their contents, over the slots that they are in.
+//! - [`places`]: values at places, allocated when a place is first needed.
 //! - [`ties`]: which connection each place of a list is tied to.
 //! - [`meeting`]: what a message meets at a place, and what a send answers.
 //! - [`reader`]: to whom a connection leads.
@@ -59,6 +60,7 @@ pub mod living;
 pub mod loaning;
 pub mod meeting;
 pub mod messages;
+pub mod places;
 pub mod progress;
 pub mod publisher_entry;
 pub mod publisher_laws;
@@ -81,6 +83,7 @@ pub use census::{Census, Share};
 pub use keys::Keys;
 pub use meeting::{Meeting, Sent};
 pub use messages::{Member, SenderConfig};
+pub use places::Places;
 pub use progress::Progress;
 pub use publisher_entry::PublisherEntry;
 pub use publisher_port::PublisherPort;
