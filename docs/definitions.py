@@ -12,8 +12,9 @@ definition what it names by its `use` lines. Both are read as text: a name count
 
 Counted is what a reader of the machine's promises must read: all that is reached by the clauses of the headline, of typed calls,
 and of lanes whose calls don't overlap. Of a typed call and of one of lanes each clause counts, `requires` too. Of `run` and
-`serve` those count that are in the machine's words (`HEADLINE`). Their further clauses speak of the code's own relation, numbers, room and places:
-they are the way of the proof, and promise what the machine doesn't know. DEFINITIONS.md has the counted ones, and only these.
+`serve` those count that are in the machine's words (`HEADLINE`). Their further clauses speak of the code's own relation, numbers,
+capacity and places: they are the way of the proof, and promise what the machine doesn't know. DEFINITIONS.md has the counted ones,
+and only these.
 The status is 1 where a sentence is missing, where the page differs, or where the counted ones are more than `MOST`.
 """
 
