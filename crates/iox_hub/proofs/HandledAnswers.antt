@@ -100,7 +100,7 @@ module _ {T U B D P : Type 0} (terms : Terms T U B D)
       (answered_in (turns commands these old.1))) (sym (none_given replies none))
       (subst (λ (all : List (Turn T P D)). machine.MayStop (left_plainly 0 commands) (answered_in all))
       (sym (none_turned commands old.1)) (never_stops commands (some_left Handles commands old new replies runs)))
-  stops_there commands old new replies runs (inr (one, is, (before, lacks))) =
+  stops_there commands old new replies runs (inr (one, is, before, lacks)) =
       lacks_stop commands (length replies) one (answered_in (turns commands replies old.1)) is (lacks_for_values one before new.0 lacks)
 
   -- what is left as a run stopped, or didn't

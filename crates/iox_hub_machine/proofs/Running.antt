@@ -135,9 +135,9 @@ module _ {T : Type 0} where
       → machine.MayStop (asked ∷ rest) replies
   may_stop first rest asked replies new each (inl none) =
       subst (machine.MayStop (asked ∷ rest)) (sym (none_given replies none)) (stops_first asked rest)
-  may_stop first rest asked replies new each (inr (other, is, (before, lacks))) =
+  may_stop first rest asked replies new each (inr (other, is, before, wants)) =
       let same : other ≡ asked = same_some other asked (sym is ∙ ap (slice_get (first ++ asked ∷ rest)) each ∙ next_is first rest asked) in
-      stops_so asked rest replies (subst (λ (it : Command T). RepliesValues it) same (lacks_values other before new lacks))
+      stops_so asked rest replies (subst (λ (it : Command T). RepliesValues it) same (lacks_values other before new wants))
 
   one_each : (types : MessageTypeDetails) (choices : Choices T) (buffer : ℕ) (first : List (Command T)) (old new : State T)
       (answers : List (Reply T)) → machine.Runs types choices buffer first old answers new → length answers ≡ length first
