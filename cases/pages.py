@@ -18,11 +18,16 @@ SCRIPT = TOP / "docs" / "api.py"
 LOCK = threading.Lock()
 # How many words a page for users may have.
 MOST_WORDS = {"README.md": 900, "docs/TOOL.md": 1400, "docs/USING.md": 4000}
-# A call, what its contract names, and what is said of that: the row on docs/DEFINITIONS.md, and the file.
+# A call, a definition that its contract names, with its file, and the comment above that definition.
 SAID = [
-    ("iox_hub_base", "hub.Hub.new", "Hubs.IsNewHub", "A hub without nodes and services."),
-    ("iox_hub_base", "hub.Hub.foreign", "Foreign.ActsOn", "the steps are done on the table of a hub, and all else stays"),
-    ("iox_conversation", "conversation.serve", "Conversation.IsConversation", "the output answers each line of the input, from here on"),
+    (
+        "iox_hub_base",
+        "hub.Hub.new",
+        "Hubs.IsNewHub",
+        "The hub has no nodes and no services, and has the id and the capacity for expired connections of its configuration.",
+    ),
+    ("iox_hub_base", "hub.Hub.foreign", "Foreign.ActsOn", "The actions are done on the table of the hub, and all else stays."),
+    ("iox_conversation", "conversation.serve", "Conversation.IsConversation", "The output answers each line of the input, from this state of the machine on."),
 ]
 
 

@@ -69,6 +69,32 @@ def a_file_that_is_no_picture_or_page_of_the_launchers_is_kept():
 
 
 @case
+def a_script_that_is_named_as_the_output_is_kept():
+    """Whoever forgets FILE names his script as OUT: it is kept, also by `--force`, unless standard input is named as FILE."""
+    for name, _, begins in WRITING:
+        with own_script() as script:
+            other, at = script.with_name("other.txt"), {"cwd": script.parent}
+            script.rename(other)
+            told = f"other.txt exists, and ./iox didn't write it: `./iox other.txt --{name}` draws it if it is a script"
+            for words in ((f"--{name}", "other.txt"), ("--force", f"--{name}=other.txt"), (f"--{name}", "other.txt", "--force")):
+                ran(*words, given=b"node\n", **at).expect_one_line(64, told)
+            expect(other.read_bytes(), SCRIPT.read_bytes())
+            ran("-q", "-", f"--{name}", "other.txt", "--force", given=b"node\n", **at).expect(0, b"ok n1\n")
+            expect(other.read_bytes().startswith(begins), True)
+
+
+@case
+def expected_replies_are_not_written_over():
+    for name, _, _ in WRITING:
+        with own_script() as script:
+            wanted = script.with_name("own.replies")
+            wanted.write_bytes(REPLIES)
+            for words in (("--expect", wanted, f"--{name}", wanted, "--force"), ("--force", f"--{name}", wanted, "--expect", wanted)):
+                ran(*words, script).expect_one_line(64, f"{wanted} has the expected replies, so nothing is written there")
+            expect(wanted.read_bytes(), REPLIES)
+
+
+@case
 def a_picture_or_page_has_the_scripts_name_if_none_is_given():
     for name, suffix, begins in WRITING:
         with own_script() as script:
@@ -76,6 +102,8 @@ def a_picture_or_page_has_the_scripts_name_if_none_is_given():
             expect(script.with_suffix(suffix).read_bytes().startswith(begins), True)
             ran(f"--{name}", given=b"node\n").expect_one_line(64, f"--{name} needs OUT")
             ran("/dev/stdin", f"--{name}", given=b"node\n").expect_one_line(64, f"--{name} needs OUT")
+            with open(script, "rb") as given:
+                ran("/dev/stdin", f"--{name}", given=given).expect_one_line(64, f"--{name} needs OUT")
             expect(sorted(os.listdir(script.parent)), sorted(["own.iox", f"own{suffix}"]))
 
 
@@ -98,15 +126,21 @@ def a_dash_writes_a_picture_or_page_alone_to_standard_output():
             ran("-q", script.name, f"--{name}", cwd=script.parent).expect(0, REPLIES)
             expect((one.status, one.out, one.err), (0, script.with_suffix(suffix).read_bytes(), b""))
             expect(one.out.startswith(begins), True)
-            ran("--json", f"--{name}", "-", script).expect_one_line(64, "same place")
+            told = f"--json and --{name} can't both be written to standard output"
+            ran("--json", f"--{name}", "-", script).expect_one_line(64, told)
             with open(script.with_name("replies"), "wb") as out:
                 other = ran(f"--{name}", "replies", script, cwd=script.parent, stdout=out)
             expect((other.status, other.err.count(b"where the replies go")), (64, 1))
+            with open(script.with_name("messages"), "wb") as err:
+                other = ran(f"--{name}", "messages", script, cwd=script.parent, stderr=err)
+            expect((other.status, script.with_name("messages").read_bytes().count(b"where the messages go")), (64, 1))
             if os.path.exists("/dev/full"):
                 with open("/dev/full", "wb") as full:
                     faulty = ran(f"--{name}", "-", script, stdout=full)
                 expect((faulty.status, faulty.err), (1, b"write fault\n"))
-    ran("--svg", "-", "--html", "-", SCRIPT).expect_one_line(64, "same place")
+    ran("--svg", "-", "--html", "-", SCRIPT).expect_one_line(64, "--svg and --html can't both be written to standard output")
+    ran("--svg", "it", "--html", "./it", SCRIPT).expect_one_line(64, "--svg and --html can't both be written to ./it")
+    ran("--svg", "/dev/stdout", SCRIPT).expect_one_line(64, "/dev/stdout is where the replies go: `--svg -` writes")
 
 
 @case
@@ -161,7 +195,7 @@ def replies_are_compared_with_those_that_are_expected():
             (b"node\nput p1 1\nnode\n", b"ok n1\nok 1\nok n3\n", f'line 2: "ok 1"{second}"skip": p1 doesn\'t exist'),
             (b"node\nnod\n", b"ok n1\nok n2", f'line 2: "ok n2"{second}"err faulty line": "nod" isn\'t a command'),
             (b"node\nnode\n", b"ok n1\n", 'line 2: own.replies ends before this reply, "ok n2"'),
-            (b"node\n", b"ok n1\nok n2\nok n3\n", "own.replies has 2 more replies than came"),
+            (b"node\n", b"ok n1\nok n2\nok n3\n", "own.replies has 2 more replies from line 2 on, and the script has no more lines"),
         ):
             wanted.write_bytes(lines)
             for quiet in ([], ["-q"]):

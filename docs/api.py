@@ -5,7 +5,7 @@ Usage: docs/api.py [FOLDER]    writes the pages into a folder, `out/api` where n
        docs/api.py --lacking   lists the public functions of ports, builders and hubs without an example, and counts them;
                                status 1 where an example calls what isn't there
 
-It reads crates.txt, the sources and definitions of crates/, docs/CRATES.md, docs/DEFINITIONS.md and docs/notes/WORDS.md. The pages need no
+It reads crates.txt, the sources and definitions of crates/, and docs/CRATES.md. The pages need no
 network, and can be copied anywhere. A folder that has other files is left alone.
 """
 

@@ -1,21 +1,20 @@
 #!/usr/bin/env python3
-"""Compares docs/DEFINITIONS.md and docs/notes/WORDS.md with the definitions that the clauses of public functions reach.
+"""Compares docs/DEFINITIONS.md with the definitions that the clauses of public functions reach.
 
-Usage: docs/definitions.py             says which definition has no sentence, and what the pages name that isn't reached or isn't there
+Usage: docs/definitions.py             says which definition has no sentence, and whether the page has the rows that are counted
        docs/definitions.py --counted   prints the rows of the definitions that are counted, in reading order
 
-Each definition that such a clause reaches has a sentence: the comment above it, or a row of WORDS.md. `docs/api.py` writes a page of them.
+Each definition that such a clause reaches has a sentence: the comment above it. `docs/api.py` writes a page of them.
 
 The clauses are those of `requires` and `ensures`, and the ghost members of traits and of their implementations. Views,
-invariants and functions that aren't public count only for what the pages may name beyond that. A clause reaches what it names by
-its `ghost use` lines, and a definition what it names by its `use` lines. Both are read as text: a name counts as used wherever
-it occurs.
+invariants and functions that aren't public don't count. A clause reaches what it names by its `ghost use` lines, and a
+definition what it names by its `use` lines. Both are read as text: a name counts as used wherever it occurs.
 
 Counted is what a reader of the machine's promises must read: all that is reached by the clauses of the headline, of typed calls,
 and of lanes in turn. Of a typed call and of one of lanes each clause counts, `requires` too. Of `run` and `serve` those count
 that are in the machine's words (`HEADLINE`). Their further clauses speak of the code's own relation, numbers, room and places:
 they are the way of the proof, and promise what the machine doesn't know. DEFINITIONS.md has the counted ones, and only these.
-The status is 1 where a page differs, or where the counted ones are more than `MOST`.
+The status is 1 where a sentence is missing, where the page differs, or where the counted ones are more than `MOST`.
 """
 
 import re
@@ -25,9 +24,6 @@ from pathlib import Path
 DOCS = Path(__file__).resolve().parent
 CRATES = DOCS.parent / "crates"
 PAGE = DOCS / "DEFINITIONS.md"
-# What no comment says: of definitions without one, of several together, and of a crate's definitions.
-WORDS = DOCS / "notes" / "WORDS.md"
-SUBJECTS = "## What the definitions of a crate are about"
 NAME = r"[^\s:(){}\[\],;.`]+"
 USE = re.compile(rf"^\s*(?:pub |ghost )*use (Rattle(?:\.{NAME})+?)(?:\.\{{([^}}]*)\}})?(?: as ({NAME}))?;?$", re.M)
 DEFINITION = re.compile(rf"^ *(?:abbrev pub|unfoldable pub|pub record|pub data|@mutual) ({NAME})", re.M)
@@ -190,8 +186,8 @@ def items(text):
             yield *found.groups(), head, item
 
 
-def clauses(crate, all_of_them):
-    """Gives each clause that a caller of the crate reads, or all clauses, views and invariants, with what its file brings in."""
+def clauses(crate):
+    """Gives each clause that a caller of the crate reads, with what its file brings in."""
     texts = sources(crate)
     names, public = exported(texts)
     private = {it for text in texts.values() for it in re.findall(r"^(?:pub\(crate\) )?(?:trait|struct|enum) (\w+)", text, re.M)}
@@ -201,16 +197,16 @@ def clauses(crate, all_of_them):
         for trait, owner, head, item in items(text):
             is_public = module in public or owner in names or owner not in made_here
             is_public = is_public and head.startswith(("pub ", "impl")) and not {owner, trait} & private
-            if not is_public and not all_of_them:
+            if not is_public:
                 continue
             for part in re.split(rf"(?m)^(?=\s*{VISIBLE}(?:final |const )*fn\b)", item):
                 is_private = re.match(r"\s*(?:pub\(crate\) |final |const )*fn\b", part)
-                if is_private and not trait and not head.startswith("pub trait") and not all_of_them:
+                if is_private and not trait and not head.startswith("pub trait"):
                     continue
                 for it in re.finditer(r"\b(?:requires|ensures)\b\*?(?:\s+\w+)?\s*\{", part):
                     yield uses, balanced(part, it.end() - 1)
             for it in re.finditer(r"(?m)^ {4}ghost (\w+)\s*[:=]\s*\{", item):
-                if all_of_them or it[1] not in OF_MODELS:
+                if it[1] not in OF_MODELS:
                     yield uses, balanced(item, it.end() - 1)
 
 
@@ -290,10 +286,10 @@ def in_reading_order(known, found):
     return "\n".join(lines) + "\n"
 
 
-def reached(known, all_of_them=False):
-    """Returns the definitions that the public clauses of all crates reach, or all that are written there."""
+def reached(known):
+    """Returns the definitions that the public clauses of all crates reach."""
     crates = [it.name for it in CRATES.iterdir() if not it.name.endswith("_rows")]
-    return closure(known, {it for crate in crates for uses, text in clauses(crate, all_of_them) for it in uses.reached(text)})
+    return closure(known, {it for crate in crates for uses, text in clauses(crate) for it in uses.reached(text)})
 
 
 def closure(known, asked):
@@ -310,53 +306,6 @@ def closure(known, asked):
 # ---- the page
 
 
-def files_of(cell, crate):
-    """Returns the spec files that the last cell of a row names, and the crate that it names last."""
-    found = set()
-    for path in re.findall(r"`([^`]*)`", cell):
-        folder, _, name = path.rpartition("/")
-        if path.endswith("/specs"):
-            folder, name = path, ""
-        if folder:
-            crate = folder.split("/")[0]
-        found |= {(crate, it.stem) for it in (CRATES / crate / "specs").glob(name or "*.antt")}
-    if "one file" in cell or "fixed-size ones" in cell:
-        found |= {(crate, it.stem) for it in (CRATES / crate / "specs").glob("*.antt")}
-    return found, crate
-
-
-def last_word(name):
-    return re.search(r"([A-Z]|(?<![A-Za-z0-9]))[a-z0-9]*$", name)[0]
-
-
-def listed(known):
-    """Returns the definitions that the pages list, and a line for each name on them that no file has.
-
-    From one name `..` to another stand for those between them in the file with the same last word.
-    """
-    found, strange, crate = set(), [], ""
-    order = list(known)
-    lines = [(page.name, number, line) for page in (PAGE, WORDS) for number, line in enumerate(page.read_text().splitlines(), 1)]
-    for page, number, line in lines:
-        head = re.match(r"## .*\(`crates/(\w+)/specs`\)", line)
-        crate = head[1] if head else crate
-        cells = [it.strip() for it in line.split(" | ")]
-        if not line.startswith("|") or len(cells) != 3 or cells[0] in ("| Definition", "| Definitions", "|---|---|---|"):
-            continue
-        files, crate = files_of(cells[2], crate)
-        for first, last in re.findall(r"`([^`]+)`(?: \.\. `([^`]+)`)?", cells[0]):
-            here = [it for it in order if it[:2] in files and it[2] == first]
-            if not here or last and not any(it[:2] in files and it[2] == last for it in order):
-                strange.append(f"{page}, line {number}: there is no {first if not here else last} in {cells[2].rstrip(' |')}")
-            for it in here:
-                found.add(it)
-                ends = [other for other in order if other[:2] == it[:2] and other[2] == last]
-                for other in order[order.index(it) : order.index(ends[0]) + 1] if ends else []:
-                    if last_word(other[2]) == last_word(last):
-                        found.add(other)
-    return found, strange
-
-
 def main(words):
     if words not in ([], ["--counted"]):
         sys.exit(__doc__)
@@ -367,16 +316,9 @@ def main(words):
         print(first, end="")
         return 0
     wanted = reached(known)
-    allowed = wanted | reached(known, all_of_them=True)
-    on_page, strange = listed(known)
-    missing = [it for it in known if it in wanted - on_page and not known[it][0]]
-    extra = [it for it in known if it in on_page - allowed]
+    missing = [it for it in known if it in wanted and not known[it][0]]
     for it in missing:
         print(f"without a sentence: {it[2]} of {it[0]}/specs/{it[1]}.antt")
-    for it in extra:
-        print(f"not reached: {it[2]} of {it[0]}/specs/{it[1]}.antt")
-    for it in strange:
-        print(it)
     page = PAGE.read_text()
     faults = [f"not on {PAGE.name}: {it}" for it in counts if it not in page]
     if not page.endswith(f"\n{first}"):
@@ -386,8 +328,7 @@ def main(words):
     for it in faults:
         print(it)
     print(f"{len(wanted)} definitions reached, {len(missing)} of them without a sentence; {len(read)} counted")
-    print(f"{len(extra)} listed and not reached, {len(strange)} unknown")
-    return 1 if missing or extra or strange or faults else 0
+    return 1 if missing or faults else 0
 
 
 if __name__ == "__main__":

@@ -42,22 +42,22 @@ class Lanes:
     def receive(self):
         """The steps of a receive, and at the last one its answer too."""
         yield "none", "", "the call begins", None
-        answer, told = "Nothing", "as nothing waits"
+        answer, told = "Nothing", "since nothing waits"
         for place, name in enumerate(NAMES):
             read, write, waits = self.read[place], self.write[place], self.read[place] < self.write[place]
             is_look = sum(it // self.slots == place for it in self.held) >= self.borrowed
-            kind = "as many are borrowed as may be, so this is a look" if is_look else "fewer are borrowed than may be, so this is a take"
+            kind = "the borrow limit is reached, so this is a look" if is_look else "the borrow limit isn't reached, so this is a take"
             yield f"load the {name} connection's read position", read, kind, None
             seen = "a message waits" if waits else "nothing waits"
             yield "load its write position", write, seen + ", and the look says so" * is_look, None
             if is_look and waits:
-                answer, told = "ExceedsMaxBorrows", "as a look saw a message"
+                answer, told = "ExceedsMaxBorrows", "since a look saw a message"
             if not is_look and waits:
                 slot = self.cells[place][read % 2]
                 yield f"load the cell of position {read}", slot, f"the slot of message {self.messages[slot]}", None
                 self.read[place], self.cells[place][read % 2] = read + 1, None
                 self.held.append(slot)
-                yield f"exchange the read position, {read} by {read + 1}", read, f"the take stands here, and gives slot {slot}", None
+                yield f"exchange the read position, {read} by {read + 1}", read, f"the take happens here, and gives slot {slot}", None
                 answer, told = f"Taken {{ place: {place}, slot: {slot} }}", f"message {self.messages[slot]}"
                 break
         yield "none", "", f"the call ends, and answers `{answer.split()[0]}`: {told}", f"Received({answer})"

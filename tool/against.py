@@ -276,9 +276,9 @@ def sources(options) -> Iterator[tuple[str, Source]]:
 
 def run(options) -> int:
     """Holds a program against the model by one script, or by random ones up to the first difference. Returns the status."""
-    others = [key for key, value in vars(options).items() if value and key not in ("against", "random", "file")]
+    others = [key for key, value in vars(options).items() if value and key not in ("against", "random", "file", "names_script")]
     if others or not (options.against or "").strip():
-        stop(MISUSED, "--against COMMAND goes with FILE or --random alone, and --random with it: see ./iox --help")
+        stop(MISUSED, "--against COMMAND takes FILE or --random N and no other option, and --random needs --against: see ./iox --help")
     side, progress, told = Side(options.against), Progress(), Counter[str]()
     try:
         for where, source in sources(options):

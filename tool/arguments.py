@@ -109,9 +109,10 @@ def parser() -> Parser:
 
 
 def read_arguments() -> argparse.Namespace:
-    """Returns the options, with None for a FILE that is standard input."""
+    """Returns the options, with None for a FILE that is standard input, and whether FILE or `-` was named."""
     made = parser()
     options = made.parse_args()
+    options.names_script = options.file is not None
     options.file = None if options.file == "-" else options.file
     for name, others in APART.items():
         found = [it for it in others if getattr(options, it) not in (None, False)]

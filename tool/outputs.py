@@ -31,6 +31,15 @@ def is_file_at(number: int, found: os.stat_result) -> bool:
     return stat.S_ISREG(found.st_mode) and os.path.samestat(found, os.fstat(number))
 
 
+def is_where_replies_go(out: str, found: os.stat_result) -> bool:
+    return os.path.samestat(found, os.fstat(1)) and os.path.realpath(out) != os.devnull
+
+
+def is_replies_file(options: Namespace, found: os.stat_result) -> bool:
+    """Whether it is the file that `--expect` compares with, which is missing perhaps."""
+    return bool(options.expect) and os.path.exists(options.expect) and os.path.samestat(found, os.stat(options.expect))
+
+
 def is_ours(path: str, found: os.stat_result) -> bool:
     """Whether nothing is lost with this file: it is empty, no file on a disk, or a picture or page that was written here."""
     if not stat.S_ISREG(found.st_mode) or not found.st_size:
@@ -40,18 +49,29 @@ def is_ours(path: str, found: os.stat_result) -> bool:
     return any(it in beginning for it in MARKS)
 
 
-def refuse_loss(name: str, out: str, is_forced: bool):
+def refuse_loss(name: str, out: str, options: Namespace):
     """Ends if writing OUT would lose a file of the user's. The script is standard input by now."""
     for it in (out, os.path.realpath(out)):
         if it.lower().endswith(".iox"):
             meant = f"`./iox {it} --{name}` writes {Path(it).with_suffix(KINDS[name][0])}"
             stop(MISUSED, f"{out} is a script, so nothing is written there: {meant}")
     found = look_at(out)
-    if found and is_file_at(0, found):
+    if found is None:
+        return
+    if is_file_at(0, found):
         stop(MISUSED, f"{out} is the script itself, so nothing is written there")
-    if found and is_file_at(1, found):
+    if is_replies_file(options, found):
+        stop(MISUSED, f"{out} has the expected replies, so nothing is written there")
+    if is_where_replies_go(out, found):
         stop(MISUSED, f"{out} is where the replies go: `--{name} -` writes to standard output")
-    if found and not is_forced and not is_ours(out, found):
+    if is_file_at(2, found):
+        stop(MISUSED, f"{out} is where the messages go, so nothing is written there")
+    if is_ours(out, found):
+        return
+    if not options.names_script:
+        meant = f"`./iox {out} --{name}` draws it if it is a script, `./iox - --{name} {out} --force` replaces it"
+        stop(MISUSED, f"{out} exists, and ./iox didn't write it: {meant}")
+    if not options.force:
         stop(MISUSED, f"{out} exists, and ./iox didn't write it: --force replaces it")
 
 
@@ -65,23 +85,30 @@ def refuse_unwritable(out: str):
         stop(NO_INPUT, f"{out}: Permission denied")
 
 
+def default_output(name: str, file: str | None) -> str:
+    """The name of the script with the suffix of what is written. A script without a name of its own, as from a pipe, has no default."""
+    if file is None or not stat.S_ISREG(os.fstat(0).st_mode) or os.path.abspath(file).startswith(("/dev/", "/proc/")):
+        stop(MISUSED, f"--{name} needs OUT, since the script isn't read from a file with a name: see ./iox --help")
+    return str(Path(file).with_suffix(KINDS[name][0]))
+
+
 def choose_outputs(options: Namespace):
     """Gives each option that writes its OUT, and ends if one of them can't be written, or not without a loss."""
-    chosen = ["replies"] * bool(options.json)
-    for name, (suffix, _) in KINDS.items():
+    chosen = {STANDARD_OUTPUT: "--json"} if options.json else {}
+    for name in KINDS:
         out = getattr(options, name)
         if out is None:
             continue
-        if not out and not (options.file and stat.S_ISREG(os.fstat(0).st_mode)):
-            stop(MISUSED, f"--{name} needs OUT, since the script is no file with a name: see ./iox --help")
-        out = out or str(Path(options.file).with_suffix(suffix))
+        out = out or default_output(name, options.file)
         setattr(options, name, out)
         if out != STANDARD_OUTPUT:
-            refuse_loss(name, out, options.force)
+            refuse_loss(name, out, options)
             refuse_unwritable(out)
-        chosen.append("replies" if out == STANDARD_OUTPUT else os.path.realpath(out))
-    if len(chosen) > len(set(chosen)):
-        stop(MISUSED, "two outputs would go to the same place: see ./iox --help")
+        place = out if out == STANDARD_OUTPUT else os.path.realpath(out)
+        if place in chosen:
+            shown = "standard output" if out == STANDARD_OUTPUT else out
+            stop(MISUSED, f"{chosen[place]} and --{name} can't both be written to {shown}")
+        chosen[place] = f"--{name}"
 
 
 def put(target: Path, text: str):
@@ -105,7 +132,7 @@ def write_output(name: str, text: str, options: Namespace):
     if out == STANDARD_OUTPUT:
         write_all(bytearray(text.encode()))
         return
-    refuse_loss(name, out, options.force)
+    refuse_loss(name, out, options)
     target = Path(os.path.realpath(out))
     try:
         if target.exists() and not target.is_file():

@@ -196,7 +196,7 @@ def read_fields(inside: str, line: int) -> tuple[Field, ...]:
         element, count = (array[1], int(array[2])) if array else (kind, None)
         if element not in KINDS or (count or 0) > MOST:
             supported = f"these are, and arrays of 1 to {MOST} of them: {', '.join(KINDS)}"
-            raise NotTaken(f"line {at}: a field of type {kind} isn't supported; {supported}")
+            raise NotTaken(f"line {at}: a field of type {kind} isn't supported (of an enum send its number); {supported}")
         fields.append(Field(name, element, count))
     return tuple(fields)
 

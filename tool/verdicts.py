@@ -52,7 +52,8 @@ class Expect:
         missing = len(self.wanted) - self.count
         if missing > 0 and not self.failed:
             self.failed = True
-            say(f"{self.file} has {missing} more {'reply' if missing == 1 else 'replies'} than came")
+            more = f"{missing} more {'reply' if missing == 1 else 'replies'}"
+            say(f"{self.file} has {more} from line {self.count + 1} on, and the script has no more lines")
 
 
 class Strict:

@@ -1,6 +1,5 @@
 """The page of all definitions that public contracts reach, beside those that docs/DEFINITIONS.md counts: a sentence each, by crate."""
 
-import re
 from html import escape
 
 import definitions
@@ -17,14 +16,6 @@ INTRO = (
 HEAD = "<thead><tr><th>Definition</th><th>In plain words</th><th>File</th></tr></thead>"
 
 
-def subjects():
-    """What docs/notes/WORDS.md says of the definitions of a crate, by the crate; without its links."""
-    table = definitions.WORDS.read_text(encoding="utf-8").partition(definitions.SUBJECTS)[2]
-    table = re.sub(r"\[([^\]]*)\]\([^)]*\)", r"\1", table)
-    rows = re.findall(r"(?m)^\| (`[^|]*`) \| (.*) \|$", table)
-    return {crate: said for crates, said in rows for crate in re.findall(r"`(\w+)`", crates)}
-
-
 def shown_plainly(said):
     return text.inline(said, lambda name: None)
 
@@ -34,20 +25,18 @@ def row(words, it):
     return f"<tr><td>{name}</td><td>{shown_plainly(words.says(it))}</td><td>{escape(path_of(it))}</td></tr>"
 
 
-def section(words, crate, of_crate, said):
-    """The definitions of a crate, behind what they are about."""
+def section(words, crate, of_crate):
+    """The definitions of a crate, behind its name."""
     title = anchor(f"{crate}.html", escape(crate)) if crate in words.library.crates else escape(crate)
-    about = f"<p>{shown_plainly(said)}</p>" if said else ""
     rows = "".join(row(words, it) for it in of_crate)
     table = f'<div class="wide"><table>{HEAD}<tbody>{rows}</tbody></table></div>'
-    return f'<section id="{crate}"><h2>{title}</h2>{about}{table}</section>'
+    return f'<section id="{crate}"><h2>{title}</h2>{table}</section>'
 
 
 def contracts_page(words):
     """The page, and how many definitions it has."""
     wanted = definitions.reached(words.known) - definitions.counted(words.known)[0]
     wanted = [it for it in words.known if it in wanted and words.known[it][0] != definitions.HANDED_ON]
-    about = subjects()
     by_crate = {crate: [it for it in wanted if it[0] == crate] for crate in definitions.crates_in_order()}
-    sections = [section(words, crate, its, about.get(crate)) for crate, its in by_crate.items() if its]
+    sections = [section(words, crate, its) for crate, its in by_crate.items() if its]
     return page(TITLE, INTRO + "\n".join(sections)), sum(map(len, by_crate.values()))

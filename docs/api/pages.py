@@ -319,7 +319,6 @@ def definition(words, it, lines, link):
     parts = [
         f"<h3>{anchor(f'#{here}', escape(it[2]), of_class='here')}</h3>",
         f"<p>{text.inline(words.says(it), lambda name: None)}</p>",
-        f"<p>With others: {text.inline(words.row(it), lambda name: None)}</p>" if words.row(it) else "",
         f'<p class="where"><code>{path_of(it)}</code>, line {start}</p>',
         details("Text", f'<pre tabindex="0"><code>{inner}</code></pre>', "contract", False),
     ]

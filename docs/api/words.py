@@ -17,42 +17,12 @@ DECLARED = re.compile(
 )
 
 
-def sentences(known):
-    """What docs/DEFINITIONS.md and docs/notes/WORDS.md say of each definition that has a row there."""
-    found, crate, of_file = {}, "", {}
-    for it in known:
-        of_file.setdefault(it[:2], []).append(it)
-    for line in "\n".join(it.read_text(encoding="utf-8") for it in (definitions.PAGE, definitions.WORDS)).splitlines():
-        head = re.match(r"## .*\(`crates/(\w+)/specs`\)", line)
-        crate = head[1] if head else crate
-        cells = [it.strip() for it in line.split(" | ")]
-        if not line.startswith("|") or len(cells) != 3 or cells[0] in ("| Definition", "| Definitions", "|---|---|---|"):
-            continue
-        files, crate = definitions.files_of(cells[2], crate)
-        for first, last in re.findall(r"`([^`]+)`(?: \.\. `([^`]+)`)?", cells[0]):
-            for file in files:
-                for it in between(of_file.get(file, []), first, last):
-                    found[it] = cells[1]
-    return found
-
-
-def between(of_file, first, last):
-    """The definition of a name, and with `..` those up to the last one that have its last word."""
-    names = [it[2] for it in of_file]
-    if first not in names:
-        return []
-    start = names.index(first)
-    some = of_file[start + 1 : names.index(last) + 1] if last in names else []
-    return [of_file[start], *(it for it in some if definitions.last_word(it[2]) == definitions.last_word(last))]
-
-
 class Words:
     """All definitions of all crates."""
 
     def __init__(self, library):
         self.library = library
         self.known = definitions.definitions()
-        self.sentences = sentences(self.known)
         self.lines = {}
         for file in definitions.CRATES.glob("*/specs/*.antt"):
             self._find_lines(file)
@@ -72,13 +42,8 @@ class Words:
         return it if it in self.known and it[0] in self.library.crates else None
 
     def says(self, it):
-        """What a definition says: the comment above it, else its row on one of these pages, which may be that of several."""
-        return self.known[it][0] or self.sentences.get(it, "")
-
-    def row(self, it):
-        """Its row on one of these pages, where that says something else."""
-        row = self.sentences.get(it, "")
-        return row if row != self.says(it) else ""
+        """What a definition says: the comment above it."""
+        return self.known[it][0]
 
     def says_plainly(self, it):
         said = self.says(it).replace("`", "")

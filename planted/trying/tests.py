@@ -75,12 +75,12 @@ def copied(scratch: Path, crates: list[str]) -> None:
     subprocess.run(["git", "init", "-q", scratch], check=True)
 
 
-def keep_one(crate: Path, test: str) -> None:
-    """Leaves a single test of a crate: the others are functions that nobody calls."""
-    name = test.rpartition("::")[2]
+def keep_one(crate: Path, *tests: str) -> None:
+    """Leaves these tests of a crate alone. What is no test is not handed a runtime with all handles, so the others go as a whole."""
+    names = "|".join(re.escape(test.rpartition("::")[2]) for test in tests)
     for file in crate.glob("src/**/*.rt"):
         text = file.read_text(encoding="utf-8")
-        kept = re.sub(rf"(?m)^ *#\[test\]\n(?! *(?:pub )?fn {re.escape(name)}\b)", "", text)
+        kept = re.sub(rf"(?ms)^#\[test\]\nfn (?!(?:{names})\b).*?^}}\n", "", text)
         if kept != text:
             file.write_text(kept, encoding="utf-8")
 

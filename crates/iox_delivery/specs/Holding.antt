@@ -23,7 +23,7 @@ publisher_found number (Some ports) = port_of number ports.publishers
 abbrev pub publisher_stands : {T U : Type 0} → ℕ → Option (ServicePorts T U) → Bool
 publisher_stands number ports = passes_port (λ port. port.stands) (publisher_found number ports)
 
--- Whether the publisher with this number exists and a send of it waits.
+-- Whether the publisher with this number exists and a send of it is blocked.
 abbrev pub publisher_blocked : {T U : Type 0} → ℕ → Option (ServicePorts T U) → Bool
 publisher_blocked number ports = passes_port is_blocked (publisher_found number ports)
 

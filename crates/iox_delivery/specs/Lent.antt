@@ -25,7 +25,7 @@ abbrev pub LoanIsFresh : (T U : Type 0) → Type 0
 LoanIsFresh T U = (number values elements slot : ℕ) (old new : ServicePorts T U)
     → LoansBy number values elements old (Some (Ok slot)) new → IsFresh number values elements slot old new
 
--- The loan in this slot has just these values, each written, and so many elements; and no send of its publisher waits.
+-- The loan in this slot has just these values, each written, and so many elements; and no send of its publisher is blocked.
 abbrev pub IsReady : {T U : Type 0} → ℕ → List T → ℕ → ℕ → Option (ServicePorts T U) → Type 0
 IsReady {T} {U} number values elements slot ports =
     (user_header : U) × (loan_found number slot ports

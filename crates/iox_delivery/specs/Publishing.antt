@@ -1,6 +1,6 @@
 -- What the calls of a publisher and of its loans answer and change in their home. `ports_of` finds the ports of a domain in a
 -- home, and `with_ports` replaces them.
-use Rattle.std.specs.Prelude.{ℕ, ◌≡◌, Bool, true, Option, None, Some, Result, Ok, Err}
+use Rattle.std.specs.Prelude.{ℕ, ◌≡◌, Bool, false, true, Option, None, Some, Result, Ok, Err}
 use Rattle.iox_domain.specs.DescribeBase.declared.header.Header.{Header}
 use Rattle.iox_domain.specs.DomainValues.declared.backpressure.BackpressureDecision.{BackpressureDecision}
 use Rattle.iox_domain.specs.DomainValues.declared.backpressure.BackpressureInfo.{BackpressureInfo}
@@ -39,7 +39,7 @@ abbrev pub lent_of : {T U K : Type 0} → ℕ → PortId → Result ℕ LoanErro
 lent_of len port (Ok slot) = Ok (loan_of len port slot)
 lent_of len port (Err error) = Err error
 
--- The answer of a send, with a waiting send as a value.
+-- The answer of a send, with a blocked send as a value.
 abbrev pub sent_of : {T U : Type 0} → PortId → Result Sending SendError → Result (Sent T U) SendError
 sent_of port (Ok (sending.Delivered delivered)) = Ok (sent.Delivered delivered)
 sent_of port (Ok sending.Blocked) = Ok (sent.Blocked (record { port = port; of = record {} }))
@@ -148,6 +148,12 @@ abbrev pub GivesUpLoan : {T U H : Type 0} → (DomainId → H → Option (Servic
 GivesUpLoan ports_of with_ports port slot old new =
     new ≡ changed_at (λ after. with_ports port.domain after old) (gave_up_in port.number slot) (ports_of port.domain old) old
 
+-- What dropping a loan changes: the loan is given up, if it is out; otherwise nothing happens.
+abbrev pub DropsLoan : {T U H : Type 0} → (DomainId → H → Option (ServicePorts T U)) → (DomainId → ServicePorts T U → H → H) → PortId
+    → ℕ → H → Bool → H → Type 0
+DropsLoan ports_of with_ports port slot old false new = new ≡ old
+DropsLoan ports_of with_ports port slot old true new = GivesUpLoan ports_of with_ports port slot old new
+
 -- What a send of a written loan answers and changes.
 abbrev pub SendsSample : {T U H : Type 0} → (DomainId → H → Option (ServicePorts T U)) → (DomainId → ServicePorts T U → H → H)
     → (DomainId → ℕ → H → DegradationInfo → DegradationAction → Type 0)
@@ -168,7 +174,7 @@ SendsCopy {T} {U} {H} ports_of with_ports degrades decides port value old answer
     × LendsValue ports_of with_ports port value old lent middle
     × AfterLoan (λ error. Err (refusal.LoanError error)) (SendsSample ports_of with_ports degrades decides port) lent middle answer new
 
--- What one more try of a waiting send answers and changes.
+-- What one more try of a blocked send answers and changes.
 abbrev pub RetriesSend : {T U H : Type 0} → (DomainId → H → Option (ServicePorts T U)) → (DomainId → ServicePorts T U → H → H)
     → (DomainId → ℕ → H → BackpressureInfo → BackpressureDecision → Type 0) → PortId → ℕ → H → Result (Sent T U) SendError → H → Type 0
 RetriesSend ports_of with_ports decides port elapsed old answer new =
@@ -177,13 +183,13 @@ RetriesSend ports_of with_ports decides port elapsed old answer new =
     (ports_of port.domain old) old (Some outcome) new
     × (answer ≡ sent_of port outcome)
 
--- What giving up a waiting send answers and changes.
+-- What giving up a blocked send answers and changes.
 abbrev pub GivesUpSend : {T U H : Type 0} → (DomainId → H → Option (ServicePorts T U)) → (DomainId → ServicePorts T U → H → H) → PortId
     → H → ℕ → H → Type 0
 GivesUpSend ports_of with_ports port old answer new =
     AtDomain (λ after. with_ports port.domain after old) (GivesUpBy port.number) (ports_of port.domain old) old (Some answer) new
 
--- What dropping a waiting send answers and changes: the send is given up, if it waits.
+-- What dropping a blocked send answers and changes: the send is given up, if it is blocked.
 abbrev pub EndsSend : {T U H : Type 0} → (DomainId → H → Option (ServicePorts T U)) → (DomainId → ServicePorts T U → H → H) → PortId → H
     → Option ℕ → H → Type 0
 EndsSend ports_of with_ports port old answer new =

@@ -11,7 +11,7 @@ use crate::kind::{Kind, Single, Slice};
 use crate::loan::{LoanState, Uninit, Written};
 
 /// A loan that was just made is found in its slot: none of its values is written, it has the user header that its publisher
-/// gives new loans, and its header says that publisher and no sequence number. The publisher is open, and no send of it waits.
+/// gives new loans, and its header says that publisher and no sequence number. The publisher is open, and no send of it is blocked.
 pub fn loan_is_fresh<T, U>()
     ensures { LoanIsFresh T U }
 {}

@@ -8,7 +8,7 @@
 //! - [`loan`]: what loans have in common.
 //! - [`sample_mut_uninit`]: a loan that isn't written yet.
 //! - [`sample_mut`]: a loan that is written.
-//! - [`sent`]: what a send answers, and a send that waits.
+//! - [`sent`]: what a send answers, and a blocked send.
 //! - [`subscriber`]: a subscriber.
 //! - [`sample`]: a message that was received.
 //! - [`update_connections`]: the trait of ports that follow those of the other side.
@@ -17,7 +17,7 @@
 //! - [`slices`]: publishers, subscribers, loans and samples of slices.
 //! - [`laws`]: what a loan is that was just made; what may be sent, and what may be read.
 //!
-//! Publishers and subscribers are copied, as numbers are. A loan, a sample and a waiting send are consumed by the call that
+//! Publishers and subscribers are copied, as numbers are. A loan, a sample and a blocked send are consumed by the call that
 //! ends them.
 //!
 //! First calls, of a publisher and of a subscriber; a hub is a home, too:
@@ -26,21 +26,18 @@
 //! let loan = publisher.loan_uninit(alloc, home).ok()?;
 //! let sample = loan.write_payload(home, 7);
 //! if !sample.holds(home) || sample.is_blocked(home) {
-//!     sample.drop_with(home);
+//!     let _ = sample.drop_with(home).map_err(|sample| sample.into_slot());
 //!     return None;
 //! }
 //! match sample.send(alloc, home) {
 //!     Ok(Sent::Delivered(count)) => Some(count),
-//!     Ok(Sent::Blocked(blocked)) => {
-//!         blocked.drop_with(home);
-//!         None
-//!     }
+//!     Ok(Sent::Blocked(blocked)) => blocked.drop_with(home).map_err(|blocked| blocked.into_port()).ok(),
 //!     Err(_) => None,
 //! }
 //! // the subscriber's side
 //! let sample = subscriber.receive(alloc, home).ok()??;
 //! if !sample.holds(home) {
-//!     sample.drop_with(home);
+//!     let _ = sample.into_taken();
 //!     return None;
 //! }
 //! let value = *sample.payload(home);

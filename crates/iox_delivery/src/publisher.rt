@@ -74,7 +74,7 @@ impl<T: Copy, U: Copy, K> Publisher<T, U, K> {
         publishing::holds(self.port, home)
     }
 
-    /// Whether a send of the publisher waits; its calls require that none does.
+    /// Whether a send of the publisher is blocked; its calls require that none is.
     /// Example: `let waits = publisher.is_blocked(home);`
     pub fn is_blocked<H: Home<T, U>>(&self, home: &H) -> bool
         ensures { result ≡ publisher_blocked self.now.port.number (homes.ports_of H.domain_of self.now.port.domain home.now) }
@@ -82,7 +82,7 @@ impl<T: Copy, U: Copy, K> Publisher<T, U, K> {
         publishing::is_blocked(self.port, home)
     }
 
-    /// Drops the publisher: it is closed as by `leave`, if it is open in this home and no send of it waits. Otherwise nothing
+    /// Drops the publisher: it is closed as by `leave`, if it is open in this home and no send of it is blocked. Otherwise nothing
     /// happens, and the publisher is returned, so that it can be closed in its own home, or once that send has ended.
     ///
     /// Ported from dropping an `iceoryx2::port::publisher::Publisher`.
@@ -136,7 +136,7 @@ impl<T: Copy, U: Copy> Publisher<T, U> {
     }
 
     /// Loans a value that is written with a default. The call fails as `loan_uninit` does. The loan can be sent at once: it is
-    /// written, and no send waits.
+    /// written, and no send is blocked.
     ///
     /// Ported from `iceoryx2::port::publisher::Publisher::loan`.
     /// Example: `let sample = publisher.loan(alloc, home)?;`

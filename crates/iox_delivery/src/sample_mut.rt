@@ -36,7 +36,7 @@ impl<T: Copy, U: Copy, K: Kind<T, U>> SampleMut<T, U, K> {
         }
     }
 
-    /// Whether a send of the loan's publisher waits; `send` requires that none does.
+    /// Whether a send of the loan's publisher is blocked; `send` requires that none is.
     /// Example: `let waits = sample.is_blocked(home);`
     pub fn is_blocked<H: Home<T, U>>(&self, home: &H) -> bool
         ensures { result ≡ publisher_blocked self.now.port.number (homes.ports_of H.domain_of self.now.port.domain home.now) }

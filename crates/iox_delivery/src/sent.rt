@@ -1,6 +1,7 @@
-//! What a send answers, and a send that waits.
+//! What a send answers, and a blocked send.
 ghost use Rattle.iox_domain.specs.Homes as homes;
-ghost use Rattle.std.specs.Prelude.{◌≡◌, true};
+ghost use Rattle.std.specs.Prelude.{◌≡◌, true, IfErr};
+ghost use Rattle.std.specs.Result.{result_ok};
 ghost use Rattle.iox_delivery.specs.Holding.{publisher_blocked};
 ghost use Rattle.iox_delivery.specs.Publishing.{sent_of, RetriesSend, GivesUpSend, EndsSend};
 
@@ -17,11 +18,11 @@ use std::marker::PhantomData;
 pub enum Sent<T, U> {
     /// The send is finished, and so many connections took the message.
     Delivered(usize),
-    /// The send waits at a full mailbox.
+    /// The send is blocked at a full mailbox.
     Blocked(BlockedSend<T, U>),
 }
 
-/// A send that waits at a full mailbox, until it is tried again or given up. Until then its publisher can't loan, send or
+/// A send that is blocked at a full mailbox, until it is tried again or given up. Until then its publisher can't loan, send or
 /// update.
 ///
 /// Not in `iceoryx2`: `iceoryx2::port::publisher::Publisher::send` waits itself.
@@ -31,7 +32,7 @@ pub struct BlockedSend<T, U> {
 }
 
 impl<T: Copy, U: Copy> BlockedSend<T, U> {
-    /// Whether the send waits in this home, which its calls require.
+    /// Whether the send is blocked in this home, which its calls require.
     /// Example: `let waits = blocked.holds(home);`
     pub fn holds<H: Home<T, U>>(&self, home: &H) -> bool
         ensures { result ≡ publisher_blocked self.now.port.number (homes.ports_of H.domain_of self.now.port.domain home.now) }
@@ -39,7 +40,7 @@ impl<T: Copy, U: Copy> BlockedSend<T, U> {
         publishing::is_blocked(self.port, home)
     }
 
-    /// Tries the mailbox at which the send waits once more, `elapsed_ns` nanoseconds after it was first found full, and
+    /// Tries once more the mailbox at which the send is blocked, `elapsed_ns` nanoseconds after it was first found full, and
     /// continues; the call answers as the send did. The count of retries at the mailbox is one higher.
     ///
     /// Not in `iceoryx2`.
@@ -60,16 +61,33 @@ impl<T: Copy, U: Copy> BlockedSend<T, U> {
         }
     }
 
-    /// Drops the send: it is given up as by `give_up`, if it waits, and the call answers how many connections took the message.
-    /// None, and nothing happens, if the send doesn't wait.
+    /// Drops the send: it is given up as by `give_up`, if it waits, and the call answers how many connections took the message. Otherwise
+    /// nothing happens, and the send is given back: its own home can give it up.
     ///
     /// Not in `iceoryx2`.
-    /// Example: `let delivered = blocked.drop_with(home);`
-    pub fn drop_with<H: Home<T, U>>(self, home: &mut H) -> Option<usize>
-        ensures { EndsSend (homes.ports_of H.domain_of) (homes.with_ports H.changed) self.port home.old result home.new }
+    /// Example: `let delivered = blocked.drop_with(home).ok();`
+    pub fn drop_with<H: Home<T, U>>(self, home: &mut H) -> Result<usize, Self>
+        ensures ends { EndsSend (homes.ports_of H.domain_of) (homes.with_ports H.changed) self.port home.old (result_ok result) home.new }
+        ensures left { IfErr result (λ back. back ≡ self) }
+    {
+        match publishing::end_send(self.port, home) {
+            Some(delivered) => {
+                let _ = self.into_port();
+                Ok(delivered)
+            }
+            None => Err(self),
+        }
+    }
+
+    /// The port whose send it is. The send goes on waiting.
+    ///
+    /// Not in `iceoryx2`.
+    /// Example: `let port = blocked.into_port();`
+    pub fn into_port(self) -> PortId
+        ensures { result ≡ self.port }
     {
         let BlockedSend { port, of: _ } = self;
-        calls::ports_mut(home, port.domain)?.give_up(port.number)
+        port
     }
 
     /// Gives up the send, and answers how many connections took the message.
@@ -91,7 +109,7 @@ impl<T: Copy, U: Copy> BlockedSend<T, U> {
     }
 }
 
-// The answer of a send, with a waiting send as a value.
+// The answer of a send, with a blocked send as a value.
 pub(crate) fn sent_of<T, U>(
     port: PortId,
     sent: Result<Sending, SendError>,

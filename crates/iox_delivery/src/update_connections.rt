@@ -20,7 +20,7 @@ pub trait UpdateConnections<T, U> {
     // The id of the port.
     ghost port_of: { Self → PortId };
 
-    // Whether the port with this number may follow: it is open, and no send of it waits.
+    // Whether the port with this number may follow: it is open, and no send of it is blocked.
     ghost may_follow: { ℕ → Option (ServicePorts T U) → Bool };
 
     // What following answers and changes at the port with this number, if the handlers of publishers and of subscribers may

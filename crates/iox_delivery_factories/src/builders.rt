@@ -14,7 +14,7 @@ use iox_domain_values::{
 };
 use std::marker::PhantomData;
 
-/// A builder of publishers of a domain, for a node and an owner. Its defaults are two loans, sends that wait at a full mailbox,
+/// A builder of publishers of a domain, for a node and an owner. Its defaults are two loans, sends that block at a full mailbox,
 /// slices of one value, slots that don't grow, sequence numbers from 1 on, as many slots as the worst case needs, no handler
 /// for full mailboxes, and `Warn` for failed connections. An element has more than one value only if the values are the bytes
 /// of a payload that the description defines.

@@ -13,7 +13,7 @@ use Rattle.iox_domain.specs.DomainValues.declared.degradation.DegradationInfo.{D
 abbrev pub passes_over : DegradationCause → DegradationInfo → DegradationAction → Type 0
 passes_over cause info action = action ≡ Warn
 
--- A send waits at a full mailbox.
+-- A send blocks at a full mailbox.
 abbrev pub waits : BackpressureInfo → BackpressureDecision → Type 0
 waits info decision = decision ≡ Retry
 

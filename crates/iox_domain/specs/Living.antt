@@ -9,7 +9,7 @@ use Rattle.iox_domain.specs.declared.ports.service_ports.ServicePorts.{ServicePo
 abbrev pub living_subscribers : Option ℕ → List (ℕ × SubscriberPort) → ℕ
 living_subscribers owner ports = sum_by (λ port. counted owner port.owner.number (living_of_subscriber port)) (values_of ports)
 
--- How much of the owner is alive, or of all owners if none is named: open ports, loans and waiting sends, which count for the
+-- How much of the owner is alive, or of all owners if none is named: open ports, loans and blocked sends, which count for the
 -- owner of their publisher, and held samples, which count for the owner of the subscriber that received them.
 abbrev pub living : {T U : Type 0} → Option ℕ → ServicePorts T U → ℕ
 living owner ports = living_publishers owner ports.publishers + living_subscribers owner ports.subscribers

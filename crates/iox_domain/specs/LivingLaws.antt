@@ -8,7 +8,7 @@ use Rattle.iox_domain.specs.Ports.{no_ports}
 use Rattle.iox_domain.specs.Living.{living}
 use Rattle.iox_domain.specs.declared.ports.service_ports.ServicePorts.{ServicePorts}
 
--- The publisher is closed, and has no loans and no send that waits.
+-- The publisher is closed, and has no loans and no blocked send.
 pub record IsSilent {T U : Type 0} (port : PublisherPort T U) : Type 0 where
   pub left : port.stands ≡ false
   pub loans : port.sender.uses.loans ≡ []
@@ -19,7 +19,7 @@ pub record IsEmptied (port : SubscriberPort) : Type 0 where
   pub left : port.stands ≡ false
   pub held : port.held ≡ 0
 
--- No port is open, no loan exists, no send waits, and no sample is held.
+-- No port is open, no loan exists, no send is blocked, and no sample is held.
 abbrev pub NothingLives : {T U : Type 0} → ServicePorts T U → Type 0
 NothingLives ports = All IsSilent (values_of ports.publishers) × All IsEmptied (values_of ports.subscribers)
 

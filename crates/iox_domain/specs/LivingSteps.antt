@@ -48,7 +48,7 @@ LoanAdds number None old new = AsMuchLives old new
 LoanAdds number (Some (Err error)) old new = AsMuchLives old new
 LoanAdds number (Some (Ok slot)) old new = OneMoreLives number old new
 
--- A send that is finished takes one away, that of its loan; while the send waits it counts as its loan did.
+-- A send that is finished takes one away, that of its loan; while the send is blocked it counts as its loan did.
 abbrev pub SendTakes : {T U : Type 0} → ℕ → Option (Result Sent SendError) → ServicePorts T U → ServicePorts T U → Type 0
 SendTakes number None old new = AsMuchLives old new
 SendTakes number (Some (Ok sent.Blocked)) old new = AsMuchLives old new

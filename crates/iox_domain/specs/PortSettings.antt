@@ -5,7 +5,7 @@ use Rattle.iox_domain_values.specs.declared.data_segment.AllocationStrategy.TheV
 use Rattle.iox_domain.specs.declared.settings.publisher_settings.PublisherSettings.{PublisherSettings}
 use Rattle.iox_domain.specs.declared.settings.subscriber_settings.SubscriberSettings.{SubscriberSettings}
 
--- The defaults of a publisher: two loans, sends that wait at a full mailbox, slices of one value, slots that don't grow, and
+-- The defaults of a publisher: two loans, sends that block at a full mailbox, slices of one value, slots that don't grow, and
 -- sequence numbers from 1 on.
 abbrev pub publisher_defaults : PublisherSettings
 publisher_defaults = record {

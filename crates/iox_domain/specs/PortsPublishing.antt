@@ -18,11 +18,11 @@ use Rattle.iox_domain.specs.Ports.{with_publisher}
 use Rattle.iox_domain.specs.Rolls.{RollState, IsListOf, left}
 use Rattle.iox_domain.specs.declared.ports.service_ports.ServicePorts.{ServicePorts}
 
--- Whether a send of the publisher waits at a full mailbox.
+-- Whether a send of the publisher is blocked at a full mailbox.
 abbrev pub is_blocked : {T U : Type 0} → PublisherPort T U → Bool
 is_blocked port = is_some port.sender.uses.sending
 
--- Whether the publisher is open, and no send of it waits.
+-- Whether the publisher is open, and no send of it is blocked.
 abbrev pub is_free : {T U : Type 0} → PublisherPort T U → Bool
 is_free port = port.stands && not (is_blocked port)
 
@@ -47,7 +47,7 @@ SendsOne may_degrade may list slot port answer after =
     (listed : List (Option (Member SubscriberEntry))) × IsListOf listed list
     × Sends may_degrade may listed list.changes (ready_loan slot port) port answer after
 
--- If a send waits, it is tried again; otherwise nothing happens.
+-- If a send is blocked, it is tried again; otherwise nothing happens.
 abbrev pub RetriesIf : {T U : Type 0} → Bool → (BackpressureInfo → BackpressureDecision → Type 0) → ℕ → PublisherPort T U
     → Option (Result Sent SendError) → PublisherPort T U → Type 0
 RetriesIf false may elapsed port answer after = (answer ≡ None) × (after ≡ port)
@@ -55,17 +55,17 @@ RetriesIf true may elapsed port answer after =
     (outcome : Result Sent SendError) × Finishes may (with_progress (tried_again elapsed port.progress) port) outcome after
     × (answer ≡ Some outcome)
 
--- What a retry of the publisher's waiting send answers and changes.
+-- What a retry of the publisher's blocked send answers and changes.
 abbrev pub RetriesOne : {T U : Type 0} → (BackpressureInfo → BackpressureDecision → Type 0) → ℕ → PublisherPort T U
     → Option (Result Sent SendError) → PublisherPort T U → Type 0
 RetriesOne may elapsed port answer after = RetriesIf (is_blocked port) may elapsed port answer after
 
--- If a send waits, it is given up; otherwise nothing happens.
+-- If a send is blocked, it is given up; otherwise nothing happens.
 abbrev pub GivesUpIf : {T U : Type 0} → Bool → PublisherPort T U → Option ℕ → PublisherPort T U → Type 0
 GivesUpIf false port answer after = (answer ≡ None) × (after ≡ port)
 GivesUpIf true port answer after = (answer ≡ Some port.progress.delivered) × (after ≡ concluded true port)
 
--- What giving up the publisher's waiting send answers and changes: it answers how many connections took the message.
+-- What giving up the publisher's blocked send answers and changes: it answers how many connections took the message.
 abbrev pub GivesUpOne : {T U : Type 0} → PublisherPort T U → Option ℕ → PublisherPort T U → Type 0
 GivesUpOne port answer after = GivesUpIf (is_blocked port) port answer after
 

@@ -51,13 +51,13 @@ abbrev pub PutsBy : {T U : Type 0} → (DegradationInfo → DegradationAction �
 PutsBy may_degrade may number values old answer new
     = AtPublisher number (PutsOne may_degrade may old.subscriber_list values) (port_of number old.publishers) old answer new
 
--- What a retry of the waiting send of the publisher with this number answers and changes.
+-- What a retry of the blocked send of the publisher with this number answers and changes.
 abbrev pub RetriesBy : {T U : Type 0} → (BackpressureInfo → BackpressureDecision → Type 0) → ℕ → ℕ → ServicePorts T U
     → Option (Result Sent SendError) → ServicePorts T U → Type 0
 RetriesBy may number elapsed old answer new
     = AtPublisher number (publishing.RetriesOne may elapsed) (port_of number old.publishers) old answer new
 
--- What giving up the waiting send of the publisher with this number answers and changes.
+-- What giving up the blocked send of the publisher with this number answers and changes.
 abbrev pub GivesUpBy : {T U : Type 0} → ℕ → ServicePorts T U → Option ℕ → ServicePorts T U → Type 0
 GivesUpBy number old answer new = AtPublisher number publishing.GivesUpOne (port_of number old.publishers) old answer new
 

@@ -95,13 +95,13 @@ pub record SendReachesOnce (T U : Type 0) (decide : BackpressureInfo → Backpre
       → count ≡ new.progress.delivered
   pub gives_up : (count : ℕ) (port after : PublisherPort T U) → GivesUpOne port (Some count) after → count ≡ port.progress.delivered
 
--- Whether the call continues the waiting send of this publisher, or gives it up.
+-- Whether the call continues the blocked send of this publisher, or gives it up.
 abbrev pub goes_on_with : {T U : Type 0} → ℕ → PortCall T U → Bool
 goes_on_with publisher (Retries number elapsed answer) = publisher == number
 goes_on_with publisher (GivesSendUp number answer) = publisher == number
 goes_on_with publisher call = false
 
--- After each call, except those that continue it or give it up, a waiting send is where it was, whichever port makes the call.
+-- After each call, except those that continue it or give it up, a blocked send is where it was, whichever port makes the call.
 pub record SendWaits (T U : Type 0) (overrides : ℕ → ℕ → Type 0) (may : DegradationInfo → DegradationAction
     → Type 0) (decide : BackpressureInfo → BackpressureDecision → Type 0) : Type 0 where
   pub waits : (call : PortCall T U) (old new : ServicePorts T U) (publisher : ℕ) (port : PublisherPort T U)

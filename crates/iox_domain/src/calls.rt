@@ -137,7 +137,7 @@ pub fn put<T: Copy, U: Copy, H: Home<T, U>>(
     domain.put(alloc, number, values)
 }
 
-/// The publisher's waiting send is tried again, `elapsed` nanoseconds after its mailbox was first found full:
+/// The publisher's blocked send is tried again, `elapsed` nanoseconds after its mailbox was first found full:
 /// `ServicePorts::retry` says what that does. The call answers None, and nothing happens, also if the home doesn't contain the
 /// domain.
 ///

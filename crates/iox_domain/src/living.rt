@@ -5,7 +5,7 @@ ghost use Rattle.iox_domain.specs.Living.{living};
 use crate::domain::Domain;
 
 impl<T: Copy, U: Copy, B, D> Domain<T, U, B, D> {
-    /// How much of the owner is alive: its ports, its loans, its waiting sends, and its samples, as `ServicePorts::living`
+    /// How much of the owner is alive: its ports, its loans, its blocked sends, and its samples, as `ServicePorts::living`
     /// counts them. At most 2^64 - 1 is answered.
     ///
     /// Not in `iceoryx2`, which counts the references of a service.

@@ -6,7 +6,7 @@ use iox_domain_values::{
     DegradationInfo, Degrades,
 };
 
-/// The handler that is used if none is set: a send waits at a full mailbox, and a failed connection is answered with `Warn`.
+/// The handler that is used if none is set: a send blocks at a full mailbox, and a failed connection is answered with `Warn`.
 #[derive(Drop)]
 pub struct Nobody;
 

@@ -141,7 +141,7 @@ impl<T: Copy, U: Copy, B: Decides + Degrades, D: Degrades> DomainState<T, U, B, 
         }
     }
 
-    /// Tries the place at which the publisher's send waits once more, `elapsed` nanoseconds after its mailbox was first found
+    /// Tries once more the place at which the publisher's send is blocked, `elapsed` nanoseconds after its mailbox was first found
     /// full: `ServicePorts::retry` says what that does.
     ///
     /// Not in `iceoryx2`: `iceoryx2::port::publisher::Publisher::send` waits itself.

@@ -34,7 +34,7 @@ abbrev pub done_or_skipped : {T : Type 0} → Bool → Reply T
 done_or_skipped true = reply.Done
 done_or_skipped false = reply.Skipped
 
--- The reply after a send was given up, with how many connections took its message; or after no send waited.
+-- The reply after a send was given up, with how many connections took its message; or the reply if no send was blocked.
 abbrev pub gave_up_or_skipped : {T : Type 0} → Option ℕ → Reply T
 gave_up_or_skipped None = reply.Skipped
 gave_up_or_skipped (Some count) = reply.Delivered count
@@ -108,7 +108,7 @@ module _ (T U : Type 0) (choices : Choices T) where
       → (message : domain.Message T U) × (sample_in taken ports ≡ Some message)
       × Matches types buffer (command.Sequence sample) (reply.Sequence message.sequence) state service names lent held ports
 
-  -- Giving up a waiting send matches the command.
+  -- Giving up a blocked send matches the command.
   abbrev pub GiveUpMatches : Type 0
   GiveUpMatches = (types : MessageTypeDetails) (buffer : ℕ) (names : Naming) (lent : List (ℕ × LentSlot)) (held : List (ℕ × Taken))
       (old new : ServicePorts T U)

@@ -13,8 +13,8 @@ use Rattle.iox_domain_machine.specs.Naming.{message_as}
 use Rattle.iox_machine.specs.PortList.{those}
 use Rattle.iox_machine.specs.Service.{Publisher, Send}
 
--- The waiting send of the domain represents that of the machine: it has the same message, goes to the subscribers that are
--- connected at the remaining places, and was taken by as many so far. It waits at the first of these places, where a subscriber
+-- The blocked send of the domain represents that of the machine: it has the same message, goes to the subscribers that are
+-- connected at the remaining places, and was taken by as many so far. It is blocked at the first of these places, where a subscriber
 -- is connected, and was tried there as often, counted up to 2^64 - 1, and for as long.
 pub record SendStandsFor {T U : Type 0} (name : ℕ → ℕ) (connected : List (Option ℕ)) (progress : ProgressState)
     (sent : domain.Message T U) (send : Send T) : Type 0 where
@@ -26,7 +26,7 @@ pub record SendStandsFor {T U : Type 0} (name : ℕ → ℕ) (connected : List (
   pub elapsed : progress.elapsed ≡ send.elapsed
   pub meets : is_some (get_or connected progress.place None) ≡ true
 
--- A send waits at both publishers, and represents the machine's; or it waits at neither.
+-- A send is blocked at both publishers, and represents the machine's; or no send is blocked at either.
 abbrev pub BlockedStandsFor : {T U : Type 0} → (ℕ → ℕ) → List (Option ℕ) → ProgressState → Option (domain.Message T U) → Option (Send T)
     → Type 0
 BlockedStandsFor name connected progress None blocked = blocked ≡ None
@@ -46,7 +46,7 @@ pub record NamesSlots (name : ℕ → ℕ) (uses : Uses ℕ ℕ) (first next : �
 
 -- A publisher of a domain represents this one of the machine, with these names of messages by their slots and of subscribers by
 -- the indices of their connections; at most `most_subscribers` are listed. No message is in the history twice, an element is
--- one value, no send of a closed publisher waits, and there is at least one slot.
+-- one value, no send of a closed publisher is blocked, and there is at least one slot.
 pub record PublisherStandsFor {T U : Type 0} (name reader : ℕ → ℕ) (most_subscribers : ℕ) (port : PublisherPort T U)
     (publisher : Publisher T) : Type 0 where
   pub factory : publisher.factory ≡ port.owner.number

@@ -48,7 +48,7 @@ DecidesAs choices may name publisher =
     → choices.publisher_decides name retries info.elapsed_time (decision_of publisher.strategy publisher.handler) decision
 
 module _ (T U : Type 0) (choices : Choices T) (may : BackpressureInfo → BackpressureDecision → Type 0) where
-  -- Retrying a waiting send, after this number of nanoseconds, matches the command. The theorem assumes that the ports are
+  -- Retrying a blocked send, after this number of nanoseconds, matches the command. The theorem assumes that the ports are
   -- roomy, as they are after any calls (`SamplesLeft`), and that each decision at a full mailbox is a choice of the machine's
   -- publisher.
   abbrev pub RetryMatches : Type 0

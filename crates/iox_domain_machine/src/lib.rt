@@ -102,7 +102,7 @@ pub fn names_in_use_stay<T, U>()
     ensures { NamesStay T U }
 {}
 
-/// Giving up a waiting send matches the command, with the same number of connections that took its message. If no send waits,
+/// Giving up a blocked send matches the command, with the same number of connections that took its message. If no send is blocked,
 /// or the publisher is closed, nothing happens.
 pub fn giving_up_a_send_matches<T: Default, U, B: Decides + Degrades, D: Degrades>()
     ensures { (handed : Handed B D) → GiveUpMatches T U (chosen_by T.is_default (λ who. B.decides who)
@@ -118,7 +118,7 @@ pub fn releasing_a_sample_matches<T: Default, U, B: Decides + Degrades, D: Degra
 {}
 
 /// Closing a publisher matches the command: it is removed from the list, and its connections from which no subscriber reads
-/// end. If it isn't open, or a send of it waits, nothing happens. One more change of the list of publishers must be countable,
+/// end. If it isn't open, or a send of it is blocked, nothing happens. One more change of the list of publishers must be countable,
 /// and the ports must be sound, as they are after any calls (`iox_domain::port_laws::messages::held_stays`).
 pub fn leaving_of_a_publisher_matches<T: Default, U, B: Decides + Degrades, D: Degrades>()
     ensures { (handed : Handed B D) → PublisherLeaveMatches T U (chosen_by T.is_default (λ who. B.decides who)
@@ -134,7 +134,7 @@ pub fn leaving_of_a_subscriber_matches<T: Default, U, B: Decides + Degrades, D: 
         (λ who. B.degrades who) (λ who. D.degrades who) handed) }
 {}
 
-/// The loan of values that aren't written matches the command: it is skipped if a send waits or the publisher is closed, and
+/// The loan of values that aren't written matches the command: it is skipped if a send is blocked or the publisher is closed, and
 /// fails if the machine's does. The ports must be sound, as they are after any calls
 /// (`iox_domain::port_laws::messages::held_stays`), and no loan may have the next number yet.
 pub fn lending_uninit_matches<T: Default, U, B: Decides + Degrades, D: Degrades>()
@@ -150,7 +150,7 @@ pub fn a_domain_among_others_matches<T: Default, U, B: Decides + Degrades, D: De
         (λ who. B.degrades who) (λ who. D.degrades who) handed) }
 {}
 
-/// The loan of values, each of which is then written as the same default, matches the command: it is skipped if a send waits or
+/// The loan of values, each of which is then written as the same default, matches the command: it is skipped if a send is blocked or
 /// the publisher is closed, and fails if the machine's does. The ports must be sound, as they are after any calls
 /// (`iox_domain::port_laws::messages::held_stays`), and no loan may have the next number yet.
 pub fn lending_matches<T: Default, U, B: Decides + Degrades, D: Degrades>()
@@ -181,7 +181,7 @@ pub fn asking_for_samples_matches<T: Default, U, B: Decides + Degrades, D: Degra
 
 /// Updating a publisher matches the command: connections of closed subscribers end, and each listed subscriber gets a
 /// connection, with as much of the history as may wait if the connection is new, or the connection fails because memory runs
-/// out. An update that the handler lets fail returns the first failure. The command is skipped if a send waits or the publisher
+/// out. An update that the handler lets fail returns the first failure. The command is skipped if a send is blocked or the publisher
 /// is closed, and nothing changes if the list didn't. Each answer of the handler must be a choice of the machine's
 /// publisher. Ties must be apart, and sizes those allowed, as they are after any calls
 /// (`iox_domain::port_laws::messages::at_most_once`, `iox_domain::port_laws::service::sizes_agree`).
@@ -190,8 +190,8 @@ pub fn updating_a_publisher_matches<T: Default, U, B: Decides + Degrades, D: Deg
         (λ who. B.degrades who) (λ who. D.degrades who) handed) (D.degrades _handler.now cause.FailedToEstablishConnection) }
 {}
 
-/// Retrying a waiting send matches the command: in both the send comes to the same subscribers in the same order, makes the
-/// same decisions at full mailboxes, and waits again, is finished or fails. If no send waits, or the publisher is closed,
+/// Retrying a blocked send matches the command: in both the send comes to the same subscribers in the same order, makes the
+/// same decisions at full mailboxes, and is blocked again, is finished or fails. If no send is blocked, or the publisher is closed,
 /// nothing happens. The ports must be roomy, as they are after any calls
 /// (`iox_domain::allowances::samples::samples_left_by_calls`), and each decision at a full mailbox must be a choice of the
 /// machine's publisher.
@@ -201,9 +201,9 @@ pub fn retrying_a_send_matches<T: Default, U, B: Decides + Degrades, D: Degrades
 {}
 
 /// Sending a loan matches the command: the loan ends, and its message gets into the history and, in both, to the same connected
-/// subscribers in the same order; the send waits, is finished or fails. If the list of subscribers changed the publisher
+/// subscribers in the same order; the send is blocked, is finished or fails. If the list of subscribers changed the publisher
 /// follows it first; if memory runs out and the handler lets the call fail, the loan is dropped and the error returned. The
-/// send of a closed publisher drops the loan, too. If some of the loan isn't written, or a send waits, nothing happens. The
+/// send of a closed publisher drops the loan, too. If some of the loan isn't written, or a send is blocked, nothing happens. The
 /// ports must be roomy, as they are after any calls (`iox_domain::allowances::samples::samples_left_by_calls`). Each decision
 /// at a full mailbox, and each answer for a failed connection, must be a choice of the machine's publisher.
 pub fn sending_a_loan_matches<T: Default, U, B: Decides + Degrades, D: Degrades>(_handlers: &B)
@@ -212,7 +212,7 @@ pub fn sending_a_loan_matches<T: Default, U, B: Decides + Degrades, D: Degrades>
         (B.degrades _handlers.now cause.FailedToEstablishConnection) }
 {}
 
-/// Putting values matches the command: the publisher loans a message for them, writes it and sends it. If a send waits, or the
+/// Putting values matches the command: the publisher loans a message for them, writes it and sends it. If a send is blocked, or the
 /// publisher is closed, nothing happens. The call fails if the machine's does, with the error of the loan or of the send. If
 /// the list of subscribers changed the publisher follows it between the loan and the send, as in a send. The ports must be
 /// roomy, as they are after any calls (`iox_domain::allowances::samples::samples_left_by_calls`), and each decision at a full

@@ -66,12 +66,12 @@ LendsUnless (Some error) allocation values elements old answer new = (answer ≡
 LendsUnless None allocation values elements old answer new
     = LendsWhere (nat_le (extent old.unit values elements) old.sender.room) allocation values elements old answer new
 
--- What a loan answers and changes while no send waits.
+-- What a loan answers and changes while no send is blocked.
 abbrev pub Lends : {T U : Type 0} → AllocationStrategy → ℕ → ℕ → PublisherPort T U → Result ℕ LoanError → PublisherPort T U → Type 0
 Lends allocation values elements old answer new
     = LendsUnless (first_refusal allocation values elements old) allocation values elements old answer new
 
--- While a send waits the loan answers None, and nothing changes.
+-- While a send is blocked the loan answers None, and nothing changes.
 abbrev pub LoansIf : {T U : Type 0} → Bool → AllocationStrategy → ℕ → ℕ → PublisherPort T U → Option (Result ℕ LoanError)
     → PublisherPort T U → Type 0
 LoansIf true allocation values elements old answer new = (answer ≡ None) × (new ≡ old)

@@ -23,7 +23,7 @@ abbrev pub given_back_at : {T U : Type 0} → ℕ → Option ℕ → PublisherPo
 given_back_at index None port = port
 given_back_at index (Some at) port = with_connection_of index (given_back at (connection_of index port)) port
 
--- Whether a publisher is over: it is closed, and has neither loans nor connections nor a send that waits.
+-- Whether a publisher is over: it is closed, and has neither loans nor connections nor a blocked send.
 abbrev pub is_over : {T U : Type 0} → PublisherPort T U → Bool
 is_over port =
     not port.stands && ((length port.sender.uses.loans == 0)

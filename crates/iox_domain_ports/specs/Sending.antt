@@ -118,7 +118,7 @@ Delivers {T} {U} may (suc places) old arrived new =
     × (GoesOn went arrived next new (Delivers may places next arrived new))
 
 -- What a send answers: an error if it arrived and is to fail, how many connections took the message if it arrived, and
--- `Blocked` if it waits.
+-- `Blocked` if it is blocked.
 abbrev pub sent_answer : Bool → ProgressState → Result Sent SendError
 sent_answer arrived progress =
     if arrived then (if progress.fails then Err sending.UnableToDeliver else Ok (sent.Delivered progress.delivered)) else Ok sent.Blocked

@@ -11,7 +11,7 @@ use std::alloc::Global;
 
 impl<T: Copy, U: Copy> PublisherPort<T, U> {
     /// Loans a slot for `values` values, of which none is written, and answers the slot; the message's header says `elements`
-    /// elements. The call answers None, and nothing happens, while a send of this publisher waits.
+    /// elements. The call answers None, and nothing happens, while a send of this publisher is blocked.
     ///
     /// The call fails with the first of these errors that applies: `ExceedsMaxLoanSize` if the strategy is static and the loan
     /// is longer than a slot; `ExceedsMaxLoans` if as many loans exist as the limit allows; `OutOfMemory` if each slot of the
@@ -43,7 +43,7 @@ impl<T: Copy, U: Copy> PublisherPort<T, U> {
         Some(self.lend(alloc, values, elements, allocation, blank))
     }
 
-    // Loans a slot while no send waits.
+    // Loans a slot while no send is blocked.
     fn lend(
         &mut self,
         alloc: Global,

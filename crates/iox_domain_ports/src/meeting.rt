@@ -20,6 +20,6 @@ pub enum Meeting {
 pub enum Sent {
     /// The send is finished, and so many connections took the message.
     Delivered(usize),
-    /// The send waits at a full mailbox.
+    /// The send is blocked at a full mailbox.
     Blocked,
 }

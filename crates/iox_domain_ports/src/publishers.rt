@@ -24,7 +24,7 @@ use std::collections::BTreeMap;
 use std::collections::btree_map::Iter;
 use std::marker::Model;
 
-/// The publishers of a service. A closed one stays until it has neither loans nor connections nor a send that waits.
+/// The publishers of a service. A closed one stays until it has neither loans nor connections nor a blocked send.
 ///
 /// Contracts see each publisher with its number, by rising number.
 #[derive(Drop)]

@@ -146,7 +146,7 @@ pub fn sequence_at<T: Copy, U: Copy>(
     Some(port.sender.sequence(slot))
 }
 
-/// Whether the publisher is over: it is closed, and has neither loans nor connections nor a send that waits.
+/// Whether the publisher is over: it is closed, and has neither loans nor connections nor a blocked send.
 pub fn is_over<T: Copy, U: Copy>(port: &PublisherPort<T, U>) -> bool
     ensures { result ≡ is_over port.now }
 {

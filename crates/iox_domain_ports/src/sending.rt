@@ -106,7 +106,7 @@ impl<T: Copy, U: Copy> PublisherPort<T, U> {
         }
     }
 
-    // Does one place and continues at the next; answers false if the send waits at a full mailbox, and if no place is left.
+    // Does one place and continues at the next; answers false if the send is blocked at a full mailbox, and if no place is left.
     fn step<B: Decides>(&mut self, handlers: &B) -> bool
         ensures { Steps (B.decides handlers.now) (meeting_at self.old.progress.place self.old) (met self.old.progress.place self.old)
             result self.new }
@@ -129,7 +129,7 @@ impl<T: Copy, U: Copy> PublisherPort<T, U> {
         }
     }
 
-    // Visits the remaining places, up to one where the send waits; answers whether it visited all of them.
+    // Visits the remaining places, up to one where the send is blocked; answers whether it visited all of them.
     fn go_on<B: Decides>(&mut self, handlers: &B) -> bool
         ensures { Delivers (B.decides handlers.now) (length self.old.ties.items - self.old.progress.place) self.old result self.new }
     {
@@ -141,7 +141,7 @@ impl<T: Copy, U: Copy> PublisherPort<T, U> {
         true
     }
 
-    // Answers for a send that has arrived, or waits. Once the send has arrived, its message stays in use only where the history
+    // Answers for a send that has arrived, or is blocked. Once the send has arrived, its message stays in use only where the history
     // or a connection has it.
     fn conclude(&mut self, arrived: bool) -> Result<Sent, SendError>
         ensures answer { result ≡ sent_answer arrived self.old.progress }
@@ -167,7 +167,7 @@ impl<T: Copy, U: Copy> PublisherPort<T, U> {
         self.conclude(arrived)
     }
 
-    /// Tries the place at which the send waits once more, and continues; answers as `send` does. `elapsed` is the number of
+    /// Tries once more the place at which the send is blocked, and continues; answers as `send` does. `elapsed` is the number of
     /// nanoseconds since this mailbox was first found full, as the caller measured it.
     ///
     /// Not in `iceoryx2`: `iceoryx2::port::publisher::Publisher::send` waits itself.
@@ -178,14 +178,14 @@ impl<T: Copy, U: Copy> PublisherPort<T, U> {
         self.deliver(handlers)
     }
 
-    // Counts one more try at the place at which the send waits.
+    // Counts one more try at the place at which the send is blocked.
     fn try_again(&mut self, elapsed: u64)
         ensures { self.new ≡ with_progress (tried_again elapsed self.old.progress) self.old }
     {
         self.progress.try_again(elapsed);
     }
 
-    /// Gives up the send that waits, and answers how many connections took the message.
+    /// Gives up the blocked send, and answers how many connections took the message.
     pub fn give_up(&mut self) -> usize
         ensures answer { result ≡ self.old.progress.delivered }
         ensures after { self.new ≡ concluded true self.old }
@@ -230,8 +230,8 @@ impl<T: Copy, U: Copy> PublisherPort<T, U> {
     /// Follows the list of subscribers, and then sends the written loan in this slot to each live connection, in the order of
     /// the list. The message is no loan any longer, and the newest of the history. It has the next sequence number if messages
     /// are numbered. With safe overflow a full mailbox drops its oldest message. Without it the send skips a full mailbox from
-    /// which no subscriber reads; at another one the handlers decide, and the send may wait. The call answers None, and nothing
-    /// happens, if no written loan is in the slot or another send waits.
+    /// which no subscriber reads; at another one the handlers decide, and the send may block. The call answers None, and nothing
+    /// happens, if no written loan is in the slot or another send is blocked.
     ///
     /// The call fails with `ConnectionBrokenSinceSenderNoLongerExists` if the publisher is closed, with `InternalError` if its
     /// last sequence number is 2^64 - 1, and with `ConnectionError` if following the list fails; then the loan is dropped, and

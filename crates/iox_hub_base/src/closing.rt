@@ -15,7 +15,7 @@ impl<T: Copy, U: Copy, B: Drop, D: Drop> Hub<T, U, B, D> {
     /// Refused with `StillInUse`, the factory handed back and nothing changed: while the domain of the service is out; while a port that
     /// the factory made exists, or a loan or a blocked send of such a publisher, or a sample of such a subscriber; and for the last factory
     /// of its service in the hub, while any port, loan, blocked send or sample of the domain exists. Refused with
-    /// `UnableToRemoveDescription` and `UnableToRemoveSegment` if the table reports these; the factory is spent then.
+    /// `UnableToRemoveDescription` and `UnableToRemoveSegment` if the table reports these; the factory is consumed then.
     ///
     /// Corresponds to dropping an `iceoryx2::service::port_factory`, which the ports of `iceoryx2` keep alive.
     /// Example: `let closed = hub.close(factory);`

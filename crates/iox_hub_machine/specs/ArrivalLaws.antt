@@ -55,7 +55,8 @@ AnswersAsChosen choices degrades who subscriber options = (info : DegradationInf
     → choices.subscriber_acts subscriber (unwrap_or options.degradation_handler Warn) action
 
 -- Whatever the handlers `who` may answer at a failed connection, and decide at a full mailbox, may be chosen for the publisher with this
--- number, created with these options. They are told as many retries, but at most 2^64 - 1.
+-- number, created with these options. The number of retries that they get is the machine's, but at most
+-- 2^64 - 1.
 pub record DecidesAsChosen {T B : Type 0} (choices : Choices T)
     (degrades : B → DegradationCause → DegradationInfo → DegradationAction → Type 0)
     (decides : B → BackpressureInfo → BackpressureDecision → Type 0) (who : B) (publisher : ℕ) (options : PublisherOptions) : Type 0 where

@@ -113,14 +113,14 @@ module _ {T U B D : Type 0} (K : Type 0) (terms : Terms T U B D) where
       → hub ≡ loan_changed hub_ports with_hub_ports made.port made.slot (write_value place value) old.hub
       → IsStepBy terms (command.Set number place value) old (done_reply true) (hub_after_call old old.made hub)
 
-  -- A loan is dropped, and is spent.
+  -- A loan is dropped, and is consumed.
   abbrev pub DropIsStep : Type 0
   DropIsStep = (number : ℕ) (made : MadeLoan) (old : NumberedHub T U B D) (hub : Hub T U B D)
       → value_at old.made.loans number ≡ Some made
       → GivesUpLoan hub_ports with_hub_ports made.port made.slot old.hub hub
       → IsStepBy terms (command.Drop number) old (done_reply true) (hub_after_call old (without_loan number old.made) hub)
 
-  -- A loan is sent, and is spent.
+  -- A loan is sent, and is consumed.
   abbrev pub SendIsStep : Type 0
   SendIsStep = (number : ℕ) (made : MadeLoan) (old : NumberedHub T U B D) (hub : Hub T U B D) (answer : Result (Sent T U) SendError)
       → value_at old.made.loans number ≡ Some made
@@ -136,8 +136,8 @@ module _ {T U B D : Type 0} (K : Type 0) (terms : Terms T U B D) where
       → RetriesSend hub_ports with_hub_ports (publisher_may_decide terms.decides) sender nanoseconds old.hub answer hub
       → IsStepBy terms (command.Retry number nanoseconds) old (told_sent answer) (hub_after_call old old.made hub)
 
-  -- A blocked send is given up, and the reply says how many mailboxes took its message. `give_up` does this, and so does `drop_with`, whose
-  -- answer is None if no send is blocked.
+  -- A blocked send is given up, and the reply says how many mailboxes took its message. `give_up` does this, and so does `drop_with`, which
+  -- hands the send back if it isn't blocked.
   abbrev pub GiveUpIsStep : Type 0
   GiveUpIsStep = (number : ℕ) (sender : PortId) (old : NumberedHub T U B D) (hub : Hub T U B D) (answer : Option ℕ)
       → port_under (value_at old.made.publishers number) ≡ Some sender
@@ -152,7 +152,8 @@ module _ {T U B D : Type 0} (K : Type 0) (terms : Terms T U B D) where
       → FollowsSubscribers hub_ports with_hub_ports (publisher_may_degrade terms.degrades) follower old.hub answer hub
       → IsStepBy terms (command.Update (port.Publisher number)) old (updated_reply (Some answer)) (hub_after_call old old.made hub)
 
-  -- A publisher is closed, and is spent. `leave` does this, and so does `drop_with`, which hands the publisher back if it can't be closed.
+  -- A publisher is closed, and is consumed. `leave` does this, and so does `drop_with`, which hands the publisher back if it can't be
+  -- closed.
   abbrev pub PublisherLeaveIsStep : Type 0
   PublisherLeaveIsStep = (number : ℕ) (leaver : PortId) (old : NumberedHub T U B D) (hub : Hub T U B D) (left : Bool)
       → port_under (value_at old.made.publishers number) ≡ Some leaver

@@ -64,7 +64,7 @@ abbrev pub having_subscriber : DomainId → Result ℕ SubscriberCreateError →
 having_subscriber domain (Ok number) made = with_subscriber domain number made
 having_subscriber domain (Err why) made = made
 
--- The factories that a program holds after it closed one: that factory is spent, unless it was handed back.
+-- The factories that a program holds after it closed one: that factory is consumed, unless it was handed back.
 abbrev pub factories_then : {F : Type 0} → Result (Unit {0}) (CloseError × Option F) → ℕ → FactoryTable → FactoryTable
 factories_then (Ok done) number table = removed table number
 factories_then (Err (why, None)) number table = removed table number

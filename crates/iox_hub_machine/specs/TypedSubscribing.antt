@@ -51,7 +51,7 @@ module _ {T U B D : Type 0} (K : Type 0) (terms : Terms T U B D) where
       → FollowsPublishers hub_ports with_hub_ports (subscriber_may_degrade terms.reader_degrades) follower old.hub answer hub
       → IsStepBy terms (command.Update (port.Subscriber number)) old (updated_reply (Some answer)) (hub_after_call old old.made hub)
 
-  -- A subscriber is closed, and is spent. `leave` does this, and so does `drop_with`, which hands the subscriber back if it can't be
+  -- A subscriber is closed, and is consumed. `leave` does this, and so does `drop_with`, which hands the subscriber back if it can't be
   -- closed.
   abbrev pub SubscriberLeaveIsStep : Type 0
   SubscriberLeaveIsStep = (number : ℕ) (leaver : PortId) (old : NumberedHub T U B D) (hub : Hub T U B D) (left : Bool)
@@ -67,7 +67,7 @@ module _ {T U B D : Type 0} (K : Type 0) (terms : Terms T U B D) where
       → values_under hub_ports (Some made) old.hub ≡ Some (vec_items values)
       → IsStepBy terms (command.Read number) old (reply.Values values) old
 
-  -- A sample is released, and is spent. `release` does this, and so does `drop_with`.
+  -- A sample is released, and is consumed. `release` does this, and so does `drop_with`.
   abbrev pub ReleaseIsStep : Type 0
   ReleaseIsStep = (number : ℕ) (made : MadeSample) (old : NumberedHub T U B D) (hub : Hub T U B D) (released : Bool)
       → value_at old.made.samples number ≡ Some made

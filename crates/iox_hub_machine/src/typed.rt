@@ -108,7 +108,7 @@ pub fn typed_closes_are_steps<
 ///   another number of values, the command is skipped, and nothing is written. Writing them one after the other: `write_from_fn`.
 /// - Changing a value of a written loan at a place that the loan has: `payload_mut` and `value_mut`, as the reference ends.
 /// - Loaning values, writing and sending them at once: `send_slice`, and `send_copy` for one value. No send of the publisher is blocked.
-/// - Sending or dropping a loan: `send` and `drop_with` of a loan. The loan is spent.
+/// - Sending or dropping a loan: `send` and `drop_with` of a loan. The loan is consumed.
 /// - Trying a blocked send again, or giving it up: `retry`, `give_up` and `drop_with` of a blocked send.
 /// - Updating a publisher's connections, or closing it: `update_connections`, `leave` and `drop_with` of a publisher.
 pub fn typed_publisher_calls_are_steps<

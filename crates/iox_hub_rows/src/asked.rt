@@ -1,5 +1,5 @@
-//! How often who decides for a port is asked about a connection for which no memory is found, and what it is told. A case of `./check`
-//! refuses each request in turn; with ample memory nobody is asked.
+//! How often the handler of a port is asked about a connection for which no memory is found, and what the handler is given. A case of
+//! `./check` refuses the requests for memory, one at a time; with ample memory no handler is asked.
 ghost use Rattle.std.specs.Prelude.{⊤};
 
 use crate::clones::{DOMAIN, made};
@@ -15,7 +15,7 @@ use std::alloc::Global;
 use std::cell::Cell;
 use std::process::Abort;
 
-// Notes 1 where it is asked, and 100 where it is told of another connection than this one.
+// A handler that notes 1 if it is asked, and 100 if it is given another connection than this one.
 #[derive(Drop)]
 struct Noting<'a> {
     notes: &'a Cell<u64>,
@@ -42,10 +42,10 @@ impl Decides for Noting<'_> {
     }
 }
 
-// Messages of `u64`, for whose ports such decide.
+// A domain of `u64` whose ports have such handlers.
 type Noted<'a> = Domain<u64, u8, Noting<'a>, Noting<'a>>;
 
-// Who notes what it is told of the connection of these two ports.
+// A handler that notes whether it is given the connection of these two ports.
 fn notes_about(notes: &Cell<u64>, sender: u64, receiver: u64) -> Noting<'_> {
     Noting {
         notes,
@@ -57,7 +57,7 @@ fn notes_about(notes: &Cell<u64>, sender: u64, receiver: u64) -> Noting<'_> {
     }
 }
 
-// A subscriber comes as this port, where port 2 is the publisher.
+// A subscriber is created as this port, where port 2 is the publisher.
 fn subscribes<'a>(
     rt: &impl Abort,
     alloc: Global,
@@ -70,14 +70,14 @@ fn subscribes<'a>(
     let _ = subscribers.create(alloc, domain);
 }
 
-// The publisher comes as port 2, where port 1 is a subscriber.
+// The publisher is created as port 2, where port 1 is a subscriber.
 fn publishes<'a>(rt: &impl Abort, alloc: Global, domain: &mut Noted<'a>, notes: &'a Cell<u64>) {
     let publishers = publisher_builder(domain, 4, 3).set_handlers(notes_about(notes, 2, 1));
     must_be_there(rt, publishers.holds(domain));
     let _ = publishers.create(alloc, domain);
 }
 
-// A subscriber comes, then a publisher, and then another subscriber.
+// A subscriber is created, then a publisher, and then another subscriber.
 fn come<'a>(rt: &impl Abort, alloc: Global, domain: &mut Noted<'a>, notes: &'a Cell<u64>) {
     subscribes(rt, alloc, domain, notes, 1);
     publishes(rt, alloc, domain, notes);

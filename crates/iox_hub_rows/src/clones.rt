@@ -1,4 +1,4 @@
-//! What ports tell of themselves whose builders were copied, and what is done at a full mailbox then.
+//! What ports report about themselves whose builders were cloned, and what they do at a full mailbox.
 use crate::ports::{must_be_free, must_be_there, sent_to};
 use iox_delivery::{Publisher, Subscriber, UpdateConnections};
 use iox_delivery_factories::{publisher_builder, subscriber_builder};
@@ -41,7 +41,7 @@ pub(crate) fn made<B: Drop, D: Drop>(
 // What is done at a full mailbox, how many messages may wait, and for how many values a slot has room at first.
 type Told = (BackpressureStrategy, usize, usize);
 
-// What is told where two messages may wait, and none is held up.
+// What ports report if two messages may wait, and no send is blocked.
 const TOLD: Told = (BackpressureStrategy::DiscardData, 2, 5);
 
 // How many mailboxes take a message that is sent once more.
@@ -72,7 +72,8 @@ fn received<T: Copy, U: Copy, H: Home<T, U>>(
     Some((header.node_id, origin, header.number_of_elements))
 }
 
-// Whether two messages are taken and a third is passed over, and who sent the first is told: its node, its number, and one element.
+// Whether two messages are taken and the mailbox is skipped for a third one, and the first one's header reports its sender: the node,
+// the number, and one element.
 fn passes_over<H: Home<u64, u8>>(
     rt: &impl Abort,
     alloc: Global,
@@ -93,7 +94,7 @@ fn passes_over<H: Home<u64, u8>>(
         && received(rt, alloc, home, subscriber) == Some((4, number, 1))
 }
 
-// What ports tell whose builders were copied, of single values; and whether they pass over what finds no room.
+// What ports of single values report whose builders were cloned; and whether a send of them skips a full mailbox.
 fn values(rt: &impl Abort, alloc: Global, domain: &mut Asking) -> Option<bool> {
     let publishers = publisher_builder(domain, 4, 3)
         .backpressure_strategy(TOLD.0)

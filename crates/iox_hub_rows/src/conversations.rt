@@ -14,9 +14,9 @@ use std::test::Fail;
 enum Publishing<T> {
     // It follows the subscribers.
     Follows,
-    // A value is lent, written and sent.
+    // A value is loaned, written and sent.
     Lends(T),
-    // A default is lent and sent.
+    // A default is loaned and sent.
     LendsDefault,
     // A copy is sent.
     Copies(T),

@@ -27,7 +27,7 @@ const CONFIG: HubConfig = HubConfig {
     id: 0,
 };
 
-// Two actions, of which the first is the answer at first, and then each in turn: so answers show how often it was asked.
+// Two actions, of which the first is the first answer, and then they alternate: so answers show how often the object was asked.
 #[derive(Drop)]
 struct InTurn<A> {
     actions: (A, A),
@@ -62,8 +62,8 @@ impl DegradationFn for InTurn<DegradationAction> {
     }
 }
 
-// What it is told at each call, in turn: the service, the sender, the receiver, how often it was tried again and for how long. It answers
-// what stands beside that; and fails what is asked where it is told otherwise, or once more.
+// What the object is given at each call, one after the other: the service, the sender, the receiver, how often the send was retried and for
+// how long. It returns the answer in the same row. If it is given anything else, or is asked once more, its answer lets the call fail.
 #[derive(Drop)]
 struct Told<A: 'static> {
     rows: &'static [([u64; 5], A)],
@@ -110,7 +110,7 @@ impl DegradationFn for Told<DegradationAction> {
     }
 }
 
-// What is told of full mailboxes, at place 7: port 4 of service 2 sends two messages to ports 1 and 2.
+// What is given about full mailboxes, at place 7: port 4 of service 2 sends two messages to ports 1 and 2.
 const TOLD_FULL: [([u64; 5], BackpressureAction); 6] = [
     ([2, 4, 1, 0, 0], BackpressureAction::Retry),
     ([2, 4, 1, 1, 5], BackpressureAction::Retry),
@@ -120,7 +120,7 @@ const TOLD_FULL: [([u64; 5], BackpressureAction); 6] = [
     ([2, 4, 2, 0, 0], BackpressureAction::DiscardData),
 ];
 
-// What is told of a connection that failed, at place 8: of port 5 of service 2 to port 2.
+// What is given about a connection that failed, at place 8: of port 5 of service 2 to port 2.
 const TOLD_FAILURES: [([u64; 5], DegradationAction); 4] = [
     ([2, 5, 2, 0, 0], DegradationAction::Ignore),
     ([2, 5, 2, 0, 0], DegradationAction::DegradeAndFail),
@@ -176,7 +176,7 @@ fn hand_in_failures(alloc: Global, given: &mut Given, more: usize) -> Result<(),
     Ok(())
 }
 
-// Hands in the objects that are told of each call.
+// Hands in the objects that are asked in each call.
 fn hand_in_told(alloc: Global, given: &mut Given) -> Result<(), AllocError> {
     let full = Told {
         rows: &TOLD_FULL,
@@ -324,7 +324,7 @@ pub(crate) enum Course {
     Lines(&'static [Row]),
     /// So many commands are run, with as many more objects handed in, with handlers or without.
     Runs(usize, bool),
-    /// The domain of a service goes by lanes.
+    /// The domain of a service becomes lanes.
     Lanes,
 }
 
@@ -475,8 +475,8 @@ const FAILURE: &[Row] = &[
     ),
 ];
 
-// Who is asked is told which service it is, which ports, and of a full mailbox how often it was tried again and for how long: once at each
-// call, and each time of the mailbox that is full.
+// An object that is asked is given the service, the ports, and for a full mailbox how often and for how long it was retried: once in each
+// call, and each time for the mailbox that is full.
 const ASKED_FULL: &[Row] = &[
     ("node", None, None, "ok n1"),
     ("create n1 ps A", None, None, "ok f1"),
@@ -555,7 +555,7 @@ fn handlers_that_are_named_are_asked(rt: HostRuntime) -> Result<(), AllocError> 
     go(&rt, rt.alloc(), Course::Lines(ASKED_FAILURE))
 }
 
-// A publisher comes.
+// A publisher is created.
 const PUBLISHER: &[Row] = &[
     ("node", None, None, "ok n1"),
     ("create n1 ps A", None, None, "ok f1"),

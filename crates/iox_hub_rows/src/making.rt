@@ -1,4 +1,5 @@
-//! Each typed call that makes something. A case of `./check` refuses its requests for memory in turn: then the call says that it found none.
+//! Each typed call that makes something. A case of `./check` refuses its requests for memory, one at a time: then the call reports that
+//! memory ran out.
 use crate::clones::DOMAIN;
 use crate::ports::{must_be_free, must_be_there};
 use crate::values::kept_once;

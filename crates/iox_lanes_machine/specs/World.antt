@@ -255,7 +255,7 @@ abbrev pub Records : World → Party → Move → Type 0
 Records m party (Begin call) = ⊥
 Records m party GoOn = (party_ends m party ≡ true) ⊎ (0 < length (acts_at m party))
 
--- What a step answers, and what it leaves; it may lack memory only where something is recorded.
+-- What a step answers, and what it leaves; it may run out of memory only where something is recorded.
 abbrev pub StepsTo : World → Party → Move → Stepped → World → Type 0
 StepsTo m party step stepped.Went n = (fits m party step ≡ true) × (ends m party step ≡ false) × (n ≡ happens m party step)
 StepsTo m party step stepped.Finished n = (fits m party step ≡ true) × (ends m party step ≡ true) × (n ≡ happens m party step)

@@ -50,8 +50,8 @@ is_retry decided.Retry = true
 is_retry decided.DiscardData = false
 is_retry decided.DiscardDataAndFail = false
 
--- Whether a send with these handlers waits at a full mailbox: the fixed action says so, or the strategy, where there is no fixed action or
--- it follows the strategy. Without handlers a send waits.
+-- Whether a send with these handlers blocks at a full mailbox: the fixed action says so, or the strategy, where there is no fixed action or
+-- it follows the strategy. Without handlers a send blocks.
 abbrev pub would_wait : {X Y : Type 0} {F : X → Type 0} {G : Y → Type 0} → Option (Handlers X Y F G) → Bool
 would_wait None = true
 would_wait (Some handlers) = is_retry (decision_of handlers.strategy (fixed_answer handlers.backpressure))
@@ -67,11 +67,11 @@ abbrev pub would_fail : {X Y : Type 0} {F : X → Type 0} {G : Y → Type 0} →
 would_fail None = false
 would_fail (Some handlers) = is_failure (decision_of handlers.strategy (fixed_answer handlers.backpressure))
 
--- Whether this publisher isn't closed, and a send of it would wait at a full mailbox.
+-- Whether this publisher isn't closed, and a send of it would block at a full mailbox.
 abbrev pub retries : {T U X Y : Type 0} {F : X → Type 0} {G : Y → Type 0} → List (ℕ × Handlers X Y F G) → ℕ × PublisherPort T U → Bool
 retries handlers entry = entry.1.stands && would_wait (kept_under entry.0 handlers)
 
--- Mailboxes don't overflow, and a send of some publisher would wait at a full one.
+-- Mailboxes don't overflow, and a send of some publisher would block at a full one.
 abbrev pub is_retrying : {T U X Y D : Type 0} {F : X → Type 0} {G : Y → Type 0} → Domain T U (Handlers X Y F G) D → Bool
 is_retrying domain = not domain.state.ports.sizes.enable_safe_overflow
     && list_any (retries domain.state.publisher_handlers) domain.state.ports.publishers

@@ -17,7 +17,7 @@ use Rattle.iox_lanes_opening.specs.Soundness.{is_unsound}
 use Rattle.iox_lanes_opening.specs.declared.refusals.into_lanes_error.IntoLanesError.{IntoLanesError}
 use Rattle.iox_lanes_opening.specs.declared.refusals.into_lanes_error.IntoLanesError.TheVariants as reason
 
--- A send of some publisher waits at a full mailbox.
+-- A send of some publisher is blocked at a full mailbox.
 abbrev pub is_blocked : {T U : Type 0} → ServicePorts T U → Bool
 is_blocked ports = list_any (λ entry. publishing.is_blocked entry.1) ports.publishers
 

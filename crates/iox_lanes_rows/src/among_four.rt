@@ -102,25 +102,47 @@ fn received(rt: &impl Wait, port: &mut LaneSubscriber, next: &mut [u64; 4]) -> O
     Some(slot)
 }
 
-// Whether a subscriber receives two messages, no third one while it holds both, and gives them back.
-fn takes_two(rt: &impl Wait, port: &mut LaneSubscriber, next: &mut [u64; 4]) -> bool {
-    let Some((first, second)) = received(rt, port, next).zip(received(rt, port, next)) else {
-        return false;
-    };
-    port.receive(rt) == Receipt::ExceedsMaxBorrows
-        && port.release(first) == Some(true)
-        && port.release(second) == Some(true)
+// Whether a subscriber receives a message for each of these places; they have its samples then.
+fn holds(rt: &impl Wait, port: &mut LaneSubscriber, next: &mut [u64; 4], held: &mut [u64]) -> bool {
+    for place in held.iter_mut() {
+        match received(rt, port, next) {
+            Some(slot) => *place = slot,
+            None => return false,
+        }
+    }
+    true
 }
 
-// Whether a subscriber receives all, and then nothing.
-fn takes_all(rt: &impl Wait, port: &mut LaneSubscriber) -> bool {
-    let mut next = [0u64; 4];
-    for _ in 0..2 * MESSAGES {
-        if !takes_two(rt, port, &mut next) {
+// Whether it gives these samples back.
+fn frees(port: &mut LaneSubscriber, held: &[u64]) -> bool {
+    for slot in held {
+        if port.release(*slot) != Some(true) {
             return false;
         }
     }
-    port.receive(rt) == Receipt::Nothing && next == [MESSAGES; 4]
+    true
+}
+
+// Whether a subscriber receives so many messages, one more receive is answered so, and it gives all back.
+fn takes(
+    rt: &impl Wait,
+    port: &mut LaneSubscriber,
+    next: &mut [u64; 4],
+    held: &mut [u64],
+    then: Receipt,
+) -> bool {
+    holds(rt, port, next, held) && port.receive(rt) == then && frees(port, held)
+}
+
+// Whether a subscriber receives all: first as many as it may borrow, which are two of each publisher, and the last of each in the end.
+fn takes_all(rt: &impl Wait, port: &mut LaneSubscriber) -> bool {
+    let mut next = [0u64; 4];
+    for _ in 0..4 {
+        if !takes(rt, port, &mut next, &mut [0; 8], Receipt::ExceedsMaxBorrows) {
+            return false;
+        }
+    }
+    takes(rt, port, &mut next, &mut [0; 4], Receipt::Nothing) && next == [MESSAGES; 4]
 }
 
 // Whether each one does.

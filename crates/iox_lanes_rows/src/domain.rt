@@ -1,4 +1,4 @@
-//! A domain of numbers, and the calls of its ports. Ports go by their numbers: from 1 on, in the order in which they come.
+//! A domain of numbers, and the calls of its ports. Ports have numbers: from 1 on, in the order of their creation.
 ghost use Rattle.std.specs.Prelude.{⊤};
 
 use crate::answers::in_memory;
@@ -133,12 +133,12 @@ pub(crate) const PAIRS: Plan = Plan {
     ..PLAIN
 };
 
-/// What is done in a domain, and what comes of it. Ports go by their numbers.
+/// What is done in a domain, and its outcome. Ports are named by their numbers.
 #[derive(Clone, Copy)]
 pub(crate) enum InDomain {
     /// A publisher sends a value.
     Sends(u64, u64, Result<Sent, SendError>),
-    /// A subscriber receives the message of this number and this value, and gives it back.
+    /// A subscriber receives the message of this number and this value, and releases it.
     Gets(u64, u64, u64),
     /// A subscriber receives nothing.
     Nothing(u64),
@@ -148,18 +148,18 @@ pub(crate) enum InDomain {
     Relists(u64),
     /// A subscriber receives this value, and the sample is kept.
     Holds(u64, u64),
-    /// That sample is given back.
+    /// That sample is released.
     Frees,
 }
 
 /// What comes to a domain, and goes wherever memory is found for it.
 #[derive(Clone, Copy)]
 pub(crate) enum Arrival {
-    /// A publisher comes.
+    /// A publisher is created.
     Publisher(Plan),
-    /// A subscriber comes, for which so many messages may wait if that is named.
+    /// A subscriber is created, with this buffer size if one is named.
     Subscriber(Option<usize>),
-    /// So many subscribers come, and as many publishers; all follow the others.
+    /// So many subscribers are created, and as many publishers; all follow the others.
     Crowd(u64),
     /// All ports follow the others.
     Meeting,
@@ -225,7 +225,7 @@ fn backpressure(
     })
 }
 
-// Whether each place that lists somebody is tied to a connection: a port that comes where memory for one was refused has none there.
+// Whether each place that lists somebody is tied to a connection: a port that is created while memory for one is refused has none there.
 fn ties_all<V>(ties: &Ties, listed: &[Option<Member<V>>]) -> bool {
     for place in 0..listed.len() {
         if listed[place].is_some() && ties.get(place).is_none() {
@@ -249,7 +249,7 @@ fn subscriber_ties_all(ports: &Ports, number: u64) -> bool {
     }
 }
 
-// Whether a publisher comes, with all its connections.
+// Whether a publisher is created, with all its connections.
 fn publish(alloc: Global, state: &mut State, plan: &Plan) -> bool {
     let Ok(backpressure) = backpressure(alloc, plan.answering) else {
         return false;
@@ -266,7 +266,7 @@ fn publish(alloc: Global, state: &mut State, plan: &Plan) -> bool {
     }
 }
 
-// Whether a subscriber comes, with all its connections.
+// Whether a subscriber is created, with all its connections.
 fn subscribe(alloc: Global, state: &mut State, buffer_size: Option<usize>) -> bool {
     let by = DegradationHandler::Fixed(DegradationAction::DegradeAndFail);
     let config = SubscriberConfig {
@@ -293,7 +293,7 @@ fn meet(alloc: Global, state: &mut State) -> bool {
     true
 }
 
-// Whether so many subscribers come, then as many publishers, and all follow the others.
+// Whether so many subscribers are created, then as many publishers, and all follow the others.
 fn crowd(alloc: Global, state: &mut State, count: u64) -> bool {
     for place in 0..count.saturating_mul(2) {
         let came = if place < count {
@@ -308,7 +308,7 @@ fn crowd(alloc: Global, state: &mut State, count: u64) -> bool {
     meet(alloc, state)
 }
 
-// What comes of a value that a publisher sends.
+// The outcome of a value that a publisher sends.
 fn send(
     alloc: Global,
     state: &mut State,
@@ -360,7 +360,7 @@ fn has_sequence(ports: &Ports, sample: Taken, sequence: u64) -> bool {
     }
 }
 
-// Whether a subscriber receives this message, and gives it back.
+// Whether a subscriber receives this message, and releases it.
 fn gets(alloc: Global, state: &mut State, number: u64, sequence: u64, value: u64) -> bool {
     let Some(sample) = received(alloc, state, number) else {
         return false;
@@ -385,7 +385,7 @@ fn holds(
     }
 }
 
-// Whether the sample that is kept is given back.
+// Whether the sample that is kept is released.
 fn frees(ports: &mut Ports, kept: &Option<Taken>) -> bool {
     match *kept {
         Some(sample) => ports.release(sample.subscriber, sample),
@@ -399,7 +399,7 @@ fn relists(ports: &mut Ports, publisher: u64) -> bool {
     ports.publisher_list.enter(entry).is_some()
 }
 
-/// Whether it comes.
+/// Whether it is created.
 pub(crate) fn comes(
     alloc: Global,
     domain: &mut Option<Numbers>,

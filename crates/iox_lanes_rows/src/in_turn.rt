@@ -1,4 +1,4 @@
-//! Lanes whose calls go in turn: one publisher and one subscriber, and two of each, and what they are answered.
+//! Lanes whose calls don't overlap: one publisher and one subscriber, and two of each, and the answers of their calls.
 use crate::answers::hold;
 use iox_domain_values::LoanError;
 use iox_lanes::{LaneSizes, RingKind};
@@ -32,7 +32,7 @@ const OF_TWO: LaneSizes = LaneSizes {
     payload_words: 1_000,
 };
 
-// Whether a slot of a publisher is lent, written and sent to so many subscribers, and no other one is lent before that.
+// Whether a slot of a publisher is loaned, written and sent to so many subscribers, and no other slot is loaned before that.
 fn sends<const WORDS: usize>(
     alloc: Global,
     lanes: &mut LanesInTurn,

@@ -1,4 +1,4 @@
-//! What the ports of lanes send and receive, by whole calls. Messages have numbers, and ports go by their places.
+//! What the ports of lanes send and receive, by whole calls. Messages have numbers, and ports are named by their places.
 use crate::changes::NumberLanes;
 use crate::domain::{HEADER, UserHeader, Value, in_all_words};
 use crate::stepping::{MOST_STEPS, step, whole};
@@ -21,12 +21,12 @@ pub(crate) const ANY: Pace = Pace {
     send: MOST_STEPS,
 };
 
-/// What is done by lanes, and what comes of it.
+/// What is done by lanes, and its outcome.
 #[derive(Clone, Copy)]
 pub(crate) enum InLanes {
     /// A publisher sends a value. Its loan gets a slot at this pace, and its send has no more steps.
     Sends(usize, u64, SendAnswer, Pace),
-    /// A subscriber receives the message of this number and this value, and gives it back.
+    /// A subscriber receives the message of this number and this value, and releases it.
     Gets(usize, u64, u64),
     /// A subscriber receives nothing.
     Nothing(usize),
@@ -60,7 +60,7 @@ pub(crate) const TO_TWO: SendAnswer = SendAnswer::Delivered(Delivery {
     refused: 0,
 });
 
-/// The only one is full, and is passed over.
+/// The only mailbox is full, and is skipped.
 pub(crate) const TO_FULL: SendAnswer = SendAnswer::Delivered(Delivery {
     taken: 0,
     refused: 1,
@@ -171,7 +171,7 @@ fn reads(lanes: &mut Lanes, party: Party, sample: u64, sequence: u64, value: u64
     }
 }
 
-// Whether the subscriber at a place receives this message and gives it back.
+// Whether the subscriber at a place receives this message and releases it.
 fn gets(lanes: &mut Lanes, place: usize, sequence: u64, value: u64) -> bool {
     let Some(sample) = received(lanes, place) else {
         return false;

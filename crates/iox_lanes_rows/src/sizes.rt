@@ -29,8 +29,8 @@ fn lending(count: u64) -> Plan {
     plan
 }
 
-// Whether as many messages stand in the history, wait for the subscriber and are in the lanes, of which one is received there, beside a
-// publisher without any. As many may be borrowed and lent.
+// Whether as many messages are in the history, wait for the subscriber and are in the lanes, of which one is received there, beside a
+// publisher without any. As many may be borrowed and loaned.
 fn has_messages(rt: &impl Wait, alloc: Global, count: u64) -> Result<bool, AllocError> {
     let steps = [
         Step::Comes(Arrival::Publisher(lending(count))),
@@ -72,7 +72,7 @@ fn has_pace(rt: &impl Wait, alloc: Global, count: u64) -> Result<bool, AllocErro
     Ok(go(rt, alloc, &service(count, (1, 0), 1), &steps)? == steps.len())
 }
 
-// Whether so many publishers and as many subscribers go by lanes, in threads, and by lanes once more.
+// Whether so many publishers and as many subscribers become lanes, threads, and lanes once more.
 fn has_ports(rt: &impl Wait, alloc: Global, count: u64) -> Result<bool, AllocError> {
     let steps = [
         Step::Comes(Arrival::Crowd(count)),

@@ -1,4 +1,4 @@
-//! What the ports of a domain send and receive in threads. Messages have numbers, and ports go by their places.
+//! What the ports of a domain send and receive in threads. Messages have numbers, and ports are named by their places.
 use crate::changes::NumberThreads;
 use crate::domain::in_all_words;
 use crate::ending::{another, pass, pass_last};
@@ -7,12 +7,12 @@ use iox_lanes::{LanePublisher, LaneSubscriber, LoanAnswer, Receipt, SendAnswer};
 use std::alloc::{AllocError, Global};
 use std::sync::Wait;
 
-/// What is done in threads, and what comes of it.
+/// What is done in threads, and its outcome.
 #[derive(Clone, Copy)]
 pub(crate) enum InThreads {
     /// A publisher sends a value.
     Sends(usize, u64, SendAnswer),
-    /// A subscriber receives the message of this number and this value, and gives it back.
+    /// A subscriber receives the message of this number and this value, and releases it.
     Gets(usize, u64, u64),
     /// A subscriber receives nothing.
     Nothing(usize),
@@ -46,7 +46,7 @@ fn sends(ports: &mut [LanePublisher], place: usize, value: u64, answer: SendAnsw
     }
 }
 
-// Whether a sample is read as this message, and given back.
+// Whether a sample is read as this message, and released.
 fn takes(port: &mut LaneSubscriber, sample: u64, sequence: u64, value: u64) -> bool {
     port.read(sample)
         && are_values(port.values(), sequence, value)
@@ -61,7 +61,7 @@ fn gets_nothing(rt: &impl Wait, ports: &mut [LaneSubscriber], place: usize) -> b
     }
 }
 
-// Whether the subscriber at a place receives this message and gives it back.
+// Whether the subscriber at a place receives this message and releases it.
 fn gets(
     rt: &impl Wait,
     ports: &mut [LaneSubscriber],

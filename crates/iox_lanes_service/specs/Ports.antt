@@ -30,8 +30,8 @@ passing_over true = DiscardDataAndFail
 passing_over false = DiscardData
 
 module _ {T : Type 0} (choices : Choices T) (value : List ℕ → T) (names : LaneNaming) (m : World) (service : Service T) where
-  -- The publisher of lanes at this place is this one of the machine. It isn't closed, no send of it waits, and it has followed the current
-  -- list of subscribers.
+  -- The publisher of lanes at this place is this one of the machine. It isn't closed, no send of it is blocked, and it has followed
+  -- the current list of subscribers.
   pub record LanePublisherIs (place : ℕ) (lane : PublisherLaneState) (publisher : Publisher T) : Type 0 where
     pub stands : publisher.stands ≡ true
     pub free : publisher.blocked ≡ None

@@ -49,8 +49,8 @@ pub record AreReadBack {T U : Type 0} (payload_words : T → List ℕ) (value : 
       → All (IsReadBack payload_words value ports.sizes.sequence_numbers) (connection_of index port).waiting
 
 module _ {T : Type 0} (value : List ℕ → T) (names : LaneNaming) (m : World) where
-  -- A publisher of lanes is this one of the machine, apart from its connections. It isn't closed, no send of it waits, its loan limit is
-  -- the same for messages of one value, and its last sequence number and its history are the same.
+  -- A publisher of lanes is this one of the machine, apart from its connections. It isn't closed, no send of it is blocked, its loan limit
+  -- is the same for messages of one value, and its last sequence number and its history are the same.
   pub record RemembersAs (lane : PublisherLaneState) (publisher : Publisher T) : Type 0 where
     pub stands : publisher.stands ≡ true
     pub free : publisher.blocked ≡ None

@@ -3,7 +3,7 @@ use std::alloc::{AllocError, Global};
 use std::fmt::Debug;
 use std::process::Abort;
 
-/// Each answer must be true. What is said of another one tells a wrong answer from a want of memory.
+/// Each answer must be true. For another one the message distinguishes a wrong answer from a failed allocation.
 pub(crate) fn hold(rt: &impl Abort, answers: &[Result<bool, AllocError>]) {
     for (place, answer) in answers.iter().enumerate() {
         assert!(rt; *answer == Ok(true), "answer {place}: {answer:?}");
@@ -33,7 +33,7 @@ pub(crate) fn find_memory(wants: &[Want]) -> Result<(), AllocError> {
     Ok(())
 }
 
-/// Each must be refused for want of memory.
+/// Each must be refused because memory runs out.
 pub(crate) fn are_refused(rt: &impl Abort, wants: &[Want]) {
     for (place, want) in wants.iter().enumerate() {
         assert!(rt; want.is_some(), "call {place}");

@@ -14,7 +14,7 @@ use iox_domain_values::LoanError;
 use std::alloc::Global;
 
 /// The publisher loans a slot for `len` values, each of which is written as `value`. The header of the message says as many
-/// elements. The call fails as `publishing::loan` does. The loan can be sent at once: it is written, and no send waits.
+/// elements. The call fails as `publishing::loan` does. The loan can be sent at once: it is written, and no send is blocked.
 ///
 /// Ported from `iceoryx2::port::publisher::Publisher::loan_slice`, where each value is a default.
 /// Example: `let slot = loan_filled(port, alloc, home, 4, 0)?;`

@@ -53,7 +53,7 @@ impl<T: Copy, U: Copy> Publisher<T, U> {
     }
 
     /// Loans `len` values that are written, each as the same default. The call fails as `loan_slice_uninit` does. The loan can
-    /// be sent at once: it is written, and no send waits.
+    /// be sent at once: it is written, and no send is blocked.
     ///
     /// Ported from `iceoryx2::port::publisher::Publisher::loan_slice`.
     /// Example: `let sample = publisher.loan_slice(alloc, home, 4)?;`

@@ -5,7 +5,7 @@ ghost use Rattle.iox_domain.specs.LivingSteps.{PublisherSteps, SubscriberSteps, 
 
 use iox_domain_values::{Decides, Degrades, Overrides};
 
-/// Nothing is alive in a new service. The count of all owners is 0 exactly if no port is open, no loan exists, no send waits
+/// Nothing is alive in a new service. The count of all owners is 0 exactly if no port is open, no loan exists, no send is blocked
 /// and no sample is held. The count of one owner is at most that of all. This is a theorem: the function does nothing.
 pub fn living_tells<T, U>()
     ensures { LivingTells T U }

@@ -82,7 +82,7 @@ pub fn attaches_without_memory<T, U, D: Degrades>(_handler: &D)
     ensures { AttachesWithoutMemory T U (D.degrades _handler.now cause.FailedToEstablishConnection) }
 {}
 
-/// A waiting send is where it was after each call of any port of its service, except those that try it again or give it up: its
+/// A blocked send is where it was after each call of any port of its service, except those that try it again or give it up: its
 /// progress, the number of connections that took the message, the message, and the connections to which its places are tied.
 pub fn send_waits<T, U, O: Overrides, B: Decides + Degrades>(_overriding: &O, _handlers: &B)
     ensures { SendWaits T U (O.overrides _overriding.now)

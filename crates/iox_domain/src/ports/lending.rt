@@ -20,7 +20,7 @@ impl<T: Copy, U: Copy> ServicePorts<T, U> {
 
     /// The publisher loans a slot for `values` values: `PublisherPort::loan` says when that fails and what changes. The header
     /// of the message says `elements` elements, and `blank` fills a new segment. The call answers None, and nothing happens, if
-    /// no open publisher has this number, and while a send of it waits.
+    /// no open publisher has this number, and while a send of it is blocked.
     ///
     /// Ported from `iceoryx2::port::publisher::Publisher::loan_slice_uninit`.
     pub fn loan(

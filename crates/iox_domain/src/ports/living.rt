@@ -7,7 +7,7 @@ use iox_domain_ports::living::add;
 
 impl<T: Copy, U: Copy> ServicePorts<T, U> {
     /// How much of the owner is alive: each of its ports until it is closed; each loan of its publishers until it is dropped or
-    /// sent, also if the publisher is closed; each waiting send of these; and each sample that its subscribers received until
+    /// sent, also if the publisher is closed; each blocked send of these; and each sample that its subscribers received until
     /// it is released, also if the subscriber is closed. At most 2^64 - 1 is answered.
     ///
     /// Not in `iceoryx2`, which counts the references of a service.

@@ -13,7 +13,7 @@ use std::alloc::Global;
 
 impl<T: Copy, U: Copy> ServicePorts<T, U> {
     /// The publisher follows the list of subscribers: `PublisherPort::update` says what that does and when it fails. The call
-    /// answers None, and nothing happens, if no open publisher has this number, and while a send of it waits.
+    /// answers None, and nothing happens, if no open publisher has this number, and while a send of it is blocked.
     ///
     /// Ported from `iceoryx2::port::publisher::Publisher::update_connections`.
     pub fn update_publisher<D: Degrades>(
@@ -33,7 +33,7 @@ impl<T: Copy, U: Copy> ServicePorts<T, U> {
 
     /// The publisher sends the written loan in this slot: `PublisherPort::send` says what that does and answers. The call
     /// answers None, and nothing happens, if no publisher has this number, if it has no written loan in the slot, or if another
-    /// send of it waits.
+    /// send of it is blocked.
     ///
     /// Ported from `iceoryx2::sample_mut::SampleMut::send`.
     pub fn send<B: Decides + Degrades>(
@@ -52,9 +52,9 @@ impl<T: Copy, U: Copy> ServicePorts<T, U> {
         Some(outcome)
     }
 
-    /// Tries the place at which the publisher's send waits once more, `elapsed` nanoseconds after its mailbox was first found
+    /// Tries once more the place at which the publisher's send is blocked, `elapsed` nanoseconds after its mailbox was first found
     /// full, and continues; answers as `send` does. The call answers None, and nothing happens, if no publisher has this
-    /// number, or no send of it waits.
+    /// number, or no send of it is blocked.
     ///
     /// Not in `iceoryx2`: `iceoryx2::port::publisher::Publisher::send` waits itself.
     pub fn retry<B: Decides>(
@@ -72,8 +72,8 @@ impl<T: Copy, U: Copy> ServicePorts<T, U> {
         Some(outcome)
     }
 
-    /// Gives up the publisher's waiting send, and answers how many connections took its message. The call answers None, and
-    /// nothing happens, if no publisher has this number, or no send of it waits.
+    /// Gives up the publisher's blocked send, and answers how many connections took its message. The call answers None, and
+    /// nothing happens, if no publisher has this number, or no send of it is blocked.
     ///
     /// Not in `iceoryx2`.
     pub fn give_up(&mut self, number: u64) -> Option<usize>
@@ -87,7 +87,7 @@ impl<T: Copy, U: Copy> ServicePorts<T, U> {
 
     /// Closes the publisher: it is removed from the list and sends no more. What it sent can still be read; its connections end
     /// when their subscribers notice. The call answers false, and nothing happens, if no open publisher has this number, and
-    /// while a send of it waits.
+    /// while a send of it is blocked.
     ///
     /// Ported from dropping an `iceoryx2::port::publisher::Publisher`.
     pub fn leave_publisher(&mut self, number: u64) -> bool
@@ -136,7 +136,7 @@ pub(crate) fn send_one<T: Copy, U: Copy, B: Decides + Degrades>(
     port.send(alloc, slot, list.listed(), list.changes(), handlers)
 }
 
-// A publisher tries its waiting send again, if there is one.
+// A publisher tries its blocked send again, if there is one.
 fn retry_one<T: Copy, U: Copy, B: Decides>(
     port: &mut PublisherPort<T, U>,
     elapsed: u64,
@@ -151,7 +151,7 @@ fn retry_one<T: Copy, U: Copy, B: Decides>(
     Some(port.retry(elapsed, handlers))
 }
 
-// A publisher gives up its waiting send, if there is one.
+// A publisher gives up its blocked send, if there is one.
 fn give_up_one<T: Copy, U: Copy>(port: &mut PublisherPort<T, U>) -> Option<usize>
     ensures gives_up { GivesUpOne port.old result port.new }
     ensures none { result ≡ None → port.new ≡ port.old }
@@ -162,7 +162,7 @@ fn give_up_one<T: Copy, U: Copy>(port: &mut PublisherPort<T, U>) -> Option<usize
     Some(port.give_up())
 }
 
-// A publisher is closed, if it is open and no send of it waits; answers the place at which it was listed.
+// A publisher is closed, if it is open and no send of it is blocked; answers the place at which it was listed.
 fn leave_one<T: Copy, U: Copy>(port: &mut PublisherPort<T, U>) -> Option<usize>
     ensures leaves { LeavesOne port.old result port.new }
     ensures none { result ≡ None → port.new ≡ port.old }

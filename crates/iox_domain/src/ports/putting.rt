@@ -19,7 +19,7 @@ impl<T: Copy, U: Copy> ServicePorts<T, U> {
     /// after the other, but its number is looked up once. If the loan fails the error is `SendError::LoanError`, and nothing is
     /// sent; `blank` fills a new segment.
     ///
-    /// The call answers None, and nothing happens, if no open publisher has this number, and while a send of it waits.
+    /// The call answers None, and nothing happens, if no open publisher has this number, and while a send of it is blocked.
     ///
     /// Ported from `iceoryx2::port::publisher::Publisher::send_copy`, for slices.
     /// Example: `let sent = ports.put(alloc, number, &[7, 8], 0, handlers);`
@@ -40,7 +40,7 @@ impl<T: Copy, U: Copy> ServicePorts<T, U> {
     }
 }
 
-// A publisher puts values, if it is open and no send of it waits.
+// A publisher puts values, if it is open and no send of it is blocked.
 #[tactic(auto, using(crate::proofs::Putting::puts_free, crate::proofs::Putting::puts_none))]
 fn put_one<T: Copy, U: Copy, B: Decides + Degrades>(
     port: &mut PublisherPort<T, U>,
@@ -61,7 +61,7 @@ fn put_one<T: Copy, U: Copy, B: Decides + Degrades>(
     Some(put_free(port, alloc, values, blank, list, handlers))
 }
 
-// An open publisher, of which no send waits, puts values.
+// An open publisher, of which no send is blocked, puts values.
 #[tactic(auto, using(crate::proofs::Putting::refused_stands))]
 fn put_free<T: Copy, U: Copy, B: Decides + Degrades>(
     port: &mut PublisherPort<T, U>,
@@ -85,7 +85,7 @@ fn put_free<T: Copy, U: Copy, B: Decides + Degrades>(
     }
 }
 
-// A publisher of which no send waits loans a slot for `count` values.
+// A publisher of which no send is blocked loans a slot for `count` values.
 fn lend_free<T: Copy, U: Copy>(
     port: &mut PublisherPort<T, U>,
     alloc: Global,

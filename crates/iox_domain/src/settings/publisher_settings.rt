@@ -21,7 +21,7 @@ pub struct PublisherSettings {
     pub first_sequence: u64,
 }
 
-/// Two loans, sends that wait at a full mailbox, slices of one value, slots that don't grow, and sequence numbers from 1 on.
+/// Two loans, sends that block at a full mailbox, slices of one value, slots that don't grow, and sequence numbers from 1 on.
 impl Default for PublisherSettings {
     ghost is_default = { λ made. made ≡ publisher_defaults };
 

@@ -60,7 +60,7 @@ impl MadeFactory {
         }
     }
 
-    /// Closes the service in its hub, if nothing keeps it from being closed. It is spent, whatever the answer.
+    /// Closes the service in its hub, if nothing keeps it from being closed. It is consumed, whatever the answer.
     ///
     /// Refused with `UnableToRemoveDescription` and `UnableToRemoveSegment` as `Hub::close` refuses it.
     pub fn close<T: Copy, U: Copy, B: Drop, D: Drop>(

@@ -80,7 +80,7 @@ fn is_kept_object(handler: Option<&DegradationHandler>) -> bool
     }
 }
 
-/// Whether mailboxes don't overflow, and a send of some publisher would wait at a full one.
+/// Whether mailboxes don't overflow, and a send of some publisher would block at a full one.
 pub fn is_retrying<T: Copy, U: Copy>(domain: &Domain<T, U>) -> bool
     ensures { result ≡ is_retrying domain.now }
 {
@@ -98,7 +98,7 @@ fn has_retrying<T: Copy, U: Copy>(domain: &Domain<T, U>) -> bool
     false
 }
 
-// Whether this publisher isn't closed, and a send of it would wait at a full mailbox.
+// Whether this publisher isn't closed, and a send of it would block at a full mailbox.
 fn retries<T: Copy, U: Copy>(
     handlers: &Kept<Handlers>,
     number: u64,
@@ -109,7 +109,7 @@ fn retries<T: Copy, U: Copy>(
     port.stands && would_wait(handlers.get(number))
 }
 
-// Whether a send with these handlers waits at a full mailbox.
+// Whether a send with these handlers blocks at a full mailbox.
 fn would_wait(handlers: Option<&Handlers>) -> bool
     ensures { result ≡ would_wait (option_copied handlers.entry) }
 {

@@ -14,7 +14,7 @@ use iox_domain_ports::PublisherPort;
 /// What may keep a publisher from becoming a lane, as far as its port and the list of publishers show.
 #[derive(Clone, Copy)]
 pub(crate) enum Question {
-    /// Whether a send of the publisher waits.
+    /// Whether a send of the publisher is blocked.
     Blocked,
     /// Whether its capacity for values may grow.
     Growing,

@@ -8,7 +8,7 @@ use thiserror::Error;
 /// Why a domain can't become lanes. Not in `iceoryx2`.
 #[derive(Clone, Copy, Debug, PartialEq, Eq, Hash, Error)]
 pub enum IntoLanesError {
-    /// A send of some publisher waits at a full mailbox.
+    /// A send of some publisher is blocked at a full mailbox.
     Blocked,
     /// A listed port hasn't followed the current list of the other side, a listed publisher and a listed subscriber aren't connected, or a
     /// listed publisher has a connection for a place where nobody is listed.
@@ -17,7 +17,7 @@ pub enum IntoLanesError {
     NotStatic,
     /// Some port has a handler that is an object of the caller.
     HasHandlers,
-    /// Mailboxes don't overflow, and a send of some publisher would wait at a full one.
+    /// Mailboxes don't overflow, and a send of some publisher would block at a full one.
     Retrying,
     /// A loan or a sample is out, a connection of a closed publisher still exists, or a closed port isn't gone.
     Lingering,

@@ -1,4 +1,4 @@
-//! Tables with texts of all sizes, and any number of foreign steps, with ample memory.
+//! Tables with texts of all sizes, and any number of actions of other nodes, with ample memory.
 use crate::answers::hold;
 use iox_describe::ServiceHash;
 use iox_negotiate_base::{LockAnswer, LookAnswer, MakeSegmentAnswer, PublishAnswer, Storage};
