@@ -11,9 +11,10 @@ invariants and functions that aren't public don't count. A clause reaches what i
 definition what it names by its `use` lines. Both are read as text: a name counts as used wherever it occurs.
 
 Counted is what a reader of the machine's promises must read: all that is reached by the clauses of the headline, of typed calls,
-and of lanes in turn. Of a typed call and of one of lanes each clause counts, `requires` too. Of `run` and `serve` those count
-that are in the machine's words (`HEADLINE`). Their further clauses speak of the code's own relation, numbers, room and places:
-they are the way of the proof, and promise what the machine doesn't know. DEFINITIONS.md has the counted ones, and only these.
+and of lanes whose calls don't overlap. Of a typed call and of one of lanes each clause counts, `requires` too. Of `run` and
+`serve` those count that are in the machine's words (`HEADLINE`). Their further clauses speak of the code's own relation, numbers,
+capacity and places: they are the way of the proof, and promise what the machine doesn't know. DEFINITIONS.md has the counted ones,
+and only these.
 The status is 1 where a sentence is missing, where the page differs, or where the counted ones are more than `MOST`.
 """
 
@@ -36,7 +37,7 @@ HANDED_ON = "handed on"
 OF_MODELS = {"view", "invariant"}
 # The clauses by which the program and a run of commands answer as the plain machine: of each crate's function, by their names.
 HEADLINE = {("iox_hub", "run"): ("answers",), ("iox_script", "serve"): ("answered", "begun")}
-# The types of typed calls, and of lanes in turn, each with its crate: all clauses of their public methods count.
+# The types of typed calls, and of lanes whose calls don't overlap, each with its crate: all clauses of their public methods count.
 TYPED = [("iox_hub", "RecordedHub")]
 IN_TURN = [("iox_lanes_service", "LanesInTurn")]
 # How many definitions these clauses may reach in all.
@@ -51,7 +52,7 @@ READING = [
     ("What a script says, and is answered", ["iox_line", "iox_conversation", "iox_script"]),
     ("On what the machine's answers stand", ["iox_negotiate_machine", "iox_hub_machine", "iox_hub_commands"]),
     ("A hub's runs and typed calls", ["iox_container", "iox_domain", "iox_hub"]),
-    ("Lanes in turn", ["iox_queues_steps", "iox_lanes_machine", "iox_lanes_service"]),
+    ("Lanes whose calls don't overlap", ["iox_queues_steps", "iox_lanes_machine", "iox_lanes_service"]),
 ]
 COUNTED = "## The counted definitions"
 HEADER = "| Definition | In plain words | File |\n|---|---|---|"
@@ -255,7 +256,8 @@ def counted(known):
     names, asked = methods_named(asked, TYPED)
     typed = names and f"With the clauses of typed calls, the methods of {names}, they reach {len(closure(known, asked))} definitions."
     names, asked = methods_named(asked, IN_TURN)
-    turns = names and f"With those of lanes in turn, the methods of {names}, they reach {len(closure(known, asked))} definitions."
+    head = f"With those of lanes whose calls don't overlap, the methods of {names}, they reach"
+    turns = names and f"{head} {len(closure(known, asked))} definitions."
     found = {it for it in closure(known, asked) if known[it][0] != HANDED_ON}
     return found, [it for it in (sentence, typed, turns) if it]
 

@@ -14,8 +14,8 @@ returns-then-is_err-clause-comes g c =
     let mid = c.pledge_for_publisher.new.self in (
       publisher_in_room g.U.Default.is_default (λ handlers. g.B.Degrades.degrades handlers) c.args.domain
           (publisher_config c.args.owner c.args.options.now) c.args.options.now.preallocated_samples c.args.handlers c.args.self.now mid
-          mid c.publisher_refused.result
-          c.pledge_for_publisher.ensures.same (c.publisher_refused.ensures mid.made c.args.handlers),
+          mid c.publisher_refused-then-is_err.result
+          c.pledge_for_publisher.ensures.same (c.publisher_refused-then-is_err.ensures mid.made c.args.handlers),
       ap (λ hub. hub.factories) c.pledge_for_publisher.ensures.same.1,
     )
 

@@ -17,8 +17,8 @@ pub returns-then-is_err-clause-comes : goal.returns-then-is_err-clause-comes
 returns-then-is_err-clause-comes g c =
     let mid = c.pledge_samples.new.self in (
       subscriber_in_room (λ handler. g.D.Degrades.degrades handler) c.args.domain (subscriber_config c.args.owner c.args.options.now)
-          c.args.handler c.args.self.now mid mid c.subscriber_refused.result
-          c.pledge_samples.ensures.same (c.subscriber_refused.ensures mid.made c.args.handler),
+          c.args.handler c.args.self.now mid mid c.subscriber_refused-then-is_err.result
+          c.pledge_samples.ensures.same (c.subscriber_refused-then-is_err.ensures mid.made c.args.handler),
       ap (λ hub. hub.factories) c.pledge_samples.ensures.same.1,
     )
 

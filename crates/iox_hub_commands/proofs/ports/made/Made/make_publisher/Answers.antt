@@ -27,5 +27,5 @@ returns-then-is_err-clause-comes g c =
 pub returns-clause-others : goal.returns-clause-others
 returns-clause-others g c =
     let (came, comes, numbers) = c.create_publisher.ensures in
-    publisher_tables c.args.domain c.args.parts.holds_slices c.args.self.now.publishers.next came c.create_publisher.result
+    publisher_tables c.args.domain c.args.parts.holds_slices c.room_for_one.new.numbers.next came c.create_publisher.result
     (record c.args.self.now { publishers = c.room_for_one.new.numbers }) c.create_publisher.new.self numbers

@@ -27,5 +27,5 @@ returns-then-is_err-clause-comes g c =
 pub returns-clause-others : goal.returns-clause-others
 returns-clause-others g c =
     let (came, comes, numbers) = c.create_subscriber.ensures in
-    let (loans, samples, publishers) = subscriber_tables c.args.domain c.args.self.now.subscribers.next came c.create_subscriber.result
+    let (loans, samples, publishers) = subscriber_tables c.args.domain c.room_for_one.new.numbers.next came c.create_subscriber.result
     (record c.args.self.now { subscribers = c.room_for_one.new.numbers }) c.create_subscriber.new.self numbers in (loans, samples)
