@@ -15,7 +15,7 @@ CRATES = re.compile(r"iox_negotiate|iox_delivery\w*|iox_hub(?:_base|_run)?")
 # What stands before a bracket and calls nothing.
 WORDS = {"if", "match", "while", "for", "in", "return"}
 # Calls of the standard library.
-STANDARD = {"ok", "err", "unwrap", "get", "len", "to_le_bytes"}
+STANDARD = {"ok", "err", "map_err", "unwrap", "get", "len", "to_le_bytes"}
 # Modules of laws.
 LAWS = {"laws", "whole_calls"}
 CALL = re.compile(r"(?P<way>\.|(?:\w+(?:::<(?:[^()]|\(\))*?>)?::)+)?(?<!\w)(?P<name>[a-z]\w*)(?:::<(?:[^()]|\(\))*?>)?\(")

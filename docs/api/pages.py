@@ -9,6 +9,8 @@ from api.whole import whole_examples
 from api.words import clause_html, file_text, href_of, path_of
 
 OF_TYPES = ("struct", "enum", "trait", "type")
+# What a first program names, in its order: the index begins with these.
+OF_A_FIRST_PROGRAM = ("Hub", "HubConfig", "ServiceName", "Publisher", "Sent", "Subscriber", "Sample", "Payload", "Words")
 HEADINGS = {"struct": "Structs", "enum": "Enums", "trait": "Traits", "fn": "Functions", "type": "Types", "const": "Constants"}
 
 
@@ -369,7 +371,9 @@ def start_here(library):
     """What a program needs first: the names of the prelude, and the other modules of the crate that programs depend on."""
     users = library.crates[library.FIRST]
     prelude = users.modules[("prelude",)]
-    named = [(name, library.place(prelude, path)) for name, path in prelude.handed_on.items()]
+    order = {name: place for place, name in enumerate(OF_A_FIRST_PROGRAM)}
+    handed_on = sorted(prelude.handed_on.items(), key=lambda it: order.get(it[0], len(order)))
+    named = [(name, library.place(prelude, path)) for name, path in handed_on]
     names = "".join(f"<li>{anchor(place.href, f'<code>{escape(name)}</code>')}</li>" for name, place in named if place)
     modules = [it for it in users.modules.values() if it.is_public and len(it.path) == 1]
     shown = ", ".join(anchor(f"{users.name}.html#{it.name}", f"<code>{it.name}</code>") for it in modules)

@@ -9,8 +9,8 @@ ghost use Rattle.iox_negotiate_table.specs.NegotiateBase.declared.failure.Create
 use iox_describe::ServiceHash;
 use iox_negotiate::{Negotiated, ServiceBuilder};
 use iox_negotiate_base::{
-    CreateFailure, LeaveAnswer, LockAnswer, LookAnswer, MakeSegmentAnswer, OpenSegmentAnswer,
-    PublishAnswer, RemoveAnswer, Storage,
+    LeaveAnswer, LockAnswer, LookAnswer, MakeSegmentAnswer, OpenSegmentAnswer, PublishAnswer,
+    RemoveAnswer, Storage,
 };
 use std::alloc::Global;
 
@@ -84,9 +84,5 @@ pub(crate) fn lacking_create<P: Negotiated>(
         × (result ≡ P.create_error (unwrap_or refusal OutOfMemory)) }
 {
     let mut table = Untouched;
-    let created = builder.create(alloc, &mut table);
-    match created {
-        Err(error) => error,
-        Ok(_made) => P::create_error(CreateFailure::OutOfMemory),
-    }
+    builder.create(alloc, &mut table).unwrap_err()
 }

@@ -36,9 +36,7 @@ impl<V: Copy> Roll<V> {
         ensures { IfOk result (λ roll. roll ≡ new_roll places) }
     {
         // A container knows the owner of each member, so that the members of a dead process can be removed; here no process dies.
-        let Ok(owner) = OwnerId::new(1) else {
-            return Err(AllocError);
-        };
+        let owner = OwnerId::new(1).unwrap();
         Ok(Roll {
             container: Container::new(alloc, 0, places)?,
             owner,
