@@ -85,10 +85,10 @@ pub fn hear_pose<H: Home<Pose, u64>>(
         return Ok(None);
     };
     if !sample.holds(poses) {
-        let _ = sample.into_taken();
+        sample.drop_with(poses);
         bail!("no sample");
     }
     let pose = sample.payload(poses).first().copied();
-    sample.release(poses);
+    sample.drop_with(poses);
     Ok(pose)
 }

@@ -26,18 +26,21 @@
 //! let loan = publisher.loan_uninit(alloc, home).ok()?;
 //! let sample = loan.write_payload(home, 7);
 //! if !sample.holds(home) || sample.is_blocked(home) {
-//!     let _ = sample.drop_with(home).map_err(|sample| sample.into_slot());
+//!     sample.drop_with(home);
 //!     return None;
 //! }
 //! match sample.send(alloc, home) {
 //!     Ok(Sent::Delivered(count)) => Some(count),
-//!     Ok(Sent::Blocked(blocked)) => blocked.drop_with(home).map_err(|blocked| blocked.into_port()).ok(),
+//!     Ok(Sent::Blocked(blocked)) => {
+//!         blocked.drop_with(home);
+//!         None
+//!     }
 //!     Err(_) => None,
 //! }
 //! // the subscriber's side
 //! let sample = subscriber.receive(alloc, home).ok()??;
 //! if !sample.holds(home) {
-//!     let _ = sample.into_taken();
+//!     sample.drop_with(home);
 //!     return None;
 //! }
 //! let value = *sample.payload(home);

@@ -1,6 +1,5 @@
 pub mod Arrived
 mod Refused
-mod Beside
 pub mod Misfit
 pub mod Answering
 pub mod Written
@@ -36,6 +35,5 @@ pub mod LoanMeasure
 pub mod SampleMeasure
 pub mod StepKeeps
 pub mod PortRooms
-mod RoomsGrow
 mod Sequences
 pub use Rattle.iox_container.proofs as Container

@@ -14,9 +14,9 @@ use std::test::Fail;
 enum Publishing<T> {
     // It follows the subscribers.
     Follows,
-    // A value is loaned, written and sent.
+    // A value is lent, written and sent.
     Lends(T),
-    // A default is loaned and sent.
+    // A default is lent and sent.
     LendsDefault,
     // A copy is sent.
     Copies(T),

@@ -27,7 +27,7 @@ const CONFIG: HubConfig = HubConfig {
     id: 0,
 };
 
-// Two actions, of which the first is the first answer, and then they alternate: so answers show how often the object was asked.
+// Two actions, of which the first is the answer at first, and then each in turn: so answers show how often it was asked.
 #[derive(Drop)]
 struct InTurn<A> {
     actions: (A, A),
@@ -61,72 +61,6 @@ impl DegradationFn for InTurn<DegradationAction> {
         self.next()
     }
 }
-
-// What the object is given at each call, one after the other: the service, the sender, the receiver, how often the send was retried and for
-// how long. It returns the answer in the same row. If it is given anything else, or is asked once more, its answer lets the call fail.
-#[derive(Drop)]
-struct Told<A: 'static> {
-    rows: &'static [([u64; 5], A)],
-    otherwise: A,
-    calls: Cell<usize>,
-}
-
-impl<A: Copy> Told<A> {
-    fn next(&self, told: [u64; 5]) -> A {
-        let call = self.calls.get();
-        self.calls.set(call.wrapping_add(1));
-        match self.rows.get(call) {
-            Some(row) if row.0 == told => row.1,
-            _ => self.otherwise,
-        }
-    }
-}
-
-impl BackpressureFn for Told<BackpressureAction> {
-    ghost allows = { λ _ _ _. ⊤ };
-
-    fn call(&self, info: &BackpressureInfo) -> BackpressureAction {
-        self.next([
-            info.service_id,
-            info.sender_port_id,
-            info.receiver_port_id,
-            info.retries,
-            info.elapsed_time,
-        ])
-    }
-}
-
-impl DegradationFn for Told<DegradationAction> {
-    ghost allows = { λ _ _ _ _. ⊤ };
-
-    fn call(&self, cause: DegradationCause, info: &DegradationInfo) -> DegradationAction {
-        self.next([
-            info.service_id,
-            info.sender_port_id,
-            info.receiver_port_id,
-            0,
-            0,
-        ])
-    }
-}
-
-// What is given about full mailboxes, at place 7: port 4 of service 2 sends two messages to ports 1 and 2.
-const TOLD_FULL: [([u64; 5], BackpressureAction); 6] = [
-    ([2, 4, 1, 0, 0], BackpressureAction::Retry),
-    ([2, 4, 1, 1, 5], BackpressureAction::Retry),
-    ([2, 4, 1, 2, 70], BackpressureAction::DiscardData),
-    ([2, 4, 2, 0, 0], BackpressureAction::Retry),
-    ([2, 4, 1, 0, 0], BackpressureAction::DiscardData),
-    ([2, 4, 2, 0, 0], BackpressureAction::DiscardData),
-];
-
-// What is given about a connection that failed, at place 8: of port 5 of service 2 to port 2.
-const TOLD_FAILURES: [([u64; 5], DegradationAction); 4] = [
-    ([2, 5, 2, 0, 0], DegradationAction::Ignore),
-    ([2, 5, 2, 0, 0], DegradationAction::DegradeAndFail),
-    ([2, 5, 2, 0, 0], DegradationAction::Ignore),
-    ([2, 5, 2, 0, 0], DegradationAction::DegradeAndFail),
-];
 
 // What those for full mailboxes do, at places 1 to 4.
 const AT_FULL: [(BackpressureAction, BackpressureAction); 4] = [
@@ -173,25 +107,6 @@ fn hand_in_failures(alloc: Global, given: &mut Given, more: usize) -> Result<(),
         let object = Box::new(alloc, InTurn { actions, is_second })?;
         given.hand_in(GivenHandler::Degradation(DegradationHandler::boxed(object)))?;
     }
-    Ok(())
-}
-
-// Hands in the objects that are asked in each call.
-fn hand_in_told(alloc: Global, given: &mut Given) -> Result<(), AllocError> {
-    let full = Told {
-        rows: &TOLD_FULL,
-        otherwise: BackpressureAction::DiscardDataAndFail,
-        calls: Cell::new(0),
-    };
-    let object = Box::new(alloc, full)?;
-    given.hand_in(GivenHandler::Backpressure(BackpressureHandler::boxed(object)))?;
-    let failures = Told {
-        rows: &TOLD_FAILURES,
-        otherwise: DegradationAction::DegradeAndFail,
-        calls: Cell::new(0),
-    };
-    let object = Box::new(alloc, failures)?;
-    given.hand_in(GivenHandler::Degradation(DegradationHandler::boxed(object)))?;
     Ok(())
 }
 
@@ -324,7 +239,7 @@ pub(crate) enum Course {
     Lines(&'static [Row]),
     /// So many commands are run, with as many more objects handed in, with handlers or without.
     Runs(usize, bool),
-    /// The domain of a service becomes lanes.
+    /// The domain of a service goes by lanes.
     Lanes,
 }
 
@@ -355,7 +270,6 @@ fn take(
     match course {
         Course::Lines(rows) => {
             hand_in_failures(alloc, given, 0)?;
-            hand_in_told(alloc, given)?;
             go_on(rt, alloc, hub, given, scratch, rows)
         }
         Course::Runs(len, with_handlers) => {
@@ -475,87 +389,13 @@ const FAILURE: &[Row] = &[
     ),
 ];
 
-// An object that is asked is given the service, the ports, and for a full mailbox how often and for how long it was retried: once in each
-// call, and each time for the mailbox that is full.
-const ASKED_FULL: &[Row] = &[
-    ("node", None, None, "ok n1"),
-    ("create n1 ps A", None, None, "ok f1"),
-    ("close f1", None, None, "ok"),
-    (
-        "create n1 ps A overflow=0 buffer=1 publishers=3 borrowed=1",
-        None,
-        None,
-        "ok f2",
-    ),
-    ("subscriber f2", None, None, "ok s1"),
-    ("subscriber f2", None, None, "ok s2"),
-    ("publisher f2", None, None, "ok p1"),
-    ("publisher f2 handler=fail", Some(7), None, "ok p2"),
-    ("update s1", None, None, "ok"),
-    ("update s2", None, None, "ok"),
-    ("put p2 1", None, None, "ok 2"),
-    ("put p2 2", None, None, "blocked"),
-    ("retry p2 5", None, None, "blocked"),
-    ("retry p2 70", None, None, "blocked"),
-    ("receive s2", None, None, "ok m1 1"),
-    ("retry p2 9", None, None, "ok 1"),
-    ("put p2 3", None, None, "ok 0"),
-    ("put p2 4", None, None, "err SendError::UnableToDeliver"),
-];
-
-// The same of a connection that failed: at each call that tries it.
-const ASKED_FAILURE: &[Row] = &[
-    ("node", None, None, "ok n1"),
-    ("create n1 ps A", None, None, "ok f1"),
-    ("close f1", None, None, "ok"),
-    (
-        "create n1 ps A publishers=1 borrowed=1",
-        None,
-        None,
-        "ok f2",
-    ),
-    ("subscriber f2", None, None, "ok s1"),
-    ("leave s1", None, None, "ok"),
-    ("subscriber f2 degrade=fail", None, Some(8), "ok s2"),
-    ("publisher f2", None, None, "ok p1"),
-    ("put p1 7", None, None, "ok 1"),
-    ("receive s2", None, None, "ok m1 7"),
-    ("leave p1", None, None, "ok"),
-    ("update s2", None, None, "ok"),
-    ("publisher f2", None, None, "ok p2"),
-    ("put p2 8", None, None, "ok 1"),
-    ("receive s2", None, None, "ok m2 8"),
-    ("leave p2", None, None, "ok"),
-    ("update s2", None, None, "ok"),
-    ("publisher f2", None, None, "ok p3"),
-    ("receive s2", None, None, "none"),
-    (
-        "has s2",
-        None,
-        None,
-        "err ConnectionFailure::FailedToEstablishConnection(ExpiredConnectionBufferFull)",
-    ),
-    ("update s2", None, None, "ok"),
-    (
-        "receive s2",
-        None,
-        None,
-        "err ReceiveError::ConnectionFailure(FailedToEstablishConnection(ExpiredConnectionBufferFull))",
-    ),
-    ("release m1", None, None, "ok"),
-    ("put p3 9", None, None, "ok 1"),
-    ("receive s2", None, None, "ok m3 9"),
-];
-
 #[test]
 fn handlers_that_are_named_are_asked(rt: HostRuntime) -> Result<(), AllocError> {
     go(&rt, rt.alloc(), Course::Lines(FULL))?;
-    go(&rt, rt.alloc(), Course::Lines(FAILURE))?;
-    go(&rt, rt.alloc(), Course::Lines(ASKED_FULL))?;
-    go(&rt, rt.alloc(), Course::Lines(ASKED_FAILURE))
+    go(&rt, rt.alloc(), Course::Lines(FAILURE))
 }
 
-// A publisher is created.
+// A publisher comes.
 const PUBLISHER: &[Row] = &[
     ("node", None, None, "ok n1"),
     ("create n1 ps A", None, None, "ok f1"),

@@ -1,4 +1,4 @@
-//! The domain of a service becomes lanes for a while, in a hub that runs commands.
+//! The domain of a service goes by lanes for a while, in a hub that commands drive.
 use crate::handled::{self, Course, Given, Numbers, Row, go};
 use crate::ports::must_be_there;
 use iox_hub::service::Domain;
@@ -52,7 +52,7 @@ fn add(entries: &mut Vec<Entry>, call: Call) -> Result<(), AllocError> {
     Ok(())
 }
 
-// A value is sent in the slot that is loaned.
+// A value is sent in the slot that is lent.
 fn schedule(alloc: Global) -> Result<Vec<Entry>, AllocError> {
     let mut entries = Vec::new(alloc);
     add(&mut entries, Call::LoanUninit)?;
@@ -77,7 +77,7 @@ fn gone_by(alloc: Global, entries: &[Entry], domain: Domain<u64, u64>) -> Option
     opened.into_domain().ok()
 }
 
-// Whether the domain becomes lanes after commands of its hub, and is put back there.
+// Whether the domain goes by lanes, behind commands of its hub, and is put back there.
 fn goes_by_lanes(
     rt: &impl Abort,
     alloc: Global,

@@ -1,4 +1,4 @@
-//! Tests of ports as values, of a hub by typed calls, by commands and as it is recorded, and of a service that becomes lanes: what no
+//! Tests of ports as values, of a hub by typed calls, by commands and as it is recorded, and of a service that goes by lanes: what no
 //! clause says.
 //!
 //! What the calls come to is said by their clauses. Here each call that makes something succeeds with ample memory, at all
@@ -7,22 +7,15 @@
 //! - `services`: services of a hub.
 //! - `conversations`: messages of single values go from node to node, up to the last number.
 //! - `slices`: messages of slices go through a domain.
-//! - `asked`: the handler of a port is asked about a connection for which no memory is found.
-//! - `clones`: what ports report about themselves whose builders were cloned.
 //! - `custom`: ports of a payload that only the description says.
 //! - `ports`: what must be so before a call of a port.
-//! - `making`: ports and domains are made, or say that they found no memory.
 //! - `handled`: handlers that commands name by their places.
-//! - `lanes`: a service of a hub becomes lanes, and commands use it again afterwards.
+//! - `lanes`: a service of a hub goes by lanes, and by commands again.
 //! - `recorded`: a recorded hub, called as a program calls it.
 //! - `texts`: how errors display and hash, and what handles show.
 //! - `values`: the text form, and the objects that a caller hands in.
 #![tactic(auto)]
 
-#[cfg(test)]
-mod asked;
-#[cfg(test)]
-mod clones;
 #[cfg(test)]
 mod conversations;
 #[cfg(test)]
@@ -31,8 +24,6 @@ mod custom;
 mod handled;
 #[cfg(test)]
 mod lanes;
-#[cfg(test)]
-mod making;
 #[cfg(test)]
 mod ports;
 #[cfg(test)]

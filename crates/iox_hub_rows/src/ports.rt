@@ -55,9 +55,7 @@ pub(crate) fn sent_to<T: Copy, U: Copy, H: Home<T, U>>(
     match sent {
         Ok(Sent::Delivered(delivered)) => Ok(delivered),
         Ok(Sent::Blocked(blocked)) => {
-            let _ = blocked
-                .drop_with(home)
-                .map_err(|blocked| blocked.into_port());
+            blocked.drop_with(home);
             Err(SendError::UnableToDeliver)
         }
         Err(error) => Err(error),

@@ -42,7 +42,7 @@ const NUMBERED: PublishSubscribeOptions = PublishSubscribeOptions {
     sequence_numbers: Some(true),
 };
 
-// Its sends block at a full mailbox.
+// Its sends wait where a mailbox is full.
 const PUBLISHER: PublisherOptions = PublisherOptions {
     max_loaned_samples: None,
     backpressure_strategy: Some(BackpressureStrategy::RetryUntilDelivered),
@@ -70,7 +70,7 @@ enum Step {
     SubscriberFollows,
     // Whether messages wait for the subscriber.
     Has(bool),
-    // Values are sent to one subscriber at once; or the send is blocked at the full mailbox, and is still blocked when it is retried.
+    // Values are sent to one subscriber at once; or the send waits at the full mailbox, and waits still when it is tried again.
     Sends(Option<&'static [u64]>, bool),
     // Values are received with this number, or without one, and released.
     Receives(Option<&'static [u64]>, Option<u64>),
@@ -106,7 +106,7 @@ const NUMBERS: &[Step] = &[
     Step::Receives(Some(&[8]), Some(2)),
 ];
 
-// Whether values are sent to one subscriber at once, or the send is blocked, and is still blocked when it is retried.
+// Whether values are sent to one subscriber at once, or the send waits and does so still when it is tried again.
 fn is_sent(
     alloc: Global,
     hub: &mut Recorded,
@@ -348,7 +348,7 @@ fn is_created_with_numbers(alloc: Global, hub: &mut Recorded) -> bool {
     }
 }
 
-// Whether a node is refused that creates a service where another is about to, and one that opens a service where none exists.
+// Whether a node is refused that creates a service where another is about to, and one that opens a service where none stands.
 fn is_refused(alloc: Global, hub: &mut Recorded) -> bool {
     let Ok(node) = hub.new_node() else {
         return false;
@@ -436,7 +436,7 @@ fn begins_and_ends(alloc: Global, hub: &mut Recorded) -> bool {
 enum Course {
     // Messages go through a service, the first one with these values.
     Messages(&'static [u64]),
-    // Services are created and removed.
+    // Services come and go.
     Services,
 }
 

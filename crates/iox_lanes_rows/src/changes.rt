@@ -1,14 +1,14 @@
 //! What a domain becomes: lanes, their ports in threads, and a domain again.
-use crate::domain::{Numbers, UserHeader, Value};
+use crate::domain::Numbers;
 use iox_lanes::threads::{DomainThreads, end, end_together, open_threads};
 use iox_lanes::{DomainLanes, EndError, IntoDomainError, IntoLanesError, OpenError, into_lanes};
 use std::alloc::{AllocError, Global};
 
 /// The lanes of a domain of numbers.
-pub(crate) type NumberLanes = DomainLanes<Value, UserHeader>;
+pub(crate) type NumberLanes = DomainLanes<u128, ()>;
 
 /// Their ports in threads.
-pub(crate) type NumberThreads = DomainThreads<Value, UserHeader>;
+pub(crate) type NumberThreads = DomainThreads<u128, ()>;
 
 /// What becomes something else, or stays as it is for a reason.
 pub(crate) trait Becomes<B, E>: Drop {

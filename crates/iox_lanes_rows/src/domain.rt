@@ -1,4 +1,4 @@
-//! A domain of numbers, and the calls of its ports. Ports have numbers: from 1 on, in the order of their creation.
+//! A domain of numbers, and the calls of its ports. Ports go by their numbers: from 1 on, in the order in which they come.
 ghost use Rattle.std.specs.Prelude.{⊤};
 
 use crate::answers::in_memory;
@@ -16,25 +16,19 @@ use iox_domain_values::{
 use std::alloc::{AllocError, Global};
 
 /// A domain of numbers of two words, with no user header.
-pub(crate) type Numbers = Domain<Value, UserHeader>;
+pub(crate) type Numbers = Domain<u128, ()>;
 
 /// What it lends to the calls of its ports.
-pub(crate) type State = DomainState<Value, UserHeader>;
+pub(crate) type State = DomainState<u128, ()>;
 
-type Ports = ServicePorts<Value, UserHeader>;
+type Ports = ServicePorts<u128, ()>;
 
-/// A value has three words.
-pub(crate) type Value = [u64; 3];
+// Above each number of one word.
+const ABOVE: u128 = 1 << 64;
 
-/// A user header has two.
-pub(crate) type UserHeader = u128;
-
-/// The user header of each message.
-pub(crate) const HEADER: UserHeader = (5 << 64) + 9;
-
-/// A number in the words of a value, each of which says it otherwise.
-pub(crate) fn in_all_words(number: u64) -> Value {
-    [number, !number, number ^ (1 << 40)]
+/// A number in both words of a value.
+pub(crate) fn in_both_words(number: u64) -> u128 {
+    u128::from(number).saturating_mul(ABOVE + 1)
 }
 
 /// What is agreed.
@@ -133,12 +127,12 @@ pub(crate) const PAIRS: Plan = Plan {
     ..PLAIN
 };
 
-/// What is done in a domain, and its outcome. Ports are named by their numbers.
+/// What is done in a domain, and what comes of it. Ports go by their numbers.
 #[derive(Clone, Copy)]
 pub(crate) enum InDomain {
     /// A publisher sends a value.
     Sends(u64, u64, Result<Sent, SendError>),
-    /// A subscriber receives the message of this number and this value, and releases it.
+    /// A subscriber receives the message of this number and this value, and gives it back.
     Gets(u64, u64, u64),
     /// A subscriber receives nothing.
     Nothing(u64),
@@ -148,18 +142,18 @@ pub(crate) enum InDomain {
     Relists(u64),
     /// A subscriber receives this value, and the sample is kept.
     Holds(u64, u64),
-    /// That sample is released.
+    /// That sample is given back.
     Frees,
 }
 
 /// What comes to a domain, and goes wherever memory is found for it.
 #[derive(Clone, Copy)]
 pub(crate) enum Arrival {
-    /// A publisher is created.
+    /// A publisher comes.
     Publisher(Plan),
-    /// A subscriber is created, with this buffer size if one is named.
+    /// A subscriber comes, for which so many messages may wait if that is named.
     Subscriber(Option<usize>),
-    /// So many subscribers are created, and as many publishers; all follow the others.
+    /// So many subscribers come, and as many publishers; all follow the others.
     Crowd(u64),
     /// All ports follow the others.
     Meeting,
@@ -182,7 +176,7 @@ impl BackpressureFn for Quiet {
 // What is agreed, as it is described.
 fn described(service: &Service) -> Option<Description> {
     let name = ServiceName::new(b"A").ok()?;
-    let types = MessageTypeDetails::from::<Header, UserHeader, Value>(service.variant);
+    let types = MessageTypeDetails::from::<Header, (), u128>(service.variant);
     let mut config = StaticConfig::new(types);
     config.enable_safe_overflow = service.overflow;
     config.subscriber_max_buffer_size = service.buffer;
@@ -225,7 +219,7 @@ fn backpressure(
     })
 }
 
-// Whether each place that lists somebody is tied to a connection: a port that is created while memory for one is refused has none there.
+// Whether each place that lists somebody is tied to a connection: a port that comes where memory for one was refused has none there.
 fn ties_all<V>(ties: &Ties, listed: &[Option<Member<V>>]) -> bool {
     for place in 0..listed.len() {
         if listed[place].is_some() && ties.get(place).is_none() {
@@ -249,7 +243,7 @@ fn subscriber_ties_all(ports: &Ports, number: u64) -> bool {
     }
 }
 
-// Whether a publisher is created, with all its connections.
+// Whether a publisher comes, with all its connections.
 fn publish(alloc: Global, state: &mut State, plan: &Plan) -> bool {
     let Ok(backpressure) = backpressure(alloc, plan.answering) else {
         return false;
@@ -260,13 +254,13 @@ fn publish(alloc: Global, state: &mut State, plan: &Plan) -> bool {
         degradation: DegradationHandler::Fixed(DegradationAction::DegradeAndFail),
     };
     let slots = PreallocatedSamplesOverride::WorstCase;
-    match state.create_publisher(alloc, plan.config, HEADER, &slots, by) {
+    match state.create_publisher(alloc, plan.config, (), &slots, by) {
         Ok(number) => publisher_ties_all(&state.ports, number),
         Err(_) => false,
     }
 }
 
-// Whether a subscriber is created, with all its connections.
+// Whether a subscriber comes, with all its connections.
 fn subscribe(alloc: Global, state: &mut State, buffer_size: Option<usize>) -> bool {
     let by = DegradationHandler::Fixed(DegradationAction::DegradeAndFail);
     let config = SubscriberConfig {
@@ -293,7 +287,7 @@ fn meet(alloc: Global, state: &mut State) -> bool {
     true
 }
 
-// Whether so many subscribers are created, then as many publishers, and all follow the others.
+// Whether so many subscribers come, then as many publishers, and all follow the others.
 fn crowd(alloc: Global, state: &mut State, count: u64) -> bool {
     for place in 0..count.saturating_mul(2) {
         let came = if place < count {
@@ -308,7 +302,7 @@ fn crowd(alloc: Global, state: &mut State, count: u64) -> bool {
     meet(alloc, state)
 }
 
-// The outcome of a value that a publisher sends.
+// What comes of a value that a publisher sends.
 fn send(
     alloc: Global,
     state: &mut State,
@@ -318,7 +312,9 @@ fn send(
     let Some(Ok(slot)) = state.loan(alloc, number, 1, 1) else {
         return None;
     };
-    state.ports.write_payload(number, slot, in_all_words(value));
+    state
+        .ports
+        .write_payload(number, slot, in_both_words(value));
     state.send(alloc, number, slot)
 }
 
@@ -349,7 +345,7 @@ fn gets_nothing(alloc: Global, state: &mut State, number: u64) -> bool {
 
 // Whether a sample has this value.
 fn has_value(ports: &Ports, sample: Taken, value: u64) -> bool {
-    ports.payload(sample) == Some(&[in_all_words(value)])
+    ports.payload(sample) == Some(&[in_both_words(value)])
 }
 
 // Whether its message has this number.
@@ -360,7 +356,7 @@ fn has_sequence(ports: &Ports, sample: Taken, sequence: u64) -> bool {
     }
 }
 
-// Whether a subscriber receives this message, and releases it.
+// Whether a subscriber receives this message, and gives it back.
 fn gets(alloc: Global, state: &mut State, number: u64, sequence: u64, value: u64) -> bool {
     let Some(sample) = received(alloc, state, number) else {
         return false;
@@ -385,7 +381,7 @@ fn holds(
     }
 }
 
-// Whether the sample that is kept is released.
+// Whether the sample that is kept is given back.
 fn frees(ports: &mut Ports, kept: &Option<Taken>) -> bool {
     match *kept {
         Some(sample) => ports.release(sample.subscriber, sample),
@@ -399,7 +395,7 @@ fn relists(ports: &mut Ports, publisher: u64) -> bool {
     ports.publisher_list.enter(entry).is_some()
 }
 
-/// Whether it is created.
+/// Whether it comes.
 pub(crate) fn comes(
     alloc: Global,
     domain: &mut Option<Numbers>,

@@ -3,7 +3,7 @@ use crate::service::opened;
 use iox_lanes::{LanePublisher, LaneSizes, RingKind};
 use std::alloc::{AllocError, Global};
 
-// One publisher of long payloads, to nobody.
+// One publisher, to nobody.
 const ALONE: LaneSizes = LaneSizes {
     publishers: 1,
     subscribers: 0,
@@ -14,7 +14,7 @@ const ALONE: LaneSizes = LaneSizes {
     most_loans: 1,
     slots: 1,
     user_header_words: 2,
-    payload_words: 64,
+    payload_words: 1,
 };
 
 /// Whether the one at a place goes behind others.
@@ -38,6 +38,6 @@ pub(crate) fn pass_last<P: Drop>(from: &mut Vec<P>, to: &mut Vec<P>) -> Result<b
 
 /// Another board's publisher comes aside.
 pub(crate) fn another(alloc: Global, aside: &mut Vec<LanePublisher>) -> Result<bool, AllocError> {
-    let mut threads = opened(alloc, 3, ALONE)?;
+    let mut threads = opened(alloc, 2, ALONE)?;
     pass(&mut threads.publishers, 0, aside)
 }

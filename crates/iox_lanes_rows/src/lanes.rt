@@ -1,6 +1,6 @@
-//! What the ports of lanes send and receive, by whole calls. Messages have numbers, and ports are named by their places.
+//! What the ports of lanes send and receive, by whole calls. Messages have numbers, and ports go by their places.
 use crate::changes::NumberLanes;
-use crate::domain::{HEADER, UserHeader, Value, in_all_words};
+use crate::domain::in_both_words;
 use crate::stepping::{MOST_STEPS, step, whole};
 use iox_lanes::{
     Answer, Call, Delivery, Lanes, LoanAnswer, Move, Party, Receipt, SendAnswer, Stepped,
@@ -21,12 +21,12 @@ pub(crate) const ANY: Pace = Pace {
     send: MOST_STEPS,
 };
 
-/// What is done by lanes, and its outcome.
+/// What is done by lanes, and what comes of it.
 #[derive(Clone, Copy)]
 pub(crate) enum InLanes {
     /// A publisher sends a value. Its loan gets a slot at this pace, and its send has no more steps.
     Sends(usize, u64, SendAnswer, Pace),
-    /// A subscriber receives the message of this number and this value, and releases it.
+    /// A subscriber receives the message of this number and this value, and gives it back.
     Gets(usize, u64, u64),
     /// A subscriber receives nothing.
     Nothing(usize),
@@ -60,7 +60,7 @@ pub(crate) const TO_TWO: SendAnswer = SendAnswer::Delivered(Delivery {
     refused: 0,
 });
 
-/// The only mailbox is full, and is skipped.
+/// The only one is full, and is passed over.
 pub(crate) const TO_FULL: SendAnswer = SendAnswer::Delivered(Delivery {
     taken: 0,
     refused: 1,
@@ -73,22 +73,19 @@ pub(crate) const FULL: SendAnswer = SendAnswer::UnableToDeliver(Delivery {
 });
 
 /// The user header of what is sent: the send sets the number.
-pub(crate) const USER_HEADER: WithSequence<UserHeader> = WithSequence {
+pub(crate) const USER_HEADER: WithSequence<()> = WithSequence {
     sequence: 0,
-    user_header: HEADER,
+    user_header: (),
 };
 
 /// Whether these are the values of this message.
 pub(crate) fn are_values(
-    values: Option<(WithSequence<UserHeader>, Value)>,
+    values: Option<(WithSequence<()>, u128)>,
     sequence: u64,
     value: u64,
 ) -> bool {
     match values {
-        Some((header, came)) => {
-            (header.sequence, header.user_header) == (sequence, HEADER)
-                && came == in_all_words(value)
-        }
+        Some((header, came)) => header.sequence == sequence && came == in_both_words(value),
         None => false,
     }
 }
@@ -123,7 +120,7 @@ fn sends(
     let Some(loan) = lent(lanes, party, pace.loan) else {
         return Ok(false);
     };
-    let write = Call::write(alloc, loan, &in_all_words(value), &USER_HEADER)?;
+    let write = Call::write(alloc, loan, &in_both_words(value), &USER_HEADER)?;
     Ok(send_loan(lanes, party, loan, write, pace.send) == Some(Answer::Sent(answer)))
 }
 
@@ -171,7 +168,7 @@ fn reads(lanes: &mut Lanes, party: Party, sample: u64, sequence: u64, value: u64
     }
 }
 
-// Whether the subscriber at a place receives this message and releases it.
+// Whether the subscriber at a place receives this message and gives it back.
 fn gets(lanes: &mut Lanes, place: usize, sequence: u64, value: u64) -> bool {
     let Some(sample) = received(lanes, place) else {
         return false;

@@ -3,8 +3,7 @@
 //! It has no items of its own, only tests. Of lanes alone `random` has schedules by chance, beside what is `known` of their messages,
 //! `counted` a schedule that is run at once, and `messages` the messages that lanes keep. `in_turn` has a message of lanes whose calls go
 //! in turn. Of their ports in threads `service` makes services of two publishers and two subscribers, which work in threads: in `streams`
-//! they send numbers through four, and in `turns` two answer each other, both once all of them run (`start`). In `among_four` one thread
-//! calls four of each. `answers` are what tests
+//! they send numbers through four, and in `turns` two answer each other, both once all of them run (`start`). `answers` are what tests
 //! hold, and `texts` how errors display.
 //!
 //! What lanes promise is read once alone: `stepping` has their calls without it, and `calls` what rows ask of them.
@@ -22,8 +21,6 @@
 //! - `sizes`: domains with up to 1,000 messages, and with up to 64 publishers and subscribers.
 #![tactic(auto)]
 
-#[cfg(test)]
-mod among_four;
 #[cfg(test)]
 mod answers;
 #[cfg(test)]

@@ -32,11 +32,11 @@ const REFUSING: Service = Service {
 };
 
 // Of two subscribers, at each of which 3 messages may wait and 1 be borrowed: 4 · 2 · (3 + 1 + 2) + 2 steps for a loan, and for a send
-// 4 · 2 · (3 + 1 + 3) + 3 + 7, where the number is a word beside the two of the user header.
-const OF_TWO: Pace = Pace { loan: 50, send: 66 };
+// 4 · 2 · (3 + 1 + 3) + 1 + 7, where the number is a word.
+const OF_TWO: Pace = Pace { loan: 50, send: 64 };
 
-// Of one: 4 · (1 + 1 + 2) + 2 steps, and 4 · (1 + 1 + 3) + 3 + 7.
-const OF_ONE: Pace = Pace { loan: 18, send: 30 };
+// Of one: 4 · (1 + 1 + 2) + 2 steps, and 4 · (1 + 1 + 3) + 1 + 7.
+const OF_ONE: Pace = Pace { loan: 18, send: 28 };
 
 const CASES: [Case; 10] = [
     Case {

@@ -29,28 +29,26 @@ fn lending(count: u64) -> Plan {
     plan
 }
 
-// Whether as many messages are in the history, wait for the subscriber and are in the lanes, of which one is received there, beside a
-// publisher without any. As many may be borrowed and loaned.
+// Whether as many messages stand in the history, wait for the subscriber and are in the lanes, of which one is received there. As many may
+// be borrowed and lent.
 fn has_messages(rt: &impl Wait, alloc: Global, count: u64) -> Result<bool, AllocError> {
     let steps = [
         Step::Comes(Arrival::Publisher(lending(count))),
         Step::Comes(Arrival::Fill(1, count)),
-        Step::Comes(Arrival::Publisher(PLAIN)),
         Step::Comes(Arrival::Subscriber(None)),
         Step::Comes(Arrival::Meeting),
         Step::Opens(None),
         Step::Lanes(InLanes::Gets(0, 1, 0)),
         Step::Returns(None),
     ];
-    Ok(go(rt, alloc, &service(2, (count, count), count), &steps)? == steps.len())
+    Ok(go(rt, alloc, &service(1, (count, count), count), &steps)? == steps.len())
 }
 
-// A loan and a send to so many subscribers, at each of which one message may wait and one be borrowed, with a word of number and two of a
-// user header.
+// A loan and a send to so many subscribers, at each of which one message may wait and one be borrowed, with a word of number.
 fn pace_of(count: u64) -> Pace {
     Pace {
         loan: count.saturating_mul(16).saturating_add(2),
-        send: count.saturating_mul(20).saturating_add(10),
+        send: count.saturating_mul(20).saturating_add(8),
     }
 }
 
@@ -72,7 +70,7 @@ fn has_pace(rt: &impl Wait, alloc: Global, count: u64) -> Result<bool, AllocErro
     Ok(go(rt, alloc, &service(count, (1, 0), 1), &steps)? == steps.len())
 }
 
-// Whether so many publishers and as many subscribers become lanes, threads, and lanes once more.
+// Whether so many publishers and as many subscribers go by lanes, in threads, and by lanes once more.
 fn has_ports(rt: &impl Wait, alloc: Global, count: u64) -> Result<bool, AllocError> {
     let steps = [
         Step::Comes(Arrival::Crowd(count)),

@@ -1,18 +1,18 @@
-//! What the ports of a domain send and receive in threads. Messages have numbers, and ports are named by their places.
+//! What the ports of a domain send and receive in threads. Messages have numbers, and ports go by their places.
 use crate::changes::NumberThreads;
-use crate::domain::in_all_words;
+use crate::domain::in_both_words;
 use crate::ending::{another, pass, pass_last};
 use crate::lanes::{USER_HEADER, are_values};
 use iox_lanes::{LanePublisher, LaneSubscriber, LoanAnswer, Receipt, SendAnswer};
 use std::alloc::{AllocError, Global};
 use std::sync::Wait;
 
-/// What is done in threads, and its outcome.
+/// What is done in threads, and what comes of it.
 #[derive(Clone, Copy)]
 pub(crate) enum InThreads {
     /// A publisher sends a value.
     Sends(usize, u64, SendAnswer),
-    /// A subscriber receives the message of this number and this value, and releases it.
+    /// A subscriber receives the message of this number and this value, and gives it back.
     Gets(usize, u64, u64),
     /// A subscriber receives nothing.
     Nothing(usize),
@@ -31,7 +31,7 @@ fn sent(port: &mut LanePublisher, value: u64) -> Option<SendAnswer> {
     let LoanAnswer::Slot(loan) = port.loan_uninit()? else {
         return None;
     };
-    if port.write_values(loan, &in_all_words(value), &USER_HEADER) {
+    if port.write_values(loan, &in_both_words(value), &USER_HEADER) {
         port.send(loan)
     } else {
         None
@@ -46,7 +46,7 @@ fn sends(ports: &mut [LanePublisher], place: usize, value: u64, answer: SendAnsw
     }
 }
 
-// Whether a sample is read as this message, and released.
+// Whether a sample is read as this message, and given back.
 fn takes(port: &mut LaneSubscriber, sample: u64, sequence: u64, value: u64) -> bool {
     port.read(sample)
         && are_values(port.values(), sequence, value)
@@ -61,7 +61,7 @@ fn gets_nothing(rt: &impl Wait, ports: &mut [LaneSubscriber], place: usize) -> b
     }
 }
 
-// Whether the subscriber at a place receives this message and releases it.
+// Whether the subscriber at a place receives this message and gives it back.
 fn gets(
     rt: &impl Wait,
     ports: &mut [LaneSubscriber],

@@ -10,7 +10,7 @@ use std::thread::Threads;
 
 const TRIES: u64 = 1 << 24;
 
-// Receives until this word comes, and releases each sample; whether the word came.
+// Receives until this word comes, and gives each sample back; whether it came.
 fn comes(rt: &impl Wait, port: &mut LaneSubscriber, value: u64) -> bool {
     for _ in 0..TRIES {
         match port.receive(rt) {
