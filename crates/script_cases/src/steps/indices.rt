@@ -45,7 +45,7 @@ pub(crate) fn left(state: ReleaseState) -> Said<'static> {
 fn call(asked: Asked<'_>) -> Option<Call> {
     match asked.verb {
         "acquire" => Some(Call::Acquire),
-        "release" => Some(Call::Release(asked.first as u32, mode(asked))),
+        "release" => Some(Call::Release(u32::try_from(asked.first).ok()?, mode(asked))),
         _ => None,
     }
 }

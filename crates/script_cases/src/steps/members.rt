@@ -1,4 +1,6 @@
 //! Containers of members, over a set of indices that knows their holders.
+ghost use Rattle.std.specs.Prelude.{◌≡◌, ◌+◌, ◌*◌, ◌<◌, ◌^◌, true};
+
 use super::indices::{left, mode, refused};
 use super::loaded::{loaded, values};
 use super::robust::decisions;
@@ -13,7 +15,9 @@ use iox_robust_steps::container::{
 use std::alloc::{AllocError, Global};
 
 // Whether a container of so many places with values of so many words has cells below the end of their numbers.
-fn has_cells(capacity: usize, width: usize) -> bool {
+fn has_cells(capacity: usize, width: usize) -> bool
+    ensures { result ≡ true → capacity + (capacity * width + 1) < 2 ^ 62 }
+{
     match capacity.checked_mul(width) {
         Some(words) => words < 1 << 60 && capacity < 1 << 60,
         None => false,
