@@ -132,12 +132,17 @@ fn send<T: Copy, H: Home<T, u64>>(
     sample: slice::SampleMut<T, u64>,
 ) -> Result<usize> {
     if !sample.holds(home) || sample.is_blocked(home) {
-        sample.drop_with(home);
+        let _ = sample.drop_with(home).map_err(|sample| sample.into_slot());
         bail!("no loan");
     }
     match sample.send(alloc, home)? {
         Sent::Delivered(subscribers) => Ok(subscribers),
-        Sent::Blocked(waiting) => waiting.drop_with(home).context("no send"),
+        Sent::Blocked(waiting) => {
+            let ended = waiting
+                .drop_with(home)
+                .map_err(|waiting| waiting.into_port());
+            ended.ok().context("no send")
+        }
     }
 }
 
@@ -189,10 +194,10 @@ pub fn hear<H: Home<u64, u64>>(alloc: Global, home: &mut H, port: PortId) -> Res
         return Ok(None);
     };
     if !sample.holds(home) {
-        sample.drop_with(home);
+        let _ = sample.drop_with(home).map_err(|sample| sample.into_taken());
         bail!("no sample");
     }
     let heard = read(alloc, home, &sample);
-    sample.drop_with(home);
+    let _ = sample.drop_with(home).map_err(|sample| sample.into_taken());
     Ok(Some(heard?))
 }

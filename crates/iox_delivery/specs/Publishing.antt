@@ -1,6 +1,6 @@
 -- What the calls of a publisher and of its loans answer and change in their home. `ports_of` finds the ports of a domain in a
 -- home, and `with_ports` replaces them.
-use Rattle.std.specs.Prelude.{ℕ, ◌≡◌, Bool, true, Option, None, Some, Result, Ok, Err}
+use Rattle.std.specs.Prelude.{ℕ, ◌≡◌, Bool, false, true, Option, None, Some, Result, Ok, Err}
 use Rattle.iox_domain.specs.DescribeBase.declared.header.Header.{Header}
 use Rattle.iox_domain.specs.DomainValues.declared.backpressure.BackpressureDecision.{BackpressureDecision}
 use Rattle.iox_domain.specs.DomainValues.declared.backpressure.BackpressureInfo.{BackpressureInfo}
@@ -147,6 +147,12 @@ abbrev pub GivesUpLoan : {T U H : Type 0} → (DomainId → H → Option (Servic
     → ℕ → H → H → Type 0
 GivesUpLoan ports_of with_ports port slot old new =
     new ≡ changed_at (λ after. with_ports port.domain after old) (gave_up_in port.number slot) (ports_of port.domain old) old
+
+-- What dropping a loan changes: the loan is given up, if it is out; otherwise nothing happens.
+abbrev pub DropsLoan : {T U H : Type 0} → (DomainId → H → Option (ServicePorts T U)) → (DomainId → ServicePorts T U → H → H) → PortId
+    → ℕ → H → Bool → H → Type 0
+DropsLoan ports_of with_ports port slot old false new = new ≡ old
+DropsLoan ports_of with_ports port slot old true new = GivesUpLoan ports_of with_ports port slot old new
 
 -- What a send of a written loan answers and changes.
 abbrev pub SendsSample : {T U H : Type 0} → (DomainId → H → Option (ServicePorts T U)) → (DomainId → ServicePorts T U → H → H)

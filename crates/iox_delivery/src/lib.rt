@@ -26,21 +26,18 @@
 //! let loan = publisher.loan_uninit(alloc, home).ok()?;
 //! let sample = loan.write_payload(home, 7);
 //! if !sample.holds(home) || sample.is_blocked(home) {
-//!     sample.drop_with(home);
+//!     let _ = sample.drop_with(home).map_err(|sample| sample.into_slot());
 //!     return None;
 //! }
 //! match sample.send(alloc, home) {
 //!     Ok(Sent::Delivered(count)) => Some(count),
-//!     Ok(Sent::Blocked(blocked)) => {
-//!         blocked.drop_with(home);
-//!         None
-//!     }
+//!     Ok(Sent::Blocked(blocked)) => blocked.drop_with(home).map_err(|blocked| blocked.into_port()).ok(),
 //!     Err(_) => None,
 //! }
 //! // the subscriber's side
 //! let sample = subscriber.receive(alloc, home).ok()??;
 //! if !sample.holds(home) {
-//!     sample.drop_with(home);
+//!     let _ = sample.into_taken();
 //!     return None;
 //! }
 //! let value = *sample.payload(home);

@@ -1,11 +1,11 @@
 //! Loans as values.
 ghost use Rattle.iox_domain.specs.Homes as homes;
-ghost use Rattle.std.specs.Prelude.{◌≡◌, Bool, Option, true, Some, is_some, option_map};
+ghost use Rattle.std.specs.Prelude.{◌≡◌, Bool, Option, true, Some, is_ok, is_some, option_map};
 ghost use Rattle.std.specs.Borrow.{sem, LendsIf};
 ghost use Rattle.std.specs.Option.{option_copied_mut};
 ghost use Rattle.iox_domain.specs.DomainPorts.Messages.{Loan as Lent, write_user_header};
-ghost use Rattle.iox_delivery.specs.Holding.{loan_found};
-ghost use Rattle.iox_delivery.specs.Publishing.{loan_changed, loan_header_found, WritesUserHeader, GivesUpLoan};
+ghost use Rattle.iox_delivery.specs.Holding.{left_or_given_back, loan_found};
+ghost use Rattle.iox_delivery.specs.Publishing.{loan_changed, loan_header_found, WritesUserHeader, DropsLoan};
 
 use crate::kind::Kind;
 use crate::lending;
@@ -138,12 +138,30 @@ impl<T: Copy, U: Copy, K, S: LoanState<T, U, K> + Copy> Loan<T, U, K, S> {
         lending::write_user_header(self.port, self.slot, home, user_header);
     }
 
-    /// Drops the loan.
+    /// Drops the loan, if it is out. Otherwise nothing happens, and the loan is given back: its own home can drop it.
     ///
     /// Ported from dropping an `iceoryx2::sample_mut_uninit::SampleMutUninit` or an `iceoryx2::sample_mut::SampleMut`.
-    /// Example: `loan.drop_with(home);`
-    pub fn drop_with<H: Home<T, U>>(self, home: &mut H)
-        ensures { GivesUpLoan (homes.ports_of H.domain_of) (homes.with_ports H.changed) self.port self.slot home.old home.new }
+    /// Example: `let stays = loan.drop_with(home).err();`
+    pub fn drop_with<H: Home<T, U>>(self, home: &mut H) -> Result<(), Self>
+        ensures drops { DropsLoan (homes.ports_of H.domain_of) (homes.with_ports H.changed) self.port self.slot home.old (is_ok result)
+            home.new }
+        ensures left { result ≡ left_or_given_back
+            (is_some (loan_found self.port.number self.slot (homes.ports_of H.domain_of self.port.domain home.old))) self }
+    {
+        if !lending::is_out(self.port, self.slot, home) {
+            return Err(self);
+        }
+        let (port, slot) = self.into_slot();
+        lending::drop_loan(port, slot, home);
+        Ok(())
+    }
+
+    /// The loan's port and slot. The loan stays out.
+    ///
+    /// Not in `iceoryx2`.
+    /// Example: `let (port, slot) = loan.into_slot();`
+    pub fn into_slot(self) -> (PortId, usize)
+        ensures { result ≡ (self.port, self.slot) }
     {
         let Loan {
             port,
@@ -151,6 +169,6 @@ impl<T: Copy, U: Copy, K, S: LoanState<T, U, K> + Copy> Loan<T, U, K, S> {
             state: _,
             of: _,
         } = self;
-        lending::drop_loan(port, slot, home);
+        (port, slot)
     }
 }

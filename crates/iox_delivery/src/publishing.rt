@@ -3,7 +3,7 @@ ghost use Rattle.iox_domain.specs.Homes as homes;
 ghost use Rattle.std.specs.Prelude.{◌≡◌, ◌&&◌, ◌∷◌, [], true, false, not, IfOk};
 ghost use Rattle.iox_delivery.specs.Lent.{IsReady};
 ghost use Rattle.iox_delivery.specs.Holding.{publisher_stands, publisher_blocked};
-ghost use Rattle.iox_delivery.specs.Publishing.{LendsSlot, LendsValue, FollowsSubscribers, PublisherGoes, EndsPublisher};
+ghost use Rattle.iox_delivery.specs.Publishing.{LendsSlot, LendsValue, FollowsSubscribers, PublisherGoes, EndsPublisher, EndsSend};
 
 use crate::port_id::PortId;
 use crate::sample_mut_uninit::write;
@@ -102,6 +102,17 @@ pub fn update<T: Copy, U: Copy, H: Home<T, U>>(
         Some(outcome) => outcome,
         None => unreachable!(),
     }
+}
+
+/// Gives up the send of a publisher that waits, and answers how many connections took the message. None, and nothing happens, if no send
+/// waits.
+///
+/// Not in `iceoryx2`.
+/// Example: `let delivered = publishing::end_send(port, home)?;`
+pub fn end_send<T: Copy, U: Copy, H: Home<T, U>>(port: PortId, home: &mut H) -> Option<usize>
+    ensures { EndsSend (homes.ports_of H.domain_of) (homes.with_ports H.changed) port home.old result home.new }
+{
+    calls::ports_mut(home, port.domain)?.give_up(port.number)
 }
 
 /// Drops the publisher: it is closed, and its handlers are dropped, if it is open and no send of it waits; otherwise nothing

@@ -1,6 +1,6 @@
 //! A message that was received.
 ghost use Rattle.iox_domain.specs.Homes as homes;
-ghost use Rattle.std.specs.Prelude.{◌≡◌, true, Some, option_map};
+ghost use Rattle.std.specs.Prelude.{◌≡◌, true, Some, IfErr, is_ok, option_map};
 ghost use Rattle.iox_delivery.specs.Holding.{message_found, value_found, holds_sample};
 ghost use Rattle.iox_delivery.specs.Subscribing.{header_found, ReleasesSample, DropsSample};
 
@@ -70,16 +70,33 @@ impl<T: Copy, U: Copy, K: Kind<T, U>> Sample<T, U, K> {
         self.header(home).publisher_id
     }
 
-    /// Drops the sample: the message is released, if it is held; otherwise nothing happens. The call answers whether the
-    /// message was released.
+    /// Drops the sample: the message is released, if it is held. Otherwise nothing happens, and the sample is given back: its own home can
+    /// release it.
     ///
     /// Ported from dropping an `iceoryx2::sample::Sample`.
-    /// Example: `let was_held = sample.drop_with(home);`
-    pub fn drop_with<H: Home<T, U>>(self, home: &mut H) -> bool
-        ensures { DropsSample (homes.ports_of H.domain_of) (homes.with_ports H.changed) self.port self.taken home.old result home.new }
+    /// Example: `let stays = sample.drop_with(home).err();`
+    pub fn drop_with<H: Home<T, U>>(self, home: &mut H) -> Result<(), Self>
+        ensures drops { DropsSample (homes.ports_of H.domain_of) (homes.with_ports H.changed) self.port self.taken home.old
+            (is_ok result) home.new }
+        ensures left { IfErr result (λ back. back ≡ self) }
+    {
+        if subscribing::drop_sample(self.port, self.taken, home) {
+            let _ = self.into_taken();
+            Ok(())
+        } else {
+            Err(self)
+        }
+    }
+
+    /// The port that received the sample, and which message it is. The message stays held.
+    ///
+    /// Not in `iceoryx2`.
+    /// Example: `let (port, taken) = sample.into_taken();`
+    pub fn into_taken(self) -> (PortId, Taken)
+        ensures { result ≡ (self.port, self.taken) }
     {
         let Sample { port, taken, of: _ } = self;
-        subscribing::drop_sample(port, taken, home)
+        (port, taken)
     }
 
     /// Releases the message: its slot may be loaned again once nothing else uses it.

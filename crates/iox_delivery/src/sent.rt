@@ -1,6 +1,7 @@
 //! What a send answers, and a blocked send.
 ghost use Rattle.iox_domain.specs.Homes as homes;
-ghost use Rattle.std.specs.Prelude.{◌≡◌, true};
+ghost use Rattle.std.specs.Prelude.{◌≡◌, true, IfErr};
+ghost use Rattle.std.specs.Result.{result_ok};
 ghost use Rattle.iox_delivery.specs.Holding.{publisher_blocked};
 ghost use Rattle.iox_delivery.specs.Publishing.{sent_of, RetriesSend, GivesUpSend, EndsSend};
 
@@ -60,16 +61,33 @@ impl<T: Copy, U: Copy> BlockedSend<T, U> {
         }
     }
 
-    /// Drops the send: it is given up as by `give_up`, if it waits, and the call answers how many connections took the message.
-    /// None, and nothing happens, if the send doesn't wait.
+    /// Drops the send: it is given up as by `give_up`, if it waits, and the call answers how many connections took the message. Otherwise
+    /// nothing happens, and the send is given back: its own home can give it up.
     ///
     /// Not in `iceoryx2`.
-    /// Example: `let delivered = blocked.drop_with(home);`
-    pub fn drop_with<H: Home<T, U>>(self, home: &mut H) -> Option<usize>
-        ensures { EndsSend (homes.ports_of H.domain_of) (homes.with_ports H.changed) self.port home.old result home.new }
+    /// Example: `let delivered = blocked.drop_with(home).ok();`
+    pub fn drop_with<H: Home<T, U>>(self, home: &mut H) -> Result<usize, Self>
+        ensures ends { EndsSend (homes.ports_of H.domain_of) (homes.with_ports H.changed) self.port home.old (result_ok result) home.new }
+        ensures left { IfErr result (λ back. back ≡ self) }
+    {
+        match publishing::end_send(self.port, home) {
+            Some(delivered) => {
+                let _ = self.into_port();
+                Ok(delivered)
+            }
+            None => Err(self),
+        }
+    }
+
+    /// The port whose send it is. The send goes on waiting.
+    ///
+    /// Not in `iceoryx2`.
+    /// Example: `let port = blocked.into_port();`
+    pub fn into_port(self) -> PortId
+        ensures { result ≡ self.port }
     {
         let BlockedSend { port, of: _ } = self;
-        calls::ports_mut(home, port.domain)?.give_up(port.number)
+        port
     }
 
     /// Gives up the send, and answers how many connections took the message.

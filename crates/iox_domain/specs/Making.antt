@@ -1,10 +1,11 @@
 -- A publisher and a subscriber are created.
-use Rattle.std.specs.Prelude.{ℕ, ◌≡◌, ◌+◌, ◌^◌, max, nat_lt, List, Option, None, Some, Result, Ok, Err, if◌then◌else◌}
+use Rattle.std.specs.Prelude.{ℕ, ◌≡◌, ◌+◌, ◌^◌, ◌||◌, max, nat_lt, is_none, is_err, Bool, List, Option, None, Some, Result, Ok, Err}
+use Rattle.std.specs.Prelude.{if◌then◌else◌}
 use Rattle.std.specs.declared.alloc.AllocError.{AllocError}
 use Rattle.iox_domain_ports.specs.Container.declared.container.Member.{Member}
 use Rattle.iox_domain_ports.specs.DomainValues.OverrideAnswers.{places}
 use Rattle.iox_domain_ports.specs.DomainValues.Sequences.{before_first}
-use Rattle.iox_domain_ports.specs.DomainValues.Sizes.{worst_case, within}
+use Rattle.iox_domain_ports.specs.DomainValues.Sizes.{worst_case, within, buffer_of}
 use Rattle.iox_domain_ports.specs.DomainValues.declared.connection_failure.ConnectionFailure.{ConnectionFailure}
 use Rattle.iox_domain_ports.specs.DomainValues.declared.create_error.PublisherCreateError.{PublisherCreateError}
 use Rattle.iox_domain_ports.specs.DomainValues.declared.create_error.PublisherCreateError.TheVariants as publishing
@@ -106,6 +107,10 @@ publisher_refusal None place = publishing.UnableToCreateDataSegment
 publisher_refusal (Some needed) None = publishing.ExceedsMaxSupportedPublishers
 publisher_refusal (Some needed) (Some place) = publishing.UnableToCreateDataSegment
 
+-- Whether a publisher is refused however much memory there is: the number of slots that it needs isn't allowed, or no place is free.
+abbrev pub refuses_publisher : {T U : Type 0} → PublisherConfig → ServicePorts T U → Bool
+refuses_publisher config ports = is_none (slots_needed config ports) || is_none (publisher_place ports)
+
 -- What the call answers and changes: a publisher is created if the number of slots that it needs is allowed, and a place is
 -- free. It gets as many slots as the override answers, but at least 1 and at most the worst case.
 abbrev pub CreatesPublisher : {T U : Type 0} → (ℕ → ℕ → Type 0) → (DegradationInfo → DegradationAction → Type 0) → PublisherConfig → U
@@ -159,6 +164,10 @@ abbrev pub subscriber_refusal : Result ℕ SubscriberCreateError → Option ℕ 
 subscriber_refusal (Err refusal) place = refusal
 subscriber_refusal (Ok buffer_size) None = subscribing.ExceedsMaxSupportedSubscribers
 subscriber_refusal (Ok buffer_size) (Some place) = subscribing.OutOfMemory
+
+-- Whether a subscriber is refused however much memory there is: the service doesn't allow the buffer size, or no place is free.
+abbrev pub refuses_subscriber : {T U : Type 0} → Option ℕ → ServicePorts T U → Bool
+refuses_subscriber buffer_size ports = is_err (buffer_of buffer_size ports.sizes) || is_none (subscriber_place ports)
 
 -- What the call answers and changes: a subscriber is created if the service allows the buffer size, and a place is free.
 abbrev pub CreatesSubscriber : {T U : Type 0} → (DegradationInfo → DegradationAction → Type 0) → PortOwner

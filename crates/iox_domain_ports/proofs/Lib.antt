@@ -42,5 +42,6 @@ pub mod Located
 pub mod Adding
 pub mod Tallied
 pub mod Untied
+pub mod Unmet
 pub use Rattle.iox_container.proofs as Container
 pub use Rattle.iox_domain_slots.proofs as DomainSlots

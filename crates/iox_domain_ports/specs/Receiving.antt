@@ -1,6 +1,6 @@
 -- How a subscriber receives.
 use Rattle.std.specs.Prelude.{ℕ, zero, suc, ◌+◌, ◌≡◌, ◌<◌, ◌⊎◌, Bool, true, false, List, [], ◌∷◌, length, get_or, slice_get, remove}
-use Rattle.std.specs.Prelude.{Option, None, Some, Result, Ok, Err, if◌then◌else◌}
+use Rattle.std.specs.Prelude.{drop, count_by, is_some, Option, None, Some, Result, Ok, Err, if◌then◌else◌}
 use Rattle.iox_domain_values.specs.declared.port_error.ReceiveError.{ReceiveError}
 use Rattle.iox_domain_values.specs.declared.port_error.ReceiveError.TheVariants as receiving
 use Rattle.iox_domain_slots.specs.Uses.{is_there}
@@ -129,6 +129,10 @@ abbrev pub Receives : {T U : Type 0} → SubscriberPort → List (ℕ × Publish
 Receives port ports answer port_after ports_after =
     (taken : Option Taken) × Serves port ports taken port_after ports_after
     × IsReceiveAnswer taken (has_data port_after ports_after) answer
+
+-- how many of the keys from one on have a connection
+abbrev pub unmet_from : ℕ → List (Option Attached) → ℕ
+unmet_from key connections = count_by is_some (drop key connections)
 
 -- The publishers after the subscriber was detached from this connection, which ends if its publisher is closed.
 abbrev pub left_at : {T U : Type 0} → Option Attached → List (ℕ × PublisherPort T U) → List (ℕ × PublisherPort T U)

@@ -6,7 +6,7 @@ ghost use Rattle.iox_domain_ports.specs.Subscribing.{attached_at, connection_by,
 ghost use Rattle.iox_domain_ports.specs.Subscribing.{ended_ports, taken_of, taken_ports};
 ghost use Rattle.iox_domain_ports.specs.Receiving.{IsFirst, IsMet, IsGiver, IsGiverThere, is_idle_at, dropped_port, dropped_ports, swept};
 ghost use Rattle.iox_domain_ports.specs.Receiving.{given, given_ports, nothing_taken, left_at, left_all, SweepsAt, Serves, Receives};
-ghost use Rattle.iox_domain_ports.specs.Receiving.{IsBusy, IsOneAmong, IsOne, first_of};
+ghost use Rattle.iox_domain_ports.specs.Receiving.{IsBusy, IsOneAmong, IsOne, first_of, unmet_from};
 
 use crate::attached::{Asked, Attached, Found, Met, Seen, Taken};
 use crate::publishers::Publishers;
@@ -30,6 +30,17 @@ impl SubscriberPort {
         match self.attached(key) {
             Some(attached) => seen_at(attached, publishers),
             None => nothing_seen(),
+        }
+    }
+
+    // How many connections the keys behind one have, where so many have one from it on.
+    fn unmet_behind(&self, key: usize, unmet: usize) -> usize
+        requires { unmet ≡ unmet_from key self.now.connections.values }
+        ensures { result ≡ unmet_from (key + 1) self.now.connections.values }
+    {
+        match self.attached(key) {
+            Some(_) => unmet - 1,
+            None => unmet,
         }
     }
 
@@ -92,7 +103,14 @@ impl SubscriberPort {
         ensures unread { result.giver ≡ None → IsOne (has_data self.now publishers.now) result.unread }
     {
         let mut unread = met.unread;
+        let mut unmet = self.connections.len();
         for key in 0..self.connections.reached() {
+            if unmet == 0 {
+                return Found {
+                    giver: None,
+                    unread,
+                };
+            }
             if !self.expired.is_flagged(key) {
                 let asked = self.asked(key, publishers);
                 if asked.gives {
@@ -103,6 +121,7 @@ impl SubscriberPort {
                 }
                 unread = first_of(unread, key, asked.data);
             }
+            unmet = self.unmet_behind(key, unmet);
         }
         Found {
             giver: None,
@@ -117,10 +136,15 @@ impl SubscriberPort {
     ) -> Option<usize>
         ensures { IsFirst (has_data self.now publishers.now) result }
     {
+        let mut unmet = self.connections.len();
         for key in 0..self.connections.reached() {
+            if unmet == 0 {
+                return None;
+            }
             if self.has_data(key, publishers) {
                 return Some(key);
             }
+            unmet = self.unmet_behind(key, unmet);
         }
         None
     }
@@ -361,8 +385,13 @@ impl SubscriberPort {
     fn leave_all<T: Copy, U: Copy>(&self, publishers: &mut Publishers<T, U>)
         ensures { publishers.new ≡ left_all self.now.connections.values publishers.old }
     {
+        let mut unmet = self.connections.len();
         for key in 0..self.connections.reached() {
+            if unmet == 0 {
+                return;
+            }
             self.leave_key(key, publishers);
+            unmet = self.unmet_behind(key, unmet);
         }
     }
 }

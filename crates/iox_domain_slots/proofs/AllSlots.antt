@@ -307,3 +307,65 @@ appended_uses (x ∷ rest) link empty k =
       times_append k (slots_at x) (all_slots rest),
       appended_uses rest link empty k,
     )
+
+-- of what is seen as nobody's nothing is left to be taken back
+pub nobody_back : (found : Option LinkState) → seen found ≡ nobody → IsTakenBack found
+nobody_back None is = tt
+nobody_back (Some link) is = absurd (there link.ended (ap (λ it. it.stage) is))
+  where
+    there : (ended : Bool) → (if ended then stage.Ended else stage.Live) ≡ stage.Vacant → ⊥
+    there true same = search (rules, same)
+    there false same = search (rules, same)
+
+-- where there is no connection at first nothing is left to be taken back
+pub none_back : (first now : List (Option LinkState)) (index : ℕ) → map seen now ≡ map seen first → get_or first index None ≡ None
+    → IsTakenBack (get_or now index None)
+none_back first now index looks none = nobody_back (get_or now index None)
+    (seen_at now index ∙ ap (λ all. get_or all index nobody) looks ∙ sym (seen_at first index) ∙ ap seen none)
+
+-- a connection is put at an index below which each has one: what holds of all holds still
+pub put_kinds : (links : List (Option LinkState)) (index : ℕ) (overflows : Bool) (most_waiting most_borrowed : ℕ) (link : LinkState)
+    → index < length links → ((other : ℕ) → IsOf overflows most_waiting most_borrowed (get_or links other None))
+    → IsOf overflows most_waiting most_borrowed (Some link)
+    → (other : ℕ) → IsOf overflows most_waiting most_borrowed (get_or (set links index (Some link)) other None)
+put_kinds links index overflows most_waiting most_borrowed link within kinds kind other = ⊎_elim
+    (λ same. subst (λ i. IsOf overflows most_waiting most_borrowed (get_or (set links index (Some link)) i None)) (sym same.1)
+    (rw (get_or-set_same links index (Some link) None within) kind))
+    (λ apart. rw (get_or-set_other links index other (Some link) None apart.1) (kinds other))
+    (eqb_tells other index)
+
+pub put_none : (links : List (Option LinkState)) (index top new_top : ℕ) (link : LinkState)
+    → ((other : ℕ) → top ≤ other → get_or links other None ≡ None) → top ≤ new_top → index + 1 ≤ new_top
+    → (other : ℕ) → new_top ≤ other → get_or (set links index (Some link)) other None ≡ None
+put_none links index top new_top link none low behind other past =
+    get_or-set_other links index other (Some link) None (λ same. absurd (omega (arith, same, behind, past)))
+    ∙ none other (omega (arith, low, past))
+
+pub put_some : (links : List (Option LinkState)) (index : ℕ) (link : LinkState) → index < length links
+    → ((lower : ℕ) → lower < index → is_some (get_or links lower None) ≡ true)
+    → (other : ℕ) → other < index + 1 → is_some (get_or (set links index (Some link)) other None) ≡ true
+put_some links index link within lowest other below = ⊎_elim
+    (λ same. subst (λ i. is_some (get_or (set links index (Some link)) i None) ≡ true) (sym same.1)
+    (rw (get_or-set_same links index (Some link) None within) refl))
+    (λ apart. rw (get_or-set_other links index other (Some link) None apart.1) (lowest other (omega (arith, below, apart.1))))
+    (eqb_tells other index)
+
+-- one comes behind the last, where each index has one
+pub end_kinds : (links : List (Option LinkState)) (overflows : Bool) (most_waiting most_borrowed : ℕ) (link : LinkState)
+    → ((other : ℕ) → IsOf overflows most_waiting most_borrowed (get_or links other None))
+    → IsOf overflows most_waiting most_borrowed (Some link)
+    → (other : ℕ) → IsOf overflows most_waiting most_borrowed (get_or (links ++ Some link ∷ []) other None)
+end_kinds [] overflows most_waiting most_borrowed link kinds kind zero = kind
+end_kinds [] overflows most_waiting most_borrowed link kinds kind (suc other) = tt
+end_kinds (one ∷ rest) overflows most_waiting most_borrowed link kinds kind zero = kinds zero
+end_kinds (one ∷ rest) overflows most_waiting most_borrowed link kinds kind (suc other)
+    = end_kinds rest overflows most_waiting most_borrowed link (λ i. kinds (suc i)) kind other
+
+pub end_some : (links : List (Option LinkState)) (link : LinkState)
+    → ((lower : ℕ) → lower < length links → is_some (get_or links lower None) ≡ true)
+    → (other : ℕ) → other < length links + 1 → is_some (get_or (links ++ Some link ∷ []) other None) ≡ true
+end_some [] link lowest zero below = refl
+end_some [] link lowest (suc other) below = absurd (omega (arith, below))
+end_some (one ∷ rest) link lowest zero below = lowest zero (omega arith)
+end_some (one ∷ rest) link lowest (suc other) below
+    = end_some rest link (λ i within. lowest (suc i) (omega (arith, within))) other (omega (arith, below))

@@ -21,13 +21,17 @@ const MOST_LINKS: usize = 1 << 29;
 #[derive(Drop)]
 pub struct Links {
     items: Vec<Option<Link>>,
+    // Each index below this one has a connection.
+    full: usize,
+    // No connection is at this index, nor behind.
+    top: usize,
     overflows: bool,
     most_waiting: usize,
     most_borrowed: usize,
 }
 
 impl Model for Links {
-    ghost use Rattle.std.specs.Prelude.{◌≡◌, ◌≤◌, ◌<◌, ◌+◌, ◌^◌, ℕ, get_or, length, None};
+    ghost use Rattle.std.specs.Prelude.{◌≡◌, ◌≤◌, ◌<◌, ◌+◌, ◌^◌, ℕ, get_or, is_some, length, None, true};
     ghost use Rattle.iox_domain_slots.specs.Links.{LinksState, IsOf};
 
     ghost Value = { LinksState };
@@ -41,7 +45,9 @@ impl Model for Links {
 
     ghost invariant = { λ l. (length l.items.items ≤ 2 ^ 29)
         × ((index : ℕ) → IsOf l.overflows l.most_waiting l.most_borrowed (get_or l.items.items index None))
-        × (l.most_waiting < 2 ^ 32) × (l.most_borrowed < 2 ^ 32) };
+        × (l.most_waiting < 2 ^ 32) × (l.most_borrowed < 2 ^ 32)
+        × (l.top ≤ length l.items.items) × ((index : ℕ) → l.top ≤ index → get_or l.items.items index None ≡ None)
+        × (l.full ≤ length l.items.items) × ((index : ℕ) → index < l.full → is_some (get_or l.items.items index None) ≡ true) };
 }
 
 impl Links {
@@ -151,6 +157,10 @@ impl Links {
         ensures { self.new ≡ record self.old { links = set self.old.links index None } }
     {
         self.items[index] = None;
+        self.top = lowered(self.items.as_slice(), self.top);
+        if index < self.full {
+            self.full = index;
+        }
     }
 
     // Whether the connection ended and nothing is borrowed from it.
@@ -252,7 +262,7 @@ impl Links {
         ensures none_left { (k : ℕ) → times k (all_slots self.new.links) ≡ times k (held (map seen self.new.links)) }
         ensures moved { Moves slots.old (all_slots self.old.links) slots.new (all_slots self.new.links) }
     {
-        for index in 0..self.items.len() {
+        for index in 0..self.top {
             self.take_back_one(index, slots);
         }
     }
@@ -272,24 +282,32 @@ impl Links {
     fn vacancy(&self) -> usize
         ensures within { result ≤ length self.now.links }
         ensures vacant { get_or self.now.links result None ≡ None }
+        ensures lowest { (lower : ℕ) → lower < result → is_some (get_or self.now.links lower None) ≡ true }
     {
-        self.items
-            .iter()
-            .position(|link| link.is_none())
-            .unwrap_or(self.items.len())
+        for index in self.full..self.items.len() {
+            if self.items[index].is_none() {
+                return index;
+            }
+        }
+        self.items.len()
     }
 
-    // Puts a connection at an index.
+    // Puts a connection at an index below which each has one.
     fn replace(&mut self, index: usize, link: Link)
         requires within { index < length self.old.links }
+        requires lowest { (lower : ℕ) → lower < index → is_some (get_or self.old.links lower None) ≡ true }
         requires kind { IsOf self.old.overflows self.old.most_waiting self.old.most_borrowed (Some link) }
         ensures { self.new ≡ record self.old { links = set self.old.links index (Some link) } }
     {
-        self.items[index] = Some(link);
+        let top = larger(self.top, index + 1);
+        put_link(&mut self.items, index, link);
+        self.full = index + 1;
+        self.top = top;
     }
 
-    // Puts a connection behind the last.
+    // Puts a connection behind the last, where each index has one.
     fn append(&mut self, link: Link) -> Result<(), AllocError>
+        requires lowest { (lower : ℕ) → lower < length self.old.links → is_some (get_or self.old.links lower None) ≡ true }
         requires kind { IsOf self.old.overflows self.old.most_waiting self.old.most_borrowed (Some link) }
         ensures after { IsOk result → self.new ≡ record self.old { links = self.old.links ++ Some link ∷ [] } }
         ensures refused { OnErr result (self.new ≡ self.old) }
@@ -298,15 +316,18 @@ impl Links {
             return Err(AllocError);
         }
         self.items.push(Some(link))?;
+        self.full = self.items.len();
+        self.top = self.items.len();
         Ok(())
     }
 
-    /// Makes a connection in which at most `limit` messages may wait, and answers its index. The call fails only if an
-    /// allocation fails or if there are 2^29 connections; then nothing has changed.
+    /// Makes a connection in which at most `limit` messages may wait, and answers its index, the lowest that has none. The call fails
+    /// only if an allocation fails or if there are 2^29 connections; then nothing has changed.
     pub fn connect(&mut self, alloc: Global, limit: usize) -> Result<usize, AllocError>
         requires { limit ≤ self.old.most_waiting }
         ensures vacant { IfOk result (λ index. seen (get_or self.old.links index None) ≡ nobody) }
         ensures within { IfOk result (λ index. index ≤ length self.old.links) }
+        ensures lowest { IfOk result (λ index. (lower : ℕ) → lower < index → is_some (get_or self.old.links lower None) ≡ true) }
         ensures after { IfOk result (λ index. map seen self.new.links ≡ placed index (connected limit) (map seen self.old.links)) }
         ensures uses { (k : ℕ) → times k (all_slots self.new.links) ≡ times k (all_slots self.old.links) }
         ensures same { self.new ≡ record self.old { links = self.new.links } }
@@ -332,6 +353,8 @@ impl Links {
     {
         Links {
             items: Vec::new(alloc),
+            full: 0,
+            top: 0,
             overflows,
             most_waiting,
             most_borrowed,
@@ -362,4 +385,37 @@ impl Links {
     {
         self.most_waiting
     }
+}
+
+// Puts a connection at an index.
+fn put_link(items: &mut Vec<Option<Link>>, index: usize, link: Link)
+    requires { index < length items.old.items }
+    ensures { items.new.items ≡ set items.old.items index (Some link) }
+{
+    items[index] = Some(link);
+}
+
+// The larger of two numbers.
+fn larger(one: usize, other: usize) -> usize
+    ensures one { one ≤ result }
+    ensures other { other ≤ result }
+    ensures least { (most : ℕ) → one ≤ most → other ≤ most → result ≤ most }
+{
+    if one < other { other } else { one }
+}
+
+// The index behind the last connection, where none is at a top and behind.
+fn lowered(items: &[Option<Link>], top: usize) -> usize
+    requires within { top ≤ length items.now }
+    requires none { (index : ℕ) → top ≤ index → get_or items.now index None ≡ None }
+    ensures within { result ≤ top }
+    ensures none { (index : ℕ) → result ≤ index → get_or items.now index None ≡ None }
+{
+    for count in 0..top {
+        let index = top - 1 - count;
+        if items[index].is_some() {
+            return index + 1;
+        }
+    }
+    0
 }

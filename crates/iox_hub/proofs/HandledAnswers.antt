@@ -15,6 +15,7 @@ use Rattle.iox_hub_machine.proofs.Running.{all_among, stops_first, stops_so}
 use Rattle.iox_hub_machine.proofs.RunsOn.{new_has_room, new_runs_on}
 use Rattle.iox_hub_machine.specs.GoingOnLaws.{DecidedRunsGoOn, NewHubBegins}
 use Rattle.iox_hub_machine.specs.RunLaws.{names_in}
+use Rattle.iox_hub.proofs.HandledRooms.{lacks_for_values}
 use Rattle.iox_hub.proofs.HandledRuns.{none_turned, run_goes, whole_goes}
 use Rattle.iox_hub.proofs.HandledTurns.{never_some, same_some}
 use Rattle.iox_hub.specs.HandledLaws.{HandledRunsAnswer, HandledRunsStand}
@@ -99,8 +100,8 @@ module _ {T U B D P : Type 0} (terms : Terms T U B D)
       (answered_in (turns commands these old.1))) (sym (none_given replies none))
       (subst (λ (all : List (Turn T P D)). machine.MayStop (left_plainly 0 commands) (answered_in all))
       (sym (none_turned commands old.1)) (never_stops commands (some_left Handles commands old new replies runs)))
-  stops_there commands old new replies runs (inr (one, is, values)) =
-      lacks_stop commands (length replies) one (answered_in (turns commands replies old.1)) is values
+  stops_there commands old new replies runs (inr (one, is, (before, lacks))) =
+      lacks_stop commands (length replies) one (answered_in (turns commands replies old.1)) is (lacks_for_values one before new.0 lacks)
 
   -- what is left as a run stopped, or didn't
   left_so : (commands : List (HandledCommand T)) (old new : NumberedHub T U B D × List (Option (GivenHandler P D)))

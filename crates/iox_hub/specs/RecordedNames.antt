@@ -1,5 +1,5 @@
 -- What numbers name in a recorded hub.
-use Rattle.std.specs.Prelude.{ℕ, Option, None, Some, Result, Ok, Err}
+use Rattle.std.specs.Prelude.{ℕ, max, Option, None, Some, Result, Ok, Err}
 use Rattle.std.specs.Option.{unwrap_or}
 use Rattle.iox_command.specs.declared.port.PublisherOptions.{PublisherOptions}
 use Rattle.iox_command.specs.declared.port.SubscriberOptions.{SubscriberOptions}
@@ -49,9 +49,15 @@ publisher_side options = record {
   initial_max_slice_len = unwrap_or options.initial_max_slice_len publisher_defaults.initial_max_slice_len;
 }
 
--- How many messages of one publisher may wait for a subscriber: as many as the options name, or else as many as the service allows.
+-- How many messages of one publisher may wait for a subscriber with this buffer size: at least 1. Without a size, as many as the service
+-- allows.
+abbrev pub buffer_named : Option ℕ → ℕ → ℕ
+buffer_named None most = most
+buffer_named (Some named) most = max named 1
+
+-- How many messages of one publisher may wait for a subscriber with these options.
 abbrev pub subscriber_side : ℕ → SubscriberOptions → SubscriberSide
-subscriber_side most options = record { buffer_size = unwrap_or options.buffer_size most }
+subscriber_side most options = record { buffer_size = buffer_named options.buffer_size most }
 
 -- The port that was created in a domain under a number, as a value with this side; or the error.
 abbrev pub port_made : {T U K S E : Type 0} → DomainId → S → Option (Result ℕ E) → Option (Result (Port T U K S) E)

@@ -90,7 +90,7 @@ pub trait HubBuilder<P: Negotiated>: Sized {
         create(alloc, self.builder(), Some(attributes), hub, steps)
     }
 
-    /// Opens the service, whatever its attributes. See `open_with_attributes_in`.
+    /// Opens the service if it meets the builder's requirement. See `open_with_attributes_in`.
     /// Example: `let factory = builder.open_in(alloc, &mut hub, Vec::new(alloc))?;`
     fn open_in<T: Words + ZeroCopySend, U: Copy + ZeroCopySend, B: Drop, D: Drop>(
         self,
@@ -106,7 +106,7 @@ pub trait HubBuilder<P: Negotiated>: Sized {
         open(alloc, self.builder(), None, hub, steps)
     }
 
-    /// Opens the service if it also has these attributes.
+    /// Opens the service if it meets the builder's requirement, whose attributes are replaced by these.
     ///
     /// Refused with the errors of `ServiceBuilder::open_with_attributes`.
     /// Example: `let factory = builder.open_with_attributes_in(alloc, attributes, &mut hub, Vec::new(alloc))?;`
@@ -126,7 +126,8 @@ pub trait HubBuilder<P: Negotiated>: Sized {
         open(alloc, self.builder(), Some(attributes), hub, steps)
     }
 
-    /// Opens the service, whatever its attributes, or creates it without attributes. See `open_or_create_with_attributes_in`.
+    /// Opens the service if it meets the builder's requirement, or creates it with the required pairs if it doesn't exist. See
+    /// `open_or_create_with_attributes_in`.
     /// Example: `let factory = builder.open_or_create_in(alloc, &mut hub, Vec::new(alloc))?;`
     fn open_or_create_in<T: Words + ZeroCopySend, U: Copy + ZeroCopySend, B: Drop, D: Drop>(
         self,
@@ -145,7 +146,8 @@ pub trait HubBuilder<P: Negotiated>: Sized {
         open_or_create(alloc, self.builder(), None, hub, steps)
     }
 
-    /// Opens the service if it also has these attributes, or creates it with the required pairs if it doesn't exist.
+    /// Opens the service if it meets the builder's requirement, whose attributes are replaced by these, or creates it with the required
+    /// pairs if it doesn't exist.
     ///
     /// Refused with the errors of `ServiceBuilder::open_or_create_with_attributes`.
     /// Example: `let factory = builder.open_or_create_with_attributes_in(alloc, attributes, &mut hub, Vec::new(alloc))?;`

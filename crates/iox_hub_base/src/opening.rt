@@ -74,7 +74,7 @@ fn created<P: Negotiated>(
     }
 }
 
-/// Opens the service if it also has these attributes.
+/// Opens the service if it meets the builder's requirement; if attributes are given, they replace those of the requirement.
 pub(crate) fn open<
     P: Negotiated,
     T: Words + ZeroCopySend,
@@ -122,7 +122,8 @@ fn opened<P: Negotiated>(
     }
 }
 
-/// Opens the service if it also has these attributes, or creates it with the required pairs.
+/// Opens the service if it meets the builder's requirement, or creates it with the required pairs; if attributes are given, they replace
+/// those of the requirement.
 pub(crate) fn open_or_create<
     P: Negotiated,
     T: Words + ZeroCopySend,

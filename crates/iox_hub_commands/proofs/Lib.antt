@@ -1,5 +1,6 @@
 pub mod Arrived
 mod Refused
+mod Beside
 pub mod Misfit
 pub mod Answering
 pub mod Written
@@ -35,5 +36,6 @@ pub mod LoanMeasure
 pub mod SampleMeasure
 pub mod StepKeeps
 pub mod PortRooms
+mod RoomsGrow
 mod Sequences
 pub use Rattle.iox_container.proofs as Container

@@ -1,5 +1,5 @@
 -- Room for numbers goes on from command to command, and where it is there no loan and no sample lacks memory for its number.
-use Rattle.std.proofs.Common.{arith, ◌≡◌, ◌≤◌, ◌<◌, ◌+◌, ◌∙◌, inl, inr, ◌⊎◌, ℕ, Bool, true, List, [], ◌∷◌, Option, None, Some, Result, Ok}
+use Rattle.std.proofs.Common.{arith, ◌≡◌, ◌≤◌, ◌<◌, ◌+◌, ◌∙◌, inl, inr, ◌⊎◌, ℕ, true, List, [], ◌∷◌, Option, None, Some, Result, Ok}
 use Rattle.std.proofs.Common.{Err, refl, ap, sym, subst, length}
 use Rattle.std.proofs.lemmas.List.Elements.{All-cons, All-nil}
 use Rattle.std.proofs.lemmas.List.Sums.{sum_by-le-sum_by}
@@ -33,7 +33,6 @@ use Rattle.iox_command.specs.DomainValues.declared.degradation.DegradationInfo.{
 use Rattle.iox_command.specs.DomainValues.declared.port_error.ReceiveError.{ReceiveError}
 use Rattle.iox_hub_commands.specs.Calls.{ready}
 use Rattle.iox_hub_commands.specs.Growing.{GrowsFirst}
-use Rattle.iox_hub_commands.specs.Making.{NumbersPort, with_publisher, with_subscriber}
 use Rattle.iox_hub_commands.specs.Numbering.{LendsNumbered, LendsWrittenNumbered, ReceivesNumbered, NumbersSample}
 use Rattle.iox_hub_commands.specs.Reading.{values_under}
 use Rattle.iox_hub_commands.specs.Tables.{SameNumbers, IsFull, lender}
@@ -55,6 +54,7 @@ use Rattle.iox_hub_commands.specs.CommandSteps.{Step, subscriber_may_degrade}
 use Rattle.iox_hub_commands.specs.declared.numbered_hub.NumberedHub.{NumberedHub}
 use Rattle.iox_hub_commands.specs.declared.room.Pledged.{Pledged}
 use Rattle.iox_hub_commands.specs.Terms.{Terms}
+use Rattle.iox_hub_commands.proofs.Beside.{publisher_tables, subscriber_tables}
 use Rattle.iox_hub_commands.proofs.LoanMeasure.{loan_measure}
 use Rattle.iox_hub_commands.proofs.Measures.{IsFineAt, AreFine}
 use Rattle.iox_hub_commands.proofs.PortsCount.{Balances, held_at, brought_at, publisher_balances, subscriber_balances}
@@ -158,21 +158,6 @@ of_either (command.Has subscriber) comes other = inr other
 pub empty : {X : Type 0} (xs : List X) → length xs ≤ 0 → xs ≡ []
 empty [] few = refl
 empty (x ∷ xs) few = absurd (omega (arith, few))
-
--- a port that comes leaves the tables of loans and of samples as they are, and a subscriber that of publishers
-publisher_tables : {E : Type 0} (domain : DomainId) (holds_slices : Bool) (next : ℕ) (came answer : Option (Result ℕ E))
-    (made after : Made) → NumbersPort (with_publisher domain holds_slices) next came made answer after
-    → (after.loans ≡ made.loans) × (after.samples ≡ made.samples)
-publisher_tables domain holds_slices next None answer made after numbers = rw numbers.1 (refl, refl)
-publisher_tables domain holds_slices next (Some (Err error)) answer made after numbers = rw numbers.1 (refl, refl)
-publisher_tables domain holds_slices next (Some (Ok number)) answer made after numbers = rw numbers.1 (refl, refl)
-
-subscriber_tables : {E : Type 0} (domain : DomainId) (next : ℕ) (came answer : Option (Result ℕ E)) (made after : Made)
-    → NumbersPort (with_subscriber domain) next came made answer after
-    → (after.loans ≡ made.loans) × (after.samples ≡ made.samples) × (after.publishers ≡ made.publishers)
-subscriber_tables domain next None answer made after numbers = rw numbers.1 (refl, refl, refl)
-subscriber_tables domain next (Some (Err error)) answer made after numbers = rw numbers.1 (refl, refl, refl)
-subscriber_tables domain next (Some (Ok number)) answer made after numbers = rw numbers.1 (refl, refl, refl)
 
 none_held : {T U : Type 0} (found : Option (ServicePorts T U)) → held_at loan_measure found ≡ 0
 none_held None = refl
@@ -537,7 +522,7 @@ module _ {T U B D : Type 0} where
     lacks (command.GiveUp publisher) old new lacking step finds room = absurd step
     lacks (command.Receive subscriber) old new lacking ((received, grows, told), same) finds room
         = received_in_room subscriber old new lacking received grows told finds room.1
-    lacks (command.Read sample) old new lacking step finds room = tt
+    lacks (command.Read sample) old new lacking step finds room = step
     lacks (command.Sequence sample) old new lacking step finds room = absurd step
     lacks (command.Release sample) old new lacking step finds room = absurd step
     lacks (command.Update number) old new lacking step finds room = absurd step

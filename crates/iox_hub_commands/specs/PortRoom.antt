@@ -1,15 +1,17 @@
 -- Capacity that is made when ports are created, so that memory never runs out for the number of a publisher's loan, or of a subscriber's
 -- sample.
-use Rattle.std.specs.Prelude.{ℕ, ◌≡◌, ◌+◌, ◌<◌, ◌≤◌, ◌⊎◌, [], length, Option, None, Some, IsSome}
+use Rattle.std.specs.Prelude.{ℕ, ◌≡◌, ◌+◌, ◌*◌, ◌<◌, ◌≤◌, ◌⊎◌, [], length, max, Bool, true, Option, None, Some, IsSome}
 use Rattle.iox_command.specs.declared.command.Command.{Command}
 use Rattle.iox_command.specs.declared.command.Command.TheVariants as command
 use Rattle.iox_domain.specs.Samples.{held_by_one, held_of_one}
+use Rattle.iox_delivery.specs.Domain.Making.{refuses_publisher, refuses_subscriber}
 use Rattle.iox_delivery.specs.Domain.declared.domain_id.DomainId.{DomainId}
+use Rattle.iox_delivery.specs.Domain.declared.ports.making.PublisherConfig.{PublisherConfig}
 use Rattle.iox_delivery.specs.Domain.declared.ports.service_ports.ServicePorts.{ServicePorts}
 use Rattle.iox_hub_commands.specs.Reading.{values_under}
 use Rattle.iox_hub_commands.specs.Messages.{SomeValues}
 use Rattle.iox_hub_base.specs.AsHome.{hub_ports}
-use Rattle.iox_hub_base.specs.Room.{loans_left_in, samples_left_in}
+use Rattle.iox_hub_base.specs.Room.{loans_left_in, samples_left_in, samples_at_most_in}
 use Rattle.iox_delivery.specs.Container.NumberTable.{NumberTable, value_at}
 use Rattle.iox_hub_commands.specs.Calls.{ready}
 use Rattle.iox_hub_commands.specs.Grown.{HaveGrown}
@@ -41,6 +43,25 @@ Pledges more pledged table = (length table.entries + more ≤ pledged) × (pledg
 abbrev pub IsPledged : {V W : Type 0} → NumberTable V → ℕ → ℕ → NumberTable W → Type 0
 IsPledged ports more pledged table = (length table.entries + more ≤ pledged) × ((ports.entries ≡ []) ⊎ (pledged < table.room))
 
+-- The capacity of a table grew to at most so much, or not at all.
+abbrev pub GrowsTo : {V : Type 0} → ℕ → NumberTable V → NumberTable V → Type 0
+GrowsTo most old new = new.room ≤ max old.room most
+
+-- If the capacity of a table grew, it is at most twice the numbers that are reserved with so many more: those of its entries and of as many
+-- as may still be added; and one more for each factory, and one beside.
+abbrev pub GrowsFor : {V : Type 0} → ℕ → ℕ → ℕ → NumberTable V → NumberTable V → Type 0
+GrowsFor left more factories old new = GrowsTo (2 * (length old.entries + left + more) + factories + 1) old new
+
+-- Whether a publisher is refused however much memory there is; it is if the service's domain isn't in the hub.
+abbrev pub is_publisher_refused : {T U : Type 0} → PublisherConfig → Option (ServicePorts T U) → Bool
+is_publisher_refused config None = true
+is_publisher_refused config (Some ports) = refuses_publisher config ports
+
+-- Whether a subscriber with this buffer size is.
+abbrev pub is_subscriber_refused : {T U : Type 0} → Option ℕ → Option (ServicePorts T U) → Bool
+is_subscriber_refused buffer_size None = true
+is_subscriber_refused buffer_size (Some ports) = refuses_subscriber buffer_size ports
+
 -- How many samples a new subscriber of the service may hold at once; 0 if the service's domain isn't in the hub.
 abbrev pub most_samples : {T U : Type 0} → Option (ServicePorts T U) → ℕ
 most_samples None = 0
@@ -59,6 +80,14 @@ module _ {T U B D : Type 0} where
   -- How many samples of a new publisher of this domain may be held at once.
   abbrev pub most_samples_from : DomainId → NumberedHub T U B D → ℕ
   most_samples_from domain hub = most_samples_of (hub_ports domain hub.hub)
+
+  -- If the capacity for the numbers of loans or of samples grew, it is at most twice what the ports that live reserve with so many loans
+  -- and so many samples more, and one more for each factory, and one beside.
+  abbrev pub RoomsGrow : ℕ → ℕ → NumberedHub T U B D → NumberedHub T U B D → Type 0
+  RoomsGrow loans samples old new =
+      GrowsFor (loans_left_in old.hub.services.domains) loans (length old.factories.made.entries) old.made.loans new.made.loans
+      × GrowsFor (samples_at_most_in old.hub.services.domains) samples (length old.factories.made.entries) old.made.samples
+      new.made.samples
 
   -- At least as many numbers are reserved as loans are out and publishers may still make. If there are publishers, there is capacity for
   -- these, and for one more.
@@ -91,9 +120,13 @@ module _ {T U B D : Type 0} where
   FindsPort (command.Receive subscriber) hub = IsSome (value_at hub.made.subscribers subscriber)
   FindsPort other hub = Unit {0}
 
+  -- A sample that has values is read, and nothing changes.
+  abbrev pub IsLeftUnread : ℕ → NumberedHub T U B D → NumberedHub T U B D → Type 0
+  IsLeftUnread sample old new = SomeValues (values_under hub_ports (value_at old.made.samples sample) old.hub) × (new ≡ old)
+
   -- For what memory ran out at a command without a reply, if the ports have the capacity that they need: at a receive, for the values of
-  -- the sample that was received; at a read, for the values. Each other command has a reply.
+  -- the sample that was received; at a read, for the values of the sample that it names. Each other command has a reply.
   abbrev pub LacksInRoom : Command T → NumberedHub T U B D → NumberedHub T U B D → Type 0
   LacksInRoom (command.Receive subscriber) old new = CameUnread old new
-  LacksInRoom (command.Read sample) old new = Unit {0}
+  LacksInRoom (command.Read sample) old new = IsLeftUnread sample old new
   LacksInRoom other old new = ⊥

@@ -2,6 +2,7 @@
 use Rattle.std.specs.Prelude.{ℕ, ◌≡◌, ◌+◌, ◌≤◌, ◌⊎◌, List, length, Some, slice_get}
 use Rattle.iox_command.specs.declared.command.Command.{Command}
 use Rattle.iox_command.specs.declared.command.Command.TheVariants as command
+use Rattle.iox_hub_commands.specs.PortRoom.{LacksInRoom}
 use Rattle.iox_hub_commands.specs.Tables.{IsRoomier}
 use Rattle.iox_delivery.specs.Container.NumberTable.{NumberTable}
 use Rattle.iox_hub_commands.specs.declared.numbered_hub.NumberedHub.{NumberedHub}
@@ -13,10 +14,6 @@ module _ {T : Type 0} where
   RepliesValues (command.Read sample) = Unit {0}
   RepliesValues other = ⊥
 
-  -- The command after so many replies is one whose reply has values.
-  abbrev pub LacksValues : List (Command T) → ℕ → Type 0
-  LacksValues commands replied = (asked : Command T) × (slice_get commands replied ≡ Some asked) × RepliesValues asked
-
 -- The table has capacity for so many values more.
 abbrev pub FitsMore : {V : Type 0} → ℕ → NumberTable V → Type 0
 FitsMore more table = length table.entries + more ≤ table.room
@@ -26,6 +23,11 @@ module _ {T U B D : Type 0} where
   abbrev pub OnlyRoomier : NumberedHub T U B D → NumberedHub T U B D → Type 0
   OnlyRoomier old new = IsRoomier old.made new.made × (new ≡ record old { made = new.made; pledged = new.pledged })
 
+  -- A run stopped at the command after so many replies, whose reply has values, and memory ran out for these.
+  abbrev pub StopsForValues : List (Command T) → ℕ → NumberedHub T U B D → Type 0
+  StopsForValues commands replied new =
+      (asked : Command T) × (slice_get commands replied ≡ Some asked) × (before : NumberedHub T U B D) × LacksInRoom asked before new
+
   -- A run that stopped after so many replies never began, and nothing changed; or it stopped at a command whose reply has values.
   abbrev pub StopsInTime : List (Command T) → NumberedHub T U B D → ℕ → NumberedHub T U B D → Type 0
-  StopsInTime commands old replied new = ((replied ≡ 0) × (new ≡ old)) ⊎ LacksValues commands replied
+  StopsInTime commands old replied new = ((replied ≡ 0) × (new ≡ old)) ⊎ StopsForValues commands replied new

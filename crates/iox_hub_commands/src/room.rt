@@ -3,7 +3,7 @@ ghost use Rattle.std.specs.Prelude.{◌≡◌, ◌+◌, ◌-◌, ◌^◌, ◌≤
 ghost use Rattle.iox_hub_commands.specs.Tables.{SameNumbers};
 ghost use Rattle.iox_hub_base.specs.Room.{loans_left_in, samples_left_in, samples_at_most_in};
 ghost use Rattle.iox_hub_commands.specs.PortRoom.{FitsBeside, Pledges, HasLoanRoom, HasSampleRoom, KeepsRoom, most_samples_at};
-ghost use Rattle.iox_hub_commands.specs.PortRoom.{most_samples_from};
+ghost use Rattle.iox_hub_commands.specs.PortRoom.{most_samples_from, GrowsTo, GrowsFor, RoomsGrow};
 ghost use Rattle.iox_hub_commands.specs.Room.{FitsMore, OnlyRoomier};
 
 use crate::numbered_hub::NumberedHub;
@@ -31,12 +31,25 @@ fn room_for<V>(numbers: &mut Numbered<V>, more: usize) -> Result<(), AllocError>
     ensures room { OnOk result (FitsMore more numbers.new) }
     ensures small { OnOk result (length numbers.new.entries + more < 2 ^ 64) }
     ensures enough { FitsMore more numbers.old → IsOk result }
+    ensures grows { GrowsTo (length numbers.old.entries + more) numbers.old numbers.new }
 {
     if more <= numbers.room() - numbers.len() {
         return Ok(());
     }
     let room = numbers.len().checked_add(more).ok_or(AllocError)?;
-    numbers.reserve(room)
+    numbers.reserve(room)?;
+    Ok(())
+}
+
+// Makes capacity in a table for so many values in all, if there is memory.
+fn room_if_found<V>(numbers: &mut Numbered<V>, room: usize)
+    ensures same { SameNumbers numbers.old numbers.new }
+    ensures grows { GrowsTo room numbers.old numbers.new }
+{
+    match numbers.reserve(room) {
+        Ok(()) => {}
+        Err(_) => {}
+    }
 }
 
 // Makes capacity in a table for so many values more, and for one beside them: so the table isn't full when they are added, and none of them
@@ -46,6 +59,7 @@ fn room_beside<V>(numbers: &mut Numbered<V>, left: u64, more: u64) -> Result<(),
     ensures room { OnOk result (FitsBeside (left + more) numbers.new) }
     ensures small { OnOk result (length numbers.new.entries + (left + more) + 1 < 2 ^ 64) }
     ensures enough { FitsBeside (left + more) numbers.old → IsOk result }
+    ensures grows { GrowsTo (length numbers.old.entries + (left + more) + 1) numbers.old numbers.new }
 {
     let spare = (numbers.room() - numbers.len()) as u64;
     if left < spare && more < spare - left {
@@ -69,7 +83,7 @@ fn pledged_more<V>(numbers: &Numbered<V>, pledged: u64, more: u64) -> Option<u64
 }
 
 // Reserves the numbers of a table anew: those of its entries, of so many values that may still be added, and of so many more. Capacity is
-// made for these, and for one beside; if there is memory, for as many again, and for some more for each factory. So this is seldom needed.
+// made for these, and for one beside; if there is memory, for twice as many, and for one more for each factory. So this is seldom needed.
 fn pledged_anew<V>(
     numbers: &mut Numbered<V>,
     left: u64,
@@ -80,13 +94,14 @@ fn pledged_anew<V>(
     ensures room { IfOk result (λ all. Pledges (left + more) all numbers.new) }
     ensures small { OnOk result (left + more + 1 < 2 ^ 64) }
     ensures enough { FitsBeside (left + more) numbers.old → IsOk result }
+    ensures grows { GrowsFor left more factories numbers.old numbers.new }
 {
     let ample = (numbers.len() as u64)
         .saturating_add(left)
         .saturating_add(more)
         .saturating_mul(2)
         .saturating_add(factories as u64);
-    let _ample = room_for(numbers, ample as usize);
+    room_if_found(numbers, ample as usize);
     room_beside(numbers, left, more)?;
     Ok(numbers.len() as u64 + left + more)
 }
@@ -104,6 +119,9 @@ impl<T: Copy, U: Copy, B: Drop, D: Drop> NumberedHub<T, U, B, D> {
             (Pledges (loans_left_in self.old.hub.services.domains + more) self.new.pledged.loans self.new.made.loans) }
         ensures stays { OnErr result (self.new.pledged ≡ self.old.pledged) }
         ensures enough { FitsBeside (loans_left_in self.old.hub.services.domains + more) self.old.made.loans → IsOk result }
+        ensures grows { GrowsFor (loans_left_in self.old.hub.services.domains) more (length self.old.factories.made.entries)
+            self.old.made.loans self.new.made.loans }
+        ensures others { self.new.made.samples ≡ self.old.made.samples }
     {
         if let Some(pledged) = pledged_more(&self.made.loans, self.pledged.loans, more) {
             self.pledged.loans = pledged;
@@ -119,7 +137,7 @@ impl<T: Copy, U: Copy, B: Drop, D: Drop> NumberedHub<T, U, B, D> {
     /// them, and for one beside. Fails only if there isn't capacity for as many as the subscribers may hold at once, and an allocation
     /// fails.
     ///
-    /// It scans all subscribers only if there is no capacity for what is reserved so far and for these.
+    /// It scans all subscribers only if there is no capacity for what is reserved so far and for these, and if something is reserved.
     /// Example: `hub.pledge_samples(2)?;`
     pub fn pledge_samples(&mut self, more: u64) -> Result<(), AllocError>
         ensures same { OnlyRoomier self.old self.new }
@@ -129,15 +147,29 @@ impl<T: Copy, U: Copy, B: Drop, D: Drop> NumberedHub<T, U, B, D> {
         ensures small { OnOk result (more + 1 < 2 ^ 64) }
         ensures stays { OnErr result (self.new.pledged ≡ self.old.pledged) }
         ensures enough { FitsBeside (samples_at_most_in self.old.hub.services.domains + more) self.old.made.samples → IsOk result }
+        ensures grows { GrowsFor (samples_at_most_in self.old.hub.services.domains) more (length self.old.factories.made.entries)
+            self.old.made.samples self.new.made.samples }
+        ensures others { self.new.made.loans ≡ self.old.made.loans }
     {
         if let Some(pledged) = pledged_more(&self.made.samples, self.pledged.samples, more) {
             self.pledged.samples = pledged;
             return Ok(());
         }
-        let most = self.hub.samples_at_most();
+        let most = self.most_held();
         let factories = self.factories.made.len();
         self.pledged.samples = pledged_anew(&mut self.made.samples, most, more, factories)?;
         Ok(())
+    }
+
+    // How many samples the existing subscribers may hold at once: none if none is reserved. At most 2^64 - 1.
+    fn most_held(&self) -> u64
+        ensures few { result ≤ samples_at_most_in self.now.hub.services.domains }
+        ensures enough { HasSampleRoom self.now → min (samples_left_in self.now.hub.services.domains) (2 ^ 64 - 1) ≤ result }
+    {
+        if self.pledged.samples == 0 {
+            return 0;
+        }
+        self.hub.samples_at_most()
     }
 }
 
@@ -177,6 +209,7 @@ impl<T: Copy, U: Copy, B: Decides + Degrades, D: Degrades> NumberedHub<T, U, B, 
         ensures samples { HasSampleRoom self.old → OnOk result
             (Pledges (samples_left_in self.old.hub.services.domains + most_samples_from domain self.old) self.new.pledged.samples
             self.new.made.samples) }
+        ensures grows { RoomsGrow loans (most_samples_from domain self.old) self.old self.new }
     {
         self.pledge_loans(loans)?;
         self.pledge_samples(self.most_samples_of(domain))

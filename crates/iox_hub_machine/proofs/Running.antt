@@ -23,8 +23,9 @@ use Rattle.iox_domain.specs.declared.ports.service_ports.ServicePorts.{ServicePo
 use Rattle.iox_domain_machine.proofs.Found.{same_some}
 use Rattle.iox_domain_machine.specs.Naming.{Naming}
 use Rattle.iox_hub_base.specs.declared.hub.HubConfig.{HubConfig}
+use Rattle.iox_hub_commands.proofs.Rooms.{lacks_values}
 use Rattle.iox_hub_commands.specs.CommandSteps as hub
-use Rattle.iox_hub_commands.specs.Room.{LacksValues, RepliesValues, StopsInTime}
+use Rattle.iox_hub_commands.specs.Room.{RepliesValues, StopsForValues, StopsInTime}
 use Rattle.iox_hub_commands.specs.Runs as hub_runs
 use Rattle.iox_hub_commands.specs.Runs.{IsRun}
 use Rattle.iox_hub_commands.specs.declared.numbered_hub.NumberedHub.{NumberedHub}
@@ -129,13 +130,14 @@ module _ {T : Type 0} where
       never : suc (length replies) ≡ 0 → ⊥
       never none = omega (arith, none)
 
-  may_stop : (first rest : List (Command T)) (asked : Command T) (replies : List (Reply T)) → length replies ≡ length first
-      → (length replies ≡ 0) ⊎ LacksValues (first ++ asked ∷ rest) (length replies) → machine.MayStop (asked ∷ rest) replies
-  may_stop first rest asked replies each (inl none) =
+  may_stop : {U B D : Type 0} (first rest : List (Command T)) (asked : Command T) (replies : List (Reply T)) (new : NumberedHub T U B D)
+      → length replies ≡ length first → (length replies ≡ 0) ⊎ StopsForValues (first ++ asked ∷ rest) (length replies) new
+      → machine.MayStop (asked ∷ rest) replies
+  may_stop first rest asked replies new each (inl none) =
       subst (machine.MayStop (asked ∷ rest)) (sym (none_given replies none)) (stops_first asked rest)
-  may_stop first rest asked replies each (inr (other, is, values)) =
+  may_stop first rest asked replies new each (inr (other, is, (before, lacks))) =
       let same : other ≡ asked = same_some other asked (sym is ∙ ap (slice_get (first ++ asked ∷ rest)) each ∙ next_is first rest asked) in
-      stops_so asked rest replies (subst (λ (it : Command T). RepliesValues it) same values)
+      stops_so asked rest replies (subst (λ (it : Command T). RepliesValues it) same (lacks_values other before new lacks))
 
   one_each : (types : MessageTypeDetails) (choices : Choices T) (buffer : ℕ) (first : List (Command T)) (old new : State T)
       (answers : List (Reply T)) → machine.Runs types choices buffer first old answers new → length answers ≡ length first
@@ -429,10 +431,10 @@ module _ {T U B D : Type 0} (terms : Terms T U B D) where
           it.asked ∷ it.rest,
           it.after,
           it.are,
-          may_stop it.first it.rest it.asked replies
+          may_stop it.first it.rest it.asked replies new
               (one_each terms.types (as_named terms.is_default) config.expired_connection_buffer it.first new_state it.after replies runs)
               (⊎_elim (λ never. inl never.0)
-              (λ lacks. inr (subst (λ (them : List (Command T)). LacksValues them (length replies)) it.are lacks)) (stops refl)),
+              (λ lacks. inr (subst (λ (them : List (Command T)). StopsForValues them (length replies) new) it.are lacks)) (stops refl)),
           runs,
         )
 

@@ -136,8 +136,8 @@ module _ {T U B D : Type 0} (K : Type 0) (terms : Terms T U B D) where
       → RetriesSend hub_ports with_hub_ports (publisher_may_decide terms.decides) sender nanoseconds old.hub answer hub
       → IsStepBy terms (command.Retry number nanoseconds) old (told_sent answer) (hub_after_call old old.made hub)
 
-  -- A blocked send is given up, and the reply says how many mailboxes took its message. `give_up` does this, and so does `drop_with`, whose
-  -- answer is None if no send is blocked.
+  -- A blocked send is given up, and the reply says how many mailboxes took its message. `give_up` does this, and so does `drop_with`, which
+  -- hands the send back if it isn't blocked.
   abbrev pub GiveUpIsStep : Type 0
   GiveUpIsStep = (number : ℕ) (sender : PortId) (old : NumberedHub T U B D) (hub : Hub T U B D) (answer : Option ℕ)
       → port_under (value_at old.made.publishers number) ≡ Some sender

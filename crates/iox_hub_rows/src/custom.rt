@@ -94,7 +94,7 @@ fn values_of<T: Copy, U: Copy, H: Home<T, U>>(
     match lent {
         Ok(loan) => {
             let values = loan.len();
-            loan.drop_with(home);
+            let _ = loan.drop_with(home).map_err(|loan| loan.into_slot());
             Ok(values)
         }
         Err(error) => Err(error),

@@ -55,7 +55,9 @@ pub(crate) fn sent_to<T: Copy, U: Copy, H: Home<T, U>>(
     match sent {
         Ok(Sent::Delivered(delivered)) => Ok(delivered),
         Ok(Sent::Blocked(blocked)) => {
-            blocked.drop_with(home);
+            let _ = blocked
+                .drop_with(home)
+                .map_err(|blocked| blocked.into_port());
             Err(SendError::UnableToDeliver)
         }
         Err(error) => Err(error),

@@ -8,6 +8,7 @@ use iox_describe::{
     Settings, TypeVariant, publish_subscribe,
 };
 use iox_domain::Nobody;
+use iox_hub::prelude::PublishSubscribeOpenError;
 use iox_hub_base::{Hub, HubBuilder, HubConfig, NodeHandle, PortFactory};
 use iox_negotiate_table::{ForeignStep, StepList};
 use std::alloc::{AllocError, Global};
@@ -135,6 +136,25 @@ fn steps(alloc: Global, description: Description) -> Result<StepList, AllocError
     Ok(StepList::new(steps))
 }
 
+// Whether there is no room for one more node.
+fn is_full(rt: &impl Abort, alloc: Global, hub: &mut Messages) -> Result<bool, Fail> {
+    let node = hub.new_node()?;
+    must_be_there(rt, hub.holds_node(&node));
+    let builder = hub
+        .service_builder(&node, ServiceName::new(b"A")?)
+        .publish_subscribe::<u64>()
+        .user_header::<u8>();
+    must_be_there(rt, builder.holds(hub));
+    match builder.open_in(alloc, hub, Vec::new(alloc)) {
+        Ok(service) => {
+            close(rt, hub, service);
+            Ok(false)
+        }
+        Err(PublishSubscribeOpenError::ExceedsMaxNumberOfNodes) => Ok(true),
+        Err(error) => Err(Fail::from(error)),
+    }
+}
+
 // A node finds the service of the others with its attribute, and is the last for which there is room.
 fn find(rt: &impl Abort, alloc: Global, hub: &mut Messages) -> Result<(), Fail> {
     let steps = steps(alloc, description(alloc)?)?;
@@ -142,7 +162,7 @@ fn find(rt: &impl Abort, alloc: Global, hub: &mut Messages) -> Result<(), Fail> 
     hub.foreign(MessagingPattern::PublishSubscribe, &name, &steps)?;
     let service = come_new(rt, alloc, hub, How::Open)?;
     assert!(rt; service.attributes().as_slice().len() == 1);
-    assert!(rt; come_new(rt, alloc, hub, How::Open).is_err());
+    assert!(rt; is_full(rt, alloc, hub)?);
     close(rt, hub, service);
     Ok(())
 }

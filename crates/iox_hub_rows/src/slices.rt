@@ -75,8 +75,8 @@ fn tells<T: Copy, U: Copy, H: Home<T, U>>(
 ) -> bool {
     must_be_there(rt, loan.holds(home));
     let header = loan.header(home);
-    loan.drop_with(home);
-    (header.node_id, header.number_of_elements) == (4, len as u64)
+    let given_up = loan.drop_with(home).map_err(|loan| loan.into_slot());
+    given_up.is_ok() && (header.node_id, header.number_of_elements) == (4, len as u64)
 }
 
 // Whether a call goes so, with these values.
@@ -94,8 +94,8 @@ fn goes<T: Copy + Default + PartialEq, U: Copy, H: Home<T, U>>(
     match *call {
         Call::LendsDefaults => match publisher.loan_slice(alloc, home, len) {
             Ok(sample) => {
-                sample.drop_with(home);
-                true
+                let given_up = sample.drop_with(home).map_err(|sample| sample.into_slot());
+                given_up.is_ok()
             }
             Err(_) => false,
         },

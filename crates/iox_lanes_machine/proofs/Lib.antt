@@ -45,6 +45,7 @@ pub mod SwapsTaken
 pub mod TakenIn
 pub mod TakenInPlaces
 pub mod StartParts
+pub mod Counted
 pub mod StartRooms
 pub mod StartUses
 pub mod Alone

@@ -1,5 +1,5 @@
 -- Lanes as they are made: each publisher has a connection to each subscriber, and nothing was done yet.
-use Rattle.std.specs.Prelude.{ℕ, false, zero, suc, ◌+◌, ◌*◌, ◌/◌, ◌%◌, List, [], ◌∷◌, ◌++◌, replicate, None}
+use Rattle.std.specs.Prelude.{ℕ, false, zero, suc, ◌+◌, ◌*◌, ◌/◌, ◌%◌, ◌<◌, ◌^◌, List, [], ◌∷◌, ◌++◌, replicate, None}
 use Rattle.iox_lanes_machine.specs.QueuesSteps.Ends.{cells_of}
 use Rattle.iox_lanes_machine.specs.LanesBase.Numbers.{words_of}
 use Rattle.iox_lanes_machine.specs.LanesBase.declared.words.sizes.TableSizes.{TableSizes}
@@ -32,6 +32,12 @@ table_sizes sizes = record {
   user_header_words = sizes.user_header_words;
   payload_words = sizes.payload_words;
 }
+
+-- The numbers of all connections, of all slots, and of the words of a slot are below 2^64.
+pub record AreCounted (sizes : LaneSizes) : Type 0 where
+  pub connections : sizes.publishers * sizes.subscribers < 2 ^ 64
+  pub slots : sizes.publishers * sizes.slots < 2 ^ 64
+  pub words : 3 + sizes.user_header_words + sizes.payload_words < 2 ^ 64
 
 -- The link of a connection. Connections are numbered publisher by publisher, and for each publisher subscriber by subscriber.
 abbrev pub link_at : LaneSizes → ℕ → LinkState

@@ -1,9 +1,9 @@
 //! The parts of lanes, as they are made.
-ghost use Rattle.std.specs.Prelude.{◌≡◌, ◌+◌, ◌*◌, [], replicate, IfOk};
+ghost use Rattle.std.specs.Prelude.{◌≡◌, ◌<◌, ◌+◌, ◌*◌, [], replicate, IfOk};
 ghost use Rattle.iox_lanes_machine.specs.LanesParties.PublisherKeeping.{new_book};
 ghost use Rattle.iox_lanes_machine.specs.LanesParties.Publishers.{new_publisher};
 ghost use Rattle.iox_lanes_machine.specs.Made.{listed, link_at, publisher_at, subscriber_at, sending_routes, receiving_routes};
-ghost use Rattle.iox_lanes_machine.specs.Made.{first_head, route_to, table_sizes};
+ghost use Rattle.iox_lanes_machine.specs.Made.{first_head, route_to, table_sizes, AreCounted};
 
 use crate::link::Link;
 use crate::order::Order;
@@ -22,6 +22,7 @@ pub(crate) fn connections(
     sizes: &LaneSizes,
     count: u64,
 ) -> Result<(Vec<Link>, Vec<Order>), AllocError>
+    requires { count ≡ sizes.now.publishers * sizes.now.subscribers }
     ensures { IfOk result (λ made. (made.0.items ≡ listed (link_at sizes.now) count) × (made.1.items ≡ listed (λ connection. []) count)) }
 {
     let links = links(alloc, sizes, count)?;
@@ -35,7 +36,8 @@ pub(crate) fn parties(
     sizes: &LaneSizes,
     table: &TableSizes,
 ) -> Result<(Vec<PublisherLane>, Vec<SubscriberLane>), AllocError>
-    requires { table.now ≡ table_sizes sizes.now }
+    requires table { table.now ≡ table_sizes sizes.now }
+    requires counted { AreCounted sizes.now }
     ensures { IfOk result (λ made. (made.0.items ≡ listed (publisher_at sizes.now) sizes.now.publishers)
         × (made.1.items ≡ listed (subscriber_at sizes.now) sizes.now.subscribers)) }
 {
@@ -46,13 +48,12 @@ pub(crate) fn parties(
 
 // The links of the first `count` connections.
 fn links(alloc: Global, sizes: &LaneSizes, count: u64) -> Result<Vec<Link>, AllocError>
+    requires { count ≡ sizes.now.publishers * sizes.now.subscribers }
     ensures { IfOk result (λ made. made.items ≡ listed (link_at sizes.now) count) }
 {
     let mut list = Vec::new(alloc);
     for connection in 0..count {
-        let Some(link) = sizes.link(alloc, connection) else {
-            return Err(AllocError);
-        };
+        let link = sizes.link(alloc, connection);
         list.reserve(1)?;
         list.push_reserved(link);
     }
@@ -77,7 +78,8 @@ fn publishers(
     sizes: &LaneSizes,
     table: &TableSizes,
 ) -> Result<Vec<PublisherLane>, AllocError>
-    requires { table.now ≡ table_sizes sizes.now }
+    requires table { table.now ≡ table_sizes sizes.now }
+    requires counted { AreCounted sizes.now }
     ensures { IfOk result (λ made. made.items ≡ listed (publisher_at sizes.now) sizes.now.publishers) }
 {
     let mut list = Vec::new(alloc);
@@ -95,7 +97,8 @@ fn subscribers(
     sizes: &LaneSizes,
     table: &TableSizes,
 ) -> Result<Vec<SubscriberLane>, AllocError>
-    requires { table.now ≡ table_sizes sizes.now }
+    requires table { table.now ≡ table_sizes sizes.now }
+    requires counted { AreCounted sizes.now }
     ensures { IfOk result (λ made. made.items ≡ listed (subscriber_at sizes.now) sizes.now.subscribers) }
 {
     let mut list = Vec::new(alloc);
@@ -113,7 +116,9 @@ fn publisher(
     table: &TableSizes,
     place: u64,
 ) -> Result<PublisherLane, AllocError>
-    requires { table.now ≡ table_sizes sizes.now }
+    requires table { table.now ≡ table_sizes sizes.now }
+    requires counted { AreCounted sizes.now }
+    requires place { place < sizes.now.publishers }
     ensures { IfOk result (λ made. made ≡ publisher_at sizes.now place) }
 {
     let routes = sending_routes(alloc, sizes, table, place)?;
@@ -125,15 +130,14 @@ fn publisher(
 
 // The record of a publisher's slots.
 fn slot_book(alloc: Global, sizes: &LaneSizes, place: u64) -> Result<SlotBook, AllocError>
+    requires counted { AreCounted sizes.now }
+    requires place { place < sizes.now.publishers }
     ensures { IfOk result (λ made. made ≡ new_book (place * sizes.now.slots) sizes.now.slots sizes.now.subscribers
         sizes.now.most_loans sizes.now.history) }
 {
-    let Some(first) = place.checked_mul(sizes.slots) else {
-        return Err(AllocError);
-    };
     SlotBook::new(
         alloc,
-        first,
+        place * sizes.slots,
         sizes.slots as usize,
         sizes.subscribers as usize,
         sizes.most_loans,
@@ -148,11 +152,10 @@ fn publisher_port(
     routes: &[Route],
     book: SlotBook,
 ) -> Result<LanePublisher, AllocError>
+    requires { AreCounted sizes.now }
     ensures { IfOk result (λ made. made ≡ new_publisher routes.now book sizes.now.payload_words (3 + sizes.now.user_header_words)) }
 {
-    let Some(head_words) = sizes.user_header_words.checked_add(3) else {
-        return Err(AllocError);
-    };
+    let head_words = 3 + sizes.user_header_words;
     LanePublisher::new(
         alloc,
         routes,
@@ -182,12 +185,14 @@ fn sending_routes(
     table: &TableSizes,
     place: u64,
 ) -> Result<Vec<Route>, AllocError>
-    requires { table.now ≡ table_sizes sizes.now }
+    requires table { table.now ≡ table_sizes sizes.now }
+    requires counted { AreCounted sizes.now }
+    requires place { place < sizes.now.publishers }
     ensures { IfOk result (λ made. made.items ≡ sending_routes sizes.now place sizes.now.subscribers) }
 {
     let mut list = Vec::new(alloc);
     for subscriber in 0..sizes.subscribers {
-        let route = route(sizes, table, place, subscriber)?;
+        let route = route(sizes, table, place, subscriber);
         list.reserve(1)?;
         list.push_reserved(route);
     }
@@ -201,12 +206,14 @@ fn receiving_routes(
     table: &TableSizes,
     place: u64,
 ) -> Result<Vec<Route>, AllocError>
-    requires { table.now ≡ table_sizes sizes.now }
+    requires table { table.now ≡ table_sizes sizes.now }
+    requires counted { AreCounted sizes.now }
+    requires place { place < sizes.now.subscribers }
     ensures { IfOk result (λ made. made.items ≡ receiving_routes sizes.now place sizes.now.publishers) }
 {
     let mut list = Vec::new(alloc);
     for publisher in 0..sizes.publishers {
-        let route = route(sizes, table, publisher, place)?;
+        let route = route(sizes, table, publisher, place);
         list.reserve(1)?;
         list.push_reserved(route);
     }
@@ -214,22 +221,14 @@ fn receiving_routes(
 }
 
 // The connection between a publisher and a subscriber.
-fn route(
-    sizes: &LaneSizes,
-    table: &TableSizes,
-    publisher: u64,
-    subscriber: u64,
-) -> Result<Route, AllocError>
-    requires { table.now ≡ table_sizes sizes.now }
-    ensures { IfOk result (λ made. made ≡ route_to sizes.now (publisher * sizes.now.subscribers + subscriber)) }
+fn route(sizes: &LaneSizes, table: &TableSizes, publisher: u64, subscriber: u64) -> Route
+    requires table { table.now ≡ table_sizes sizes.now }
+    requires counted { AreCounted sizes.now }
+    requires publisher { publisher < sizes.now.publishers }
+    requires subscriber { subscriber < sizes.now.subscribers }
+    ensures { result ≡ route_to sizes.now (publisher * sizes.now.subscribers + subscriber) }
 {
-    let Some(before) = publisher.checked_mul(sizes.subscribers) else {
-        return Err(AllocError);
-    };
-    let Some(connection) = before.checked_add(subscriber) else {
-        return Err(AllocError);
-    };
-    Ok(sizes.route(table, connection))
+    sizes.route(table, publisher * sizes.subscribers + subscriber)
 }
 
 fn subscriber(
@@ -238,16 +237,13 @@ fn subscriber(
     table: &TableSizes,
     place: u64,
 ) -> Result<SubscriberLane, AllocError>
-    requires { table.now ≡ table_sizes sizes.now }
+    requires table { table.now ≡ table_sizes sizes.now }
+    requires counted { AreCounted sizes.now }
+    requires place { place < sizes.now.subscribers }
     ensures { IfOk result (λ made. made ≡ subscriber_at sizes.now place) }
 {
     let routes = receiving_routes(alloc, sizes, table, place)?;
-    let Some(head_words) = sizes.user_header_words.checked_add(3) else {
-        return Err(AllocError);
-    };
-    let Some(words) = head_words.checked_add(sizes.payload_words) else {
-        return Err(AllocError);
-    };
+    let words = 3 + sizes.user_header_words + sizes.payload_words;
     let extent = SlotExtent {
         user_header_words: sizes.user_header_words,
         payload_words: sizes.payload_words,

@@ -1,5 +1,5 @@
 //! How many ports lanes have, and their sizes.
-ghost use Rattle.std.specs.Prelude.{◌≡◌, ◌*◌, IfSome};
+ghost use Rattle.std.specs.Prelude.{◌≡◌, ◌<◌, ◌*◌, IfSome};
 ghost use Rattle.iox_lanes_machine.specs.QueuesSteps.Ends.{cells_of};
 ghost use Rattle.iox_lanes_machine.specs.Made.{table_sizes, link_at, cells_back};
 
@@ -78,17 +78,18 @@ impl LaneSizes {
         self.buffer.checked_add(self.most_borrowed)?.checked_add(1)
     }
 
-    /// The link of this connection, if there are subscribers.
-    pub(crate) fn link(&self, alloc: Global, connection: u64) -> Option<Link>
-        ensures { IfSome result (λ link. link ≡ link_at self.now connection) }
+    /// The link of this connection.
+    pub(crate) fn link(&self, alloc: Global, connection: u64) -> Link
+        requires { 0 < self.now.subscribers }
+        ensures { result ≡ link_at self.now connection }
     {
-        Some(Link {
-            publisher: connection.checked_div(self.subscribers)?,
-            subscriber: connection.checked_rem(self.subscribers)?,
+        Link {
+            publisher: connection / self.subscribers,
+            subscriber: connection % self.subscribers,
             kind: self.kind,
             limit: self.buffer,
             found: Vec::new(alloc),
-        })
+        }
     }
 
     /// A connection as its ports know it.

@@ -55,7 +55,7 @@ impl State {
     {
         let words = WordTable::new(alloc, *table)?;
         let connections = made::connections(alloc, sizes, table.connections)?;
-        let parties = made::parties(alloc, sizes, table)?;
+        let parties = made::parties(alloc, sizes, &words.sizes())?;
         Ok(State::from_parts(alloc, words, connections, parties))
     }
 

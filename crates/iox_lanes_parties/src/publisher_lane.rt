@@ -342,10 +342,8 @@ fn is_head(user_header_words: usize, head_words: usize) -> bool
 
 // The answer of a loan that ended.
 fn lent(loan: Option<LoanAnswer>) -> Answer
+    requires { IsSome loan }
     ensures { result ≡ lent loan }
 {
-    match loan {
-        Some(answer) => Answer::Lent(answer),
-        None => Answer::Lent(LoanAnswer::OutOfMemory),
-    }
+    Answer::Lent(loan.unwrap())
 }

@@ -5,7 +5,7 @@ ghost use Rattle.iox_domain_ports.specs.DomainValues.Sizes.{buffer_of};
 ghost use Rattle.iox_domain.specs.Subscribers.{subscriber_of};
 ghost use Rattle.iox_domain.specs.Making.{slots_needed, publisher_place, subscriber_place, publisher_refusal, subscriber_refusal};
 ghost use Rattle.iox_domain.specs.Making.{segments_of, sender_config, identity_of, AddsPublisher, CreatesPublisher, FollowsFirst};
-ghost use Rattle.iox_domain.specs.Making.{AddsSubscriber, CreatesSubscriber};
+ghost use Rattle.iox_domain.specs.Making.{AddsSubscriber, CreatesSubscriber, refuses_publisher, refuses_subscriber};
 
 use crate::ports::service_ports::ServicePorts;
 use iox_domain_ports::{
@@ -90,6 +90,14 @@ impl<T: Copy, U: Copy> ServicePorts<T, U> {
         } else {
             PublisherCreateError::UnableToCreateDataSegment
         }
+    }
+
+    /// Whether a publisher of this config is refused however much memory there is: the number of slots that it needs isn't allowed, or
+    /// no place is free.
+    pub fn refuses_publisher(&self, config: &PublisherConfig) -> bool
+        ensures { result ≡ refuses_publisher config.now self.now }
+    {
+        self.slots_needed(config).is_none() || self.publisher_place().is_none()
     }
 
     // How many slots a publisher needs, unless they or the values of one are 2^32 or more.
@@ -224,6 +232,13 @@ impl<T: Copy, U: Copy> ServicePorts<T, U> {
                 SubscriberCreateError::ExceedsMaxSupportedSubscribers,
             Ok(_) => SubscriberCreateError::OutOfMemory,
         }
+    }
+
+    /// Whether a subscriber with this buffer size is refused however much memory there is: for the size, or because no place is free.
+    pub fn refuses_subscriber(&self, buffer_size: Option<usize>) -> bool
+        ensures { result ≡ refuses_subscriber buffer_size self.now }
+    {
+        self.sizes.buffer_size(buffer_size).is_err() || self.subscriber_place().is_none()
     }
 
     // The place of the next subscriber, if one is free and there is a number for the subscriber.

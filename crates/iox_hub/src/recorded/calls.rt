@@ -247,7 +247,7 @@ pub(crate) fn subscriber_of<T: Copy, U: Copy>(
         Some(Ok(number)) => Some(Ok(slice::Subscriber::of_port(
             PortId { domain, number },
             match options.buffer_size {
-                Some(size) => size as usize,
+                Some(size) => (size as usize).max(1),
                 None => most,
             },
         ))),

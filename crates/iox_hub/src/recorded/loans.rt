@@ -22,7 +22,7 @@ use crate::recorded::named::{Named, Number};
 use crate::recorded::recorded_hub::RecordedHub;
 use iox_delivery::kind::Slice;
 use iox_delivery::loan::{Loan, LoanState};
-use iox_delivery::{Sent, slices as slice};
+use iox_delivery::{Sent, lending, slices as slice};
 use iox_describe_base::ZeroCopySend;
 use iox_domain::Home;
 use iox_domain_values::{LoanError, SendError};
@@ -133,7 +133,8 @@ impl<
         typed_calls_are_a_run::<T, U, B, D>();
         typed_publisher_calls_are_steps::<T, U, Slice, B, D>();
         let Named { it, number } = loan;
-        it.drop_with(&mut self.hub);
+        let (port, slot) = it.into_slot();
+        lending::drop_loan(port, slot, &mut self.hub);
         self.history = History::told(&self.history, &number, &(), &());
     }
 

@@ -28,6 +28,7 @@ ghost use Rattle.iox_machine.specs.Run.{Answers};
 ghost use Rattle.iox_hub.specs.Recorded.{AreFollowed, asked_too};
 ghost use Rattle.iox_hub.specs.RecordedCalls.{IsAsAsked, IsReceived, KeepNumbers, answered_as, told_send};
 ghost use Rattle.iox_hub.specs.RecordedLaws.{WasSentBefore};
+ghost use Rattle.iox_hub.specs.RecordedNames.{buffer_named};
 
 use crate::recorded::history::History;
 use crate::recorded::named::{Named, Number};
@@ -36,7 +37,7 @@ use iox_command::{
     ForeignStep, HubError, PublishSubscribeOptions, PublisherOptions, SubscriberOptions,
 };
 use iox_delivery::kind::Slice;
-use iox_delivery::{BlockedSend, Sent, slices as slice};
+use iox_delivery::{BlockedSend, Sent, publishing, slices as slice, subscribing};
 use iox_describe::pattern::PublishSubscribe;
 use iox_describe_base::{
     AttributeSpecifier, AttributeVerifier, MessagingPattern, ServiceName, ZeroCopySend,
@@ -429,7 +430,7 @@ impl<
         ensures side { (most : StaticConfig)
             → factory.now.it.service.membership.service.description.settings ≡ settings.PublishSubscribe most
             → IfSome result (λ answer. IfOk answer (λ subscriber.
-            subscriber.it.side ≡ record { buffer_size = unwrap_or options.now.buffer_size most.subscriber_max_buffer_size })) }
+            subscriber.it.side ≡ record { buffer_size = buffer_named options.now.buffer_size most.subscriber_max_buffer_size })) }
     {
         let domain = domain_of(&factory.it);
         let number = Number::given(&self.history);
@@ -521,7 +522,7 @@ impl<
     {
         typed_calls_are_a_run::<T, U, B, D>();
         typed_publisher_calls_are_steps::<T, U, Slice, B, D>();
-        let answer = blocked.drop_with(&mut self.hub);
+        let answer = publishing::end_send(blocked.into_port(), &mut self.hub);
         self.history = History::told(&self.history, &publisher.number, &answer, &());
         answer
     }
@@ -703,7 +704,8 @@ impl<
         typed_subscriber_calls_are_steps::<T, U, Slice, B, D>();
         what_is_held_may_be_used::<T, U, B, D>();
         let Named { it, number } = sample;
-        let was_held = it.drop_with(&mut self.hub);
+        let (port, taken) = it.into_taken();
+        let was_held = subscribing::drop_sample(port, taken, &mut self.hub);
         self.history = History::told(&self.history, &number, &was_held, &());
         was_held
     }

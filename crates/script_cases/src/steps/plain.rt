@@ -21,11 +21,19 @@ pub(crate) fn set(alloc: Global, line: &str) -> Result<Plain, AllocError> {
     })
 }
 
+// Sets a place, if the set has it.
+fn sets(set: &mut BitSet, place: usize) -> Option<Said<'static>> {
+    if place < set.capacity() {
+        Some(Said::Is(set.set(place)))
+    } else {
+        None
+    }
+}
+
 // What a call answers; nothing where it doesn't fit.
 fn told(set: &mut BitSet, asked: Asked<'_>) -> Option<Said<'static>> {
-    let place = asked.first as usize;
     match asked.verb {
-        "set" if place < set.capacity() => Some(Said::Is(set.set(place))),
+        "set" => sets(set, asked.first as usize),
         "next" => Some(
             set.reset_next()
                 .map_or(NONE, |place| Said::Number(place as u64)),

@@ -5,7 +5,6 @@ use Rattle.iox_hub_commands.specs.Terms.{terms_of}
 use Rattle.iox_hub_commands.proofs.PortRooms.{keeps_on}
 use Rattle.iox_hub_commands.proofs.Rooms.{at_seam}
 use Rattle.iox_hub_commands.proofs.RunLemmas.{runs_more}
-use Rattle.iox_hub.proofs.HandledRooms.{lacks_for_values}
 use Rattle.iox_hub.specs.Steps.{HandledStep}
 use Rattle.iox_hub.proofs.running.carry_out_all.Goals as goal
 
@@ -59,8 +58,8 @@ returns-in_default-step-clause-stops g c = λ (loans, samples) grown stopped.
     inr (
       command,
       rw (← all, count) (at_seam at.yielded command (into_iter_items c.next.new.self)),
-      lacks_for_values command at.hub c.step.new.hub
-          (c.in_default-step.ensures.lacks (at.invariant.kept.0 loans, at.invariant.kept.1 grown samples)),
+      at.hub,
+      c.in_default-step.ensures.lacks (at.invariant.kept.0 loans, at.invariant.kept.1 grown samples),
     )
 
 pub returns-in_default-step-clause-room : goal.returns-in_default-step-clause-room

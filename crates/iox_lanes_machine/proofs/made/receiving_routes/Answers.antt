@@ -5,7 +5,7 @@ use Rattle.iox_lanes_machine.proofs.made.receiving_routes.Goals as goal
 
 pub loop-publisher-preserved : goal.loop-publisher-preserved
 loop-publisher-preserved c =
-    let grown : c.push_reserved.new.self.items ≡ c.loop-publisher.list.items ++ c.in_ok-route.route ∷ [] = search rules in
+    let grown : c.push_reserved.new.self.items ≡ c.loop-publisher.list.items ++ c.route-route.result ∷ [] = search rules in
     listed_more (λ (publisher : ℕ). route_to c.args.sizes.now (publisher * c.args.sizes.now.subscribers + c.args.place))
     c.loop-publisher.publisher c.loop-publisher.list.items c.push_reserved.new.self.items
-    c.in_ok-route.route c.loop-publisher.invariant c.in_ok-route.ensures grown
+    c.route-route.result c.loop-publisher.invariant c.route-route.ensures grown

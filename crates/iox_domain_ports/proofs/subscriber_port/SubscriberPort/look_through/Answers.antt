@@ -1,18 +1,40 @@
-use Rattle.std.proofs.Common.{rules, ◌∙◌}
+use Rattle.std.proofs.Common.{rules, arith, ◌∙◌}
+use Rattle.iox_domain_ports.specs.Subscribing.{gives, has_data}
 use Rattle.iox_domain_ports.proofs.Asking.{looked_none, looked_on, looked_past}
+use Rattle.iox_domain_ports.proofs.First.{none_first}
+use Rattle.iox_domain_ports.proofs.Unmet.{no_data_left, none_gives_left, one_of_all}
 use Rattle.iox_domain_ports.proofs.subscriber_port.SubscriberPort.look_through.Goals as goal
 use Rattle.iox_domain_ports.proofs.subscriber_port.SubscriberPort.look_through.Goals.{then-not-is_flagged+else-asked, else-not-is_flagged}
 
 pub loop-key-init : goal.loop-key-init
-loop-key-init g c = looked_none c.args.self.now c.args.publishers.now c.args.met.count c.args.met.unread c.requires.unread
+loop-key-init g c = record {
+  looked = looked_none c.args.self.now c.args.publishers.now c.args.met.count c.args.met.unread c.requires.unread;
+  unmet = c.len-unmet.ensures.value;
+}
 
 pub loop-key-preserved : goal.loop-key-preserved
-loop-key-preserved g c = elim c.if-not-is_flagged.branch [
-  | then-not-is_flagged+else-asked w ↦
-      looked_on c.args.self.now c.args.publishers.now c.args.met.count c.loop-key.key c.loop-key.unread c.if-not-is_flagged.unread
-      w.asked-asked.result.gives w.asked-asked.result.data c.loop-key.invariant w.asked-asked.ensures.gives w.if-asked.false
-      w.asked-asked.ensures.data (w.unread-is ∙ w.first_of-unread.ensures)
-  | else-not-is_flagged w ↦
-      looked_past c.args.self.now c.args.publishers.now c.args.met.count c.loop-key.key c.loop-key.unread c.if-not-is_flagged.unread
-      c.loop-key.invariant c.requires.met c.requires.all (c.is_flagged.ensures (search (rules, w.if-not-is_flagged.false))) w.unread-is
-]
+loop-key-preserved g c = record {
+  looked = elim c.if-not-is_flagged.branch [
+    | then-not-is_flagged+else-asked w ↦
+        looked_on c.args.self.now c.args.publishers.now c.args.met.count c.loop-key.key c.loop-key.unread c.if-not-is_flagged.unread
+        w.asked-asked.result.gives w.asked-asked.result.data c.loop-key.invariant.looked w.asked-asked.ensures.gives w.if-asked.false
+        w.asked-asked.ensures.data (w.unread-is ∙ w.first_of-unread.ensures)
+    | else-not-is_flagged w ↦
+        looked_past c.args.self.now c.args.publishers.now c.args.met.count c.loop-key.key c.loop-key.unread c.if-not-is_flagged.unread
+        c.loop-key.invariant.looked c.requires.met c.requires.all (c.is_flagged.ensures (search (rules, w.if-not-is_flagged.false)))
+        w.unread-is
+  ];
+  unmet = c.unmet_behind-unmet.ensures;
+}
+
+pub returns-then-unmet-eq0-clause-giver : goal.returns-then-unmet-eq0-clause-giver
+returns-then-unmet-eq0-clause-giver g c =
+    none_first (gives c.args.self.now c.args.publishers.now) c.loop-key.key c.loop-key.invariant.looked.none
+    (λ other past. none_gives_left c.args.self.now c.args.publishers.now c.loop-key.key other
+    (omega (arith, c.loop-key.invariant.unmet)) past)
+
+pub returns-then-unmet-eq0-clause-unread : goal.returns-then-unmet-eq0-clause-unread
+returns-then-unmet-eq0-clause-unread g c = λ none.
+    one_of_all (has_data c.args.self.now c.args.publishers.now) c.loop-key.key c.loop-key.unread c.loop-key.invariant.looked.below
+    (λ other past. no_data_left c.args.self.now c.args.publishers.now c.loop-key.key other
+    (omega (arith, c.loop-key.invariant.unmet)) past)

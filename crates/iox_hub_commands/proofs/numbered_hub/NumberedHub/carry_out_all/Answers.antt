@@ -4,7 +4,7 @@ use Rattle.std.proofs.lemmas.List.{length-append}
 use Rattle.iox_hub_commands.specs.CommandSteps.{Step}
 use Rattle.iox_hub_commands.specs.Terms.{terms_of}
 use Rattle.iox_hub_commands.proofs.PortRooms.{keeps_on}
-use Rattle.iox_hub_commands.proofs.Rooms.{at_seam, lacks_values}
+use Rattle.iox_hub_commands.proofs.Rooms.{at_seam}
 use Rattle.iox_hub_commands.proofs.RunLemmas.{runs_more}
 use Rattle.iox_hub_commands.proofs.numbered_hub.NumberedHub.carry_out_all.Goals as goal
 
@@ -79,8 +79,8 @@ returns-in_default-step-clause-stops g c = λ (loans, samples) grown stopped.
     inr (
       command,
       rw (← all, count) (at_seam at.yielded command (into_iter_items c.next.new.self)),
-      lacks_values command at.self c.step.new.self
-          (c.in_default-step.ensures.lacks (at.invariant.kept.0 loans, at.invariant.kept.1 grown samples)),
+      at.self,
+      c.in_default-step.ensures.lacks (at.invariant.kept.0 loans, at.invariant.kept.1 grown samples),
     )
 
 pub returns-in_default-step-clause-room : goal.returns-in_default-step-clause-room

@@ -4,6 +4,7 @@ use Rattle.iox_hub_commands.specs.PortRoom.{most_samples_from}
 use Rattle.iox_hub_commands.proofs.PortRooms.{keeps_on, roomier_grows_on, roomier_samples, loans_pledged, samples_pledged, pledges_still}
 use Rattle.iox_hub_commands.proofs.PortRooms.{pledges_brought, where_it_works}
 use Rattle.iox_hub_commands.proofs.Rooms.{roomier_and_roomier}
+use Rattle.iox_hub_commands.proofs.RoomsGrow.{both_grow, stays_within}
 use Rattle.iox_hub_commands.proofs.numbered_hub.NumberedHub.pledge_for_publisher.Goals as goal
 
 pub returns-in_err-pledge_loans-clause-keeps : goal.returns-in_err-pledge_loans-clause-keeps
@@ -44,3 +45,17 @@ returns-clause-samples g c = λ room.
     (ap (λ hub. samples_left_in hub.hub.services.domains) is)
     (c.most_samples_of.ensures ∙ ap (λ hub. min (most_samples_from c.args.domain hub) (2 ^ 64 - 1)) is)
     (c.pledge_samples.ensures.room kept) c.pledge_samples.ensures.small
+
+pub returns-in_err-pledge_loans-clause-grows : goal.returns-in_err-pledge_loans-clause-grows
+returns-in_err-pledge_loans-clause-grows g c =
+    let stays = stays_within _ _ _ c.args.self.now.made.samples c.pledge_loans.new.self.made.samples c.pledge_loans.ensures.others in
+    (c.pledge_loans.ensures.grows, stays)
+
+pub returns-clause-grows : goal.returns-clause-grows
+returns-clause-grows g c =
+    let (tables, is) = c.pledge_loans.ensures.same in
+    both_grow c.args.loans c.most_samples_of.result (most_samples_from c.args.domain c.args.self.now) c.args.self.now
+    c.pledge_loans.new.self c.pledge_samples.new.self c.pledge_loans.ensures.same c.pledge_loans.ensures.grows
+    c.pledge_loans.ensures.others
+    (c.most_samples_of.ensures ∙ ap (λ hub. min (most_samples_from c.args.domain hub) (2 ^ 64 - 1)) is)
+    c.pledge_samples.ensures.grows c.pledge_samples.ensures.others

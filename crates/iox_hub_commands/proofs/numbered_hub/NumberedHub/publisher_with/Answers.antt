@@ -3,6 +3,7 @@ use Rattle.iox_hub_commands.specs.Naming.{publisher_config}
 use Rattle.iox_hub_commands.proofs.Coming.{publisher_in_room}
 use Rattle.iox_hub_commands.proofs.PortRooms.{publisher_room}
 use Rattle.iox_hub_commands.proofs.Rooms.{when_ok}
+use Rattle.iox_hub_commands.proofs.RoomsGrow.{rooms_stay, rooms_grow_on}
 use Rattle.iox_hub_commands.proofs.numbered_hub.NumberedHub.publisher_with.Goals as goal
 
 pub returns-then-is_err-clause-room : goal.returns-then-is_err-clause-room
@@ -13,8 +14,8 @@ returns-then-is_err-clause-comes g c =
     let mid = c.pledge_for_publisher.new.self in (
       publisher_in_room g.U.Default.is_default (λ handlers. g.B.Degrades.degrades handlers) c.args.domain
           (publisher_config c.args.owner c.args.options.now) c.args.options.now.preallocated_samples c.args.handlers c.args.self.now mid
-          mid c.publisher_refused.result
-          c.pledge_for_publisher.ensures.same (c.publisher_refused.ensures mid.made c.args.handlers),
+          mid c.publisher_refused-then-is_err.result
+          c.pledge_for_publisher.ensures.same (c.publisher_refused-then-is_err.ensures mid.made c.args.handlers),
       ap (λ hub. hub.factories) c.pledge_for_publisher.ensures.same.1,
     )
 
@@ -26,7 +27,7 @@ returns-clause-room g c =
     (publisher_config c.args.owner c.args.options.now) c.args.options.now.preallocated_samples c.args.handlers c.args.self.now mid
     (record mid { hub = c.publisher.new.home; made = c.publisher.new.made }) c.publisher.result c.pledge_for_publisher.ensures.same
     (λ room. rw c.most_loans.ensures at (when_ok c.pledge_for_publisher.result (c.pledge_for_publisher.ensures.loans room) well))
-    (λ room. when_ok c.pledge_for_publisher.result (c.pledge_for_publisher.ensures.samples room) well) refl c.publisher.ensures
+    (λ room. when_ok c.pledge_for_publisher.result (c.pledge_for_publisher.ensures.samples room) well) refl c.publisher.ensures.comes
 
 pub returns-clause-comes : goal.returns-clause-comes
 returns-clause-comes g c =
@@ -34,6 +35,21 @@ returns-clause-comes g c =
       publisher_in_room g.U.Default.is_default (λ handlers. g.B.Degrades.degrades handlers) c.args.domain
           (publisher_config c.args.owner c.args.options.now) c.args.options.now.preallocated_samples c.args.handlers c.args.self.now mid
           (record mid { hub = c.publisher.new.home; made = c.publisher.new.made }) c.publisher.result
-          c.pledge_for_publisher.ensures.same c.publisher.ensures,
+          c.pledge_for_publisher.ensures.same c.publisher.ensures.comes,
       ap (λ hub. hub.factories) c.pledge_for_publisher.ensures.same.1,
     )
+
+pub returns-then-refuses_publisher-clause-comes : goal.returns-then-refuses_publisher-clause-comes
+returns-then-refuses_publisher-clause-comes g c = (c.publisher_refused.ensures c.args.self.now.made c.args.handlers, refl)
+
+pub returns-then-refuses_publisher-clause-grows : goal.returns-then-refuses_publisher-clause-grows
+returns-then-refuses_publisher-clause-grows g c = rooms_stay _ _ c.args.self.now
+
+pub returns-then-is_err-clause-grows : goal.returns-then-is_err-clause-grows
+returns-then-is_err-clause-grows g c = rw c.most_loans.ensures at c.pledge_for_publisher.ensures.grows
+
+pub returns-clause-grows : goal.returns-clause-grows
+returns-clause-grows g c =
+    rooms_grow_on _ _ c.args.self.now c.pledge_for_publisher.new.self
+    (record c.pledge_for_publisher.new.self { hub = c.publisher.new.home; made = c.publisher.new.made })
+    c.publisher.ensures.others.0 c.publisher.ensures.others.1 (rw c.most_loans.ensures at c.pledge_for_publisher.ensures.grows)

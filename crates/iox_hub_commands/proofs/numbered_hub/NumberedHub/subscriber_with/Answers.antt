@@ -5,6 +5,7 @@ use Rattle.iox_hub_commands.specs.PortRoom.{most_samples_at}
 use Rattle.iox_hub_commands.proofs.Coming.{subscriber_in_room}
 use Rattle.iox_hub_commands.proofs.PortRooms.{subscriber_room, samples_pledged, pledges_brought}
 use Rattle.iox_hub_commands.proofs.Rooms.{when_ok}
+use Rattle.iox_hub_commands.proofs.RoomsGrow.{rooms_stay, rooms_grow_on, samples_grow}
 use Rattle.iox_hub_commands.proofs.numbered_hub.NumberedHub.subscriber_with.Goals as goal
 
 pub returns-then-is_err-clause-room : goal.returns-then-is_err-clause-room
@@ -16,8 +17,8 @@ pub returns-then-is_err-clause-comes : goal.returns-then-is_err-clause-comes
 returns-then-is_err-clause-comes g c =
     let mid = c.pledge_samples.new.self in (
       subscriber_in_room (λ handler. g.D.Degrades.degrades handler) c.args.domain (subscriber_config c.args.owner c.args.options.now)
-          c.args.handler c.args.self.now mid mid c.subscriber_refused.result
-          c.pledge_samples.ensures.same (c.subscriber_refused.ensures mid.made c.args.handler),
+          c.args.handler c.args.self.now mid mid c.subscriber_refused-then-is_err.result
+          c.pledge_samples.ensures.same (c.subscriber_refused-then-is_err.ensures mid.made c.args.handler),
       ap (λ hub. hub.factories) c.pledge_samples.ensures.same.1,
     )
 
@@ -34,7 +35,7 @@ returns-clause-room g c =
     (samples_left_in c.args.self.now.hub.services.domains) c.most_samples.result (most_samples_at c.args.domain c.args.self.now)
     mid.pledged.samples mid.made.samples refl c.most_samples.ensures (c.pledge_samples.ensures.room room)
     c.pledge_samples.ensures.small) well)
-    refl c.subscriber.ensures
+    refl c.subscriber.ensures.comes
 
 pub returns-clause-comes : goal.returns-clause-comes
 returns-clause-comes g c =
@@ -42,6 +43,25 @@ returns-clause-comes g c =
       subscriber_in_room (λ handler. g.D.Degrades.degrades handler) c.args.domain (subscriber_config c.args.owner c.args.options.now)
           c.args.handler c.args.self.now mid
           (record mid { hub = c.subscriber.new.home; made = c.subscriber.new.made }) c.subscriber.result c.pledge_samples.ensures.same
-          c.subscriber.ensures,
+          c.subscriber.ensures.comes,
       ap (λ hub. hub.factories) c.pledge_samples.ensures.same.1,
     )
+
+pub returns-then-refuses_subscriber-clause-comes : goal.returns-then-refuses_subscriber-clause-comes
+returns-then-refuses_subscriber-clause-comes g c = (c.subscriber_refused.ensures c.args.self.now.made c.args.handler, refl)
+
+pub returns-then-refuses_subscriber-clause-grows : goal.returns-then-refuses_subscriber-clause-grows
+returns-then-refuses_subscriber-clause-grows g c = rooms_stay _ _ c.args.self.now
+
+pub returns-then-is_err-clause-grows : goal.returns-then-is_err-clause-grows
+returns-then-is_err-clause-grows g c =
+    samples_grow c.most_samples.result (most_samples_at c.args.domain c.args.self.now) c.args.self.now c.pledge_samples.new.self
+    c.pledge_samples.ensures.others c.most_samples.ensures c.pledge_samples.ensures.grows
+
+pub returns-clause-grows : goal.returns-clause-grows
+returns-clause-grows g c =
+    rooms_grow_on _ _ c.args.self.now c.pledge_samples.new.self
+    (record c.pledge_samples.new.self { hub = c.subscriber.new.home; made = c.subscriber.new.made })
+    c.subscriber.ensures.others.0 c.subscriber.ensures.others.1
+    (samples_grow c.most_samples.result (most_samples_at c.args.domain c.args.self.now) c.args.self.now c.pledge_samples.new.self
+    c.pledge_samples.ensures.others c.most_samples.ensures c.pledge_samples.ensures.grows)

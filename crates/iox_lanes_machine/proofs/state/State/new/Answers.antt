@@ -1,9 +1,17 @@
-use Rattle.std.proofs.Common.{◌≡◌, [], refl, ◌∙◌}
-use Rattle.iox_lanes_machine.specs.Made.{start}
+use Rattle.std.proofs.Common.{◌≡◌, [], refl, ◌∙◌, ap}
+use Rattle.iox_lanes_machine.specs.LanesBase.Table.{TableWords}
+use Rattle.iox_lanes_machine.specs.Made.{start, table_sizes}
 use Rattle.iox_lanes_machine.specs.State.{world_of}
 use Rattle.iox_lanes_machine.specs.World.{World}
+use Rattle.iox_lanes_machine.proofs.Counted.{counted}
 use Rattle.iox_lanes_machine.proofs.StartParts.{made_is}
 use Rattle.iox_lanes_machine.proofs.state.State.new.Goals as goal
+
+pub parties-requires : goal.parties-requires
+parties-requires c =
+    let table : c.sizes.result ≡ table_sizes c.args.sizes.now
+    = c.sizes.ensures.value ∙ ap (λ (t : TableWords). t.sizes) c.in_ok-words.ensures ∙ c.requires in
+    record { table = table; counted = counted c.args.sizes.now c.sizes.result table c.sizes.ensures.small }
 
 pub returns : goal.returns
 returns c =

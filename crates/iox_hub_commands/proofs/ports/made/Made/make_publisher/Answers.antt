@@ -1,13 +1,14 @@
 use Rattle.std.proofs.Common.{refl, le_refl}
 use Rattle.iox_domain.specs.Homes as homes
 use Rattle.iox_delivery.specs.Domain.Steps.{why_no_publisher}
+use Rattle.iox_hub_commands.proofs.Beside.{publisher_tables}
 use Rattle.iox_hub_commands.proofs.Refused.{refused}
 use Rattle.iox_hub_commands.specs.Making.{with_publisher}
 use Rattle.iox_hub_commands.specs.declared.ports.made.Made.{Made}
 use Rattle.iox_hub_commands.proofs.ports.made.Made.make_publisher.Goals as goal
 
-pub returns-then-is_err : goal.returns-then-is_err
-returns-then-is_err g c =
+pub returns-then-is_err-clause-comes : goal.returns-then-is_err-clause-comes
+returns-then-is_err-clause-comes g c =
     let roomier : Made = record {
       publishers = c.room_for_one.new.numbers;
       subscribers = c.args.self.now.subscribers;
@@ -22,3 +23,9 @@ returns-then-is_err g c =
           (with_publisher c.args.domain c.args.parts.holds_slices) roomier c.args.home.now c.why_no_publisher.result
           c.args.self.now.publishers.next c.why_no_publisher.ensures,
     )
+
+pub returns-clause-others : goal.returns-clause-others
+returns-clause-others g c =
+    let (came, comes, numbers) = c.create_publisher.ensures in
+    publisher_tables c.args.domain c.args.parts.holds_slices c.room_for_one.new.numbers.next came c.create_publisher.result
+    (record c.args.self.now { publishers = c.room_for_one.new.numbers }) c.create_publisher.new.self numbers

@@ -1,13 +1,14 @@
 use Rattle.std.proofs.Common.{refl, le_refl}
 use Rattle.iox_domain.specs.Homes as homes
 use Rattle.iox_delivery.specs.Domain.Steps.{why_no_subscriber}
+use Rattle.iox_hub_commands.proofs.Beside.{subscriber_tables}
 use Rattle.iox_hub_commands.proofs.Refused.{refused}
 use Rattle.iox_hub_commands.specs.Making.{with_subscriber}
 use Rattle.iox_hub_commands.specs.declared.ports.made.Made.{Made}
 use Rattle.iox_hub_commands.proofs.ports.made.Made.make_subscriber.Goals as goal
 
-pub returns-then-is_err : goal.returns-then-is_err
-returns-then-is_err g c =
+pub returns-then-is_err-clause-comes : goal.returns-then-is_err-clause-comes
+returns-then-is_err-clause-comes g c =
     let roomier : Made = record {
       publishers = c.args.self.now.publishers;
       subscribers = c.room_for_one.new.numbers;
@@ -22,3 +23,9 @@ returns-then-is_err g c =
           (with_subscriber c.args.domain) roomier c.args.home.now c.why_no_subscriber.result c.args.self.now.subscribers.next
           c.why_no_subscriber.ensures,
     )
+
+pub returns-clause-others : goal.returns-clause-others
+returns-clause-others g c =
+    let (came, comes, numbers) = c.create_subscriber.ensures in
+    let (loans, samples, publishers) = subscriber_tables c.args.domain c.room_for_one.new.numbers.next came c.create_subscriber.result
+    (record c.args.self.now { subscribers = c.room_for_one.new.numbers }) c.create_subscriber.new.self numbers in (loans, samples)
