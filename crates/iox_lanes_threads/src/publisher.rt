@@ -1,14 +1,17 @@
 //! A publisher with its share of the words.
-ghost use Rattle.std.specs.Prelude.{◌≡◌, true, is_some, IfSome};
+ghost use Rattle.std.specs.Prelude.{◌≡◌, ◌<◌, ℕ, true, not, is_some, IfSome};
+ghost use Rattle.iox_lanes_machine.specs.LanesBase.Publishing.{publisher_is_idle};
 ghost use Rattle.iox_lanes_machine.specs.LanesParties.Parties.{head_of, kept_head, with_user_header};
+ghost use Rattle.iox_lanes_machine.specs.LanesParties.PublisherKeeping.{loan_of};
 ghost use Rattle.iox_lanes_threads_ports.specs.LanesThreadsRule.Acts.{single};
 ghost use Rattle.iox_lanes_threads_ports.specs.Known.{KeepsPayload, KnowsHead, KnowsPayload, KnowsSent};
-ghost use Rattle.iox_lanes_threads_ports.specs.Values.{Loans, Sends, Writes};
+ghost use Rattle.iox_lanes_threads_ports.specs.Ports.{PublisherStands};
+ghost use Rattle.iox_lanes_threads_ports.specs.Values.{Loans, Sends, Writes, Drops};
 ghost use Rattle.iox_lanes_threads.specs.Ports.{StaysPublisher};
 
 use crate::table::Share;
 use crate::threads::OnBoard;
-use iox_lanes_parties::publisher::LoanAnswer;
+use iox_lanes_parties::publisher::{LoanAnswer, LoanMark};
 use iox_lanes_parties::{PublisherLane, SendAnswer};
 use iox_lanes_threads_ports::ThreadedPublisher;
 use iox_lanes_threads_rule::WordSeat;
@@ -92,6 +95,8 @@ impl LanePublisher {
         ensures payload { result ≡ true → KnowsPayload self.new.own.port loan payload.now }
         ensures header { result ≡ true → kept_head loan self.new.own.lane
             ≡ with_user_header (kept_head loan self.old.own.lane) user_header.now }
+        ensures others { result ≡ true → (other : ℕ) → (loan ≡ other → ⊥) → other < self.old.own.port.service.sizes.slots
+            → KeepsPayload self.old.own.port self.new.own.port other }
     {
         self.port
             .write(self.words.words(), loan, payload, user_header)
@@ -111,6 +116,8 @@ impl LanePublisher {
         ensures payload { result ≡ true → KnowsPayload self.new.own.port loan (T.parts value.now) }
         ensures header { result ≡ true → kept_head loan self.new.own.lane
             ≡ with_user_header (kept_head loan self.old.own.lane) (U.parts user_header.now) }
+        ensures others { result ≡ true → (other : ℕ) → (loan ≡ other → ⊥) → other < self.old.own.port.service.sizes.slots
+            → KeepsPayload self.old.own.port self.new.own.port other }
     {
         self.port
             .write_values(self.words.words(), loan, value, user_header)
@@ -128,6 +135,37 @@ impl LanePublisher {
             self.old.own.lane.port.routes loan told) }
     {
         self.port.send(self.words.words(), loan)
+    }
+
+    /// Gives a loan up, so that its slot is free again. It touches no shared word. Returns false, and does nothing, if the slot is no loan of
+    /// this port or the port is inside a call.
+    pub fn drop_loan(&mut self, loan: u64) -> bool
+        ensures same { StaysPublisher self.old self.new }
+        ensures call { Drops self.old.own loan self.new.own result }
+    {
+        self.port.drop_loan(loan)
+    }
+
+    /// Does nothing. For the prover it recalls that the port knows what the next step of its lane needs, as `other_loans_stay` of
+    /// `iox_lanes_threads_ports` requires.
+    pub fn shows(&self)
+        ensures { PublisherStands self.now.own.port self.now.own.lane }
+    {
+        self.port.shows();
+    }
+
+    /// Whether it is inside a call. It is so after a loan or a send without an answer, which needs a write position of 2^64 - 1.
+    pub fn is_inside_call(&self) -> bool
+        ensures { result ≡ not (publisher_is_idle self.now.own.lane.port.call) }
+    {
+        !self.port.lane().port().call().is_idle()
+    }
+
+    /// Whether a slot is a loan of this port, and whether it is written.
+    pub fn loan_mark(&self, slot: u64) -> LoanMark
+        ensures { result ≡ loan_of slot self.now.own.lane.port.book }
+    {
+        self.port.lane().port().book().loan(slot)
     }
 
     /// The sequence number of the last message that it sent, or the number before the first one. None where messages have no sequence

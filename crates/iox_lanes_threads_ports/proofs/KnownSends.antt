@@ -68,7 +68,7 @@ head_number sizes k = by_test (nat_lt k 3) refl
     by_test true e = refl
     by_test false e = let past : 3 ≤ k = ltb-false k 3 e in omega (arith, past)
 
-head_in : (sizes : TableSizes) (k : ℕ) → k < 3 + sizes.user_header_words → IsSlotWord sizes (header_word k)
+pub head_in : (sizes : TableSizes) (k : ℕ) → k < 3 + sizes.user_header_words → IsSlotWord sizes (header_word k)
 head_in sizes k less = by_test (nat_lt k 3) refl
   where
     by_test : (b : Bool) → nat_lt k 3 ≡ b → IsSlotWord sizes (if b then Header k else UserHeader (k - 3))
@@ -86,7 +86,7 @@ same_head : (sizes : TableSizes) (slot k w : ℕ) → Slot slot (header_word k) 
 same_head sizes slot k w e
     = omega (arith, number_in_slot sizes slot (header_word k) (header_word w) e, head_number sizes k, head_number sizes w)
 
-no_payload : (sizes : TableSizes) (slot k w : ℕ) → w < 3 + sizes.user_header_words → payload_word slot k ≡ Slot slot (header_word w) → ⊥
+pub no_payload : (sizes : TableSizes) (slot k w : ℕ) → w < 3 + sizes.user_header_words → payload_word slot k ≡ Slot slot (header_word w) → ⊥
 no_payload sizes slot k w less e = absurd
     (omega (arith, number_in_slot sizes slot (Payload k) (header_word w) e, head_number sizes w, less))
 

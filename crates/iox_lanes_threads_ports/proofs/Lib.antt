@@ -24,3 +24,5 @@ pub mod Counts
 pub mod Listing
 pub mod OneValue
 pub mod Holding
+pub mod Dropped
+pub mod OtherLoans

@@ -278,6 +278,15 @@ subscriber_last p lane stands over =
     let same = stays_local p (subscriber_next lane.port.call) 0 (subscriber_party lane) local told in
     subst (λ (z : Port). SubscriberStands z (subscriber_after 0 lane)) same.0 (subscribers.goes_on p lane stands 0 told)
 
+-- the last step of a publisher's call leaves its port
+pub publisher_last : (p : Port) (lane : PublisherLaneState) → PublisherStands p lane → publisher_is_over lane.port.call ≡ true
+    → PublisherStands p (publisher_after 0 lane)
+publisher_last p lane stands over =
+    let local = publisher_over lane.port.call over in
+    let told : ToldBy p (publisher_next lane.port.call) 0 = subst (λ (a : SharedAccess). ToldBy p a 0) (sym local) refl in
+    let same = stays_local p (publisher_next lane.port.call) 0 (publisher_party lane) local told in
+    subst (λ (z : Port). PublisherStands z (publisher_after 0 lane)) same.0 (publishers.goes_on p lane stands 0 told)
+
 -- a publisher that begins what fits stands as before
 pub publisher_begun_stands : (p : Port) (lane : PublisherLaneState) (step : Move) → PublisherStands p lane
     → publisher_fits lane step ≡ true → PublisherStands p (publisher_begins step lane)

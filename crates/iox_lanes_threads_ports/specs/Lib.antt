@@ -15,3 +15,4 @@ pub use Rattle.iox_lanes_threads_rule.specs as LanesThreadsRule
 pub mod ReadLaw
 pub mod OneValue
 pub mod Holding
+pub mod OtherLoans

@@ -161,6 +161,13 @@ Writes old loan payload user_header new true =
     × PublisherEnds (write_steps old.port.service.sizes) old.port (write_begins old.lane loan payload user_header) new.port new.lane
     answer.Written
 
+-- A drop of a loan that fits is one step, which touches no shared word, and always has an answer; one that doesn't fit does nothing.
+abbrev pub Drops : PublisherPort → ℕ → PublisherPort → Bool → Type 0
+Drops old loan new false = (publisher_fits old.lane (Begin (call.DropLoan loan)) ≡ false) × StaysPut old new
+Drops old loan new true =
+    (publisher_fits old.lane (Begin (call.DropLoan loan)) ≡ true) × (new.table ≡ old.table) × (new.port ≡ old.port)
+    × PublisherEnds 1 old.port (publisher_begun 0 (call.DropLoan loan) old.lane) new.port new.lane answer.Dropped
+
 -- The subscriber after the last step of its call, which touches no shared word, if only that step is left; otherwise the subscriber as it
 -- is.
 abbrev pub settled : SubscriberLaneState → SubscriberLaneState

@@ -4,6 +4,7 @@ ghost use Rattle.iox_lanes_threads_ports.specs.Counts.{PublishersCount, Subscrib
 ghost use Rattle.iox_lanes_threads_ports.specs.GivenBack.{NoMoreComesBack};
 ghost use Rattle.iox_lanes_threads_ports.specs.Holding.{HeldReadsStay, HeldReadsAgree, HeldReadsAreKnown};
 ghost use Rattle.iox_lanes_threads_ports.specs.OneValue.{ReadsGiveOneValue};
+ghost use Rattle.iox_lanes_threads_ports.specs.OtherLoans.{SparedPayloadsStay, CallsKeepPayloads};
 ghost use Rattle.iox_lanes_threads_ports.specs.Ports.{PublishersGoOn, SubscribersGoOn};
 ghost use Rattle.iox_lanes_threads_ports.specs.ReadLaw.{ReadsStand, ListedWordsStay};
 
@@ -63,4 +64,11 @@ pub fn held_reads_agree()
     ensures stay { HeldReadsStay }
     ensures agree { HeldReadsAgree }
     ensures known { HeldReadsAreKnown }
+{}
+
+/// A loan keeps its payload while its publisher works on others: steps of a call store words of it only where the call writes into its
+/// slot. So a loan, a send, a drop, and a write into another slot leave what the port knows of its payload.
+pub fn other_loans_stay()
+    ensures steps { SparedPayloadsStay }
+    ensures calls { CallsKeepPayloads }
 {}

@@ -1,5 +1,5 @@
 //! A publisher whose calls make their steps on words that threads share.
-ghost use Rattle.std.specs.Prelude.{◌≡◌, true, false, length, is_some, IfOk, IfSome};
+ghost use Rattle.std.specs.Prelude.{◌≡◌, ◌<◌, ℕ, true, false, length, is_some, IfOk, IfSome};
 ghost use Rattle.iox_lanes_machine.specs.LanesBase.Numbers.{IsSmall};
 ghost use Rattle.std.specs.List.{All};
 ghost use Rattle.iox_lanes_machine.specs.LanesParties.Parties.{head_of, kept_head, with_user_header, publisher_fits};
@@ -9,7 +9,7 @@ ghost use Rattle.iox_lanes_threads_ports.specs.Ports.{PublisherStands};
 ghost use Rattle.iox_lanes_threads_ports.specs.Pace.{HasSteps};
 ghost use Rattle.iox_lanes_threads_ports.specs.Paces.{sweep_steps, loan_steps, write_steps, send_steps};
 ghost use Rattle.iox_lanes_threads_ports.specs.Values.{IsSeated, HasRoom, Asks, PublisherDoes, publisher_begins, SamePublisher, lent_of};
-ghost use Rattle.iox_lanes_threads_ports.specs.Values.{sent_of, Loans, Sends, Writes};
+ghost use Rattle.iox_lanes_threads_ports.specs.Values.{sent_of, Loans, Sends, Writes, Drops};
 
 use crate::publishing::run;
 use iox_lanes_base::words::TableSizes;
@@ -264,6 +264,8 @@ impl ThreadedPublisher {
         ensures call { Writes self.old loan payload.now user_header.now self.new result }
         ensures payload { result ≡ true → KnowsPayload self.new.port loan payload.now }
         ensures header { result ≡ true → kept_head loan self.new.lane ≡ with_user_header (kept_head loan self.old.lane) user_header.now }
+        ensures others { result ≡ true → (other : ℕ) → (loan ≡ other → ⊥) → other < self.old.port.service.sizes.slots
+            → KeepsPayload self.old.port self.new.port other }
     {
         if !fill(&mut self.asked, loan, payload, user_header) {
             return false;
@@ -294,6 +296,8 @@ impl ThreadedPublisher {
         ensures payload { result ≡ true → KnowsPayload self.new.port loan (T.parts value.now) }
         ensures header { result ≡ true → kept_head loan self.new.lane
             ≡ with_user_header (kept_head loan self.old.lane) (U.parts user_header.now) }
+        ensures others { result ≡ true → (other : ℕ) → (loan ≡ other → ⊥) → other < self.old.port.service.sizes.slots
+            → KeepsPayload self.old.port self.new.port other }
     {
         if !fill_values(&mut self.asked, loan, value, user_header) {
             return false;
@@ -333,6 +337,35 @@ impl ThreadedPublisher {
             most,
         );
         sent(answer)
+    }
+
+    /// Gives a loan up, so that its slot is free again. It touches no shared word. Returns false, and does nothing, if the slot is no loan of
+    /// this port or the port is inside a call.
+    pub fn drop_loan(&mut self, loan: u64) -> bool
+        ensures same { SamePublisher self.old self.new }
+        ensures call { Drops self.old loan self.new result }
+    {
+        let step = Move::Begin(Call::DropLoan { loan });
+        if !self.lane.fits(&step) {
+            return false;
+        }
+        begin(&mut self.lane, &step);
+        self.lane.go_on(0);
+        true
+    }
+
+    /// Does nothing. For the prover it recalls that the port knows what the next step of its lane needs.
+    pub fn shows(&self)
+        ensures { PublisherStands self.now.port self.now.lane }
+    {
+        let _ = &self.lane;
+    }
+
+    /// Its lane.
+    pub fn lane(&self) -> &PublisherLane
+        ensures { result.now ≡ self.now.lane }
+    {
+        &self.lane
     }
 
     /// The sequence number of the last message that it sent, or the number before the first one. None where messages have no sequence

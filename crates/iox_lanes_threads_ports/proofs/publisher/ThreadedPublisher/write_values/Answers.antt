@@ -1,10 +1,12 @@
-use Rattle.std.proofs.Common.{ℕ, refl, false, sym, ap, subst, ◌∙◌}
+use Rattle.std.proofs.Common.{ℕ, ◌≡◌, ◌<◌, refl, false, sym, ap, subst, ◌∙◌}
 use Rattle.iox_lanes_machine.specs.LanesBase.declared.words.sizes.TableSizes.{TableSizes}
 use Rattle.iox_lanes_threads_rule.specs.Acts.{port_of}
+use Rattle.iox_lanes_threads_ports.specs.Known.{KeepsPayload}
 use Rattle.iox_lanes_threads_ports.specs.Paces.{write_steps}
 use Rattle.iox_lanes_threads_ports.specs.Ports.{PublisherStands}
 use Rattle.iox_lanes_threads_ports.specs.Values.{PublisherPort, PublisherDoes, Writes}
 use Rattle.iox_lanes_threads_ports.proofs.KnownWrites.{write_known, write_called, write_refused, write_keeps}
+use Rattle.iox_lanes_threads_ports.proofs.OtherLoans.{write_keeps_others}
 use Rattle.iox_lanes_threads_ports.proofs.publisher.ThreadedPublisher.write_values.Goals as goal
 
 pub invariant_of-self : goal.invariant_of-self
@@ -54,3 +56,11 @@ returns-clause-header g c = λ e.
     = record { table = c.does-answer.new.seat.table_id; port = port_of c.does-answer.new.seat.me; lane = c.does-answer.new.lane } in
     write_keeps c.args.self.now now c.args.loan (g.T.Words.parts c.args.value.now) (g.U.Words.parts c.args.user_header.now) c.is_some.result
     (subst (λ (v : PublisherPort). PublisherStands v.port v.lane) c.self.view_is c.self.invariant.1) (returns-clause-call g c) e
+
+pub returns-clause-others : goal.returns-clause-others
+returns-clause-others g c = λ e.
+    subst (λ (v : PublisherPort). (other : ℕ) → (c.args.loan ≡ other → ⊥) → other < v.port.service.sizes.slots
+    → KeepsPayload v.port (port_of c.does-answer.new.seat.me) other) c.self.view_is
+    (write_keeps_others c.write_steps-most.result (port_of c.self.inside.seat.me) c.self.inside.lane (port_of c.does-answer.new.seat.me)
+    c.does-answer.new.lane c.args.loan (g.T.Words.parts c.args.value.now) (g.U.Words.parts c.args.user_header.now) c.fill_values.new.asked c.does-answer.result c.self.invariant.1
+    (c.fill_values.ensures.fills c.if-not-fill_values.false) c.does-answer.ensures.does (sym c.is_some.ensures ∙ e))

@@ -1,0 +1,23 @@
+use Rattle.std.proofs.Common.{ℕ, refl, true, sym, subst, ◌∙◌}
+use Rattle.iox_lanes_threads_rule.specs.Acts.{port_of}
+use Rattle.iox_lanes_threads_ports.specs.Values.{PublisherPort, Drops}
+use Rattle.iox_lanes_threads_ports.proofs.Dropped.{drop_done, drop_stands}
+use Rattle.iox_lanes_threads_ports.proofs.publisher.ThreadedPublisher.drop_loan.Goals as goal
+
+pub invariant_of-self : goal.invariant_of-self
+invariant_of-self c = (
+  c.self.invariant.0,
+  drop_stands (port_of c.self.inside.seat.me) c.self.inside.lane c.begin.new.lane c.go_on.new.self c.args.loan c.self.invariant.1
+      (sym c.fits.ensures ∙ c.if-not-fits.false) c.begin.ensures c.go_on.ensures.lane,
+  c.self.invariant.2,
+)
+
+pub returns-clause-call : goal.returns-clause-call
+returns-clause-call c =
+    let was : PublisherPort
+    = record { table = c.self.inside.seat.table_id; port = port_of c.self.inside.seat.me; lane = c.self.inside.lane } in
+    let now : PublisherPort
+    = record { table = c.self.inside.seat.table_id; port = port_of c.self.inside.seat.me; lane = c.go_on.new.self } in
+    subst (λ (v : PublisherPort). Drops v c.args.loan now true) c.self.view_is
+    (drop_done was now c.args.loan c.begin.new.lane (sym c.fits.ensures ∙ c.if-not-fits.false) refl refl c.begin.ensures
+    c.go_on.ensures.lane)

@@ -1,0 +1,39 @@
+-- Calls on other loans leave the payload of a loan.
+use Rattle.std.specs.Prelude.{ℕ, ◌≡◌, ◌<◌, Bool, Option}
+use Rattle.iox_lanes_machine.specs.LanesBase.declared.calls.publisher.PublisherCall.{PublisherCall}
+use Rattle.iox_lanes_machine.specs.LanesBase.declared.calls.publisher.PublisherCall.TheVariants as publishing
+use Rattle.iox_lanes_machine.specs.LanesParties.Parties.{PublisherLaneState}
+use Rattle.iox_lanes_machine.specs.LanesParties.declared.call.SendAnswer.{SendAnswer}
+use Rattle.iox_lanes_machine.specs.LanesParties.declared.publisher.slot_book.LoanAnswer.{LoanAnswer}
+use Rattle.iox_lanes_threads_rule.specs.declared.view.Port.{Port}
+use Rattle.iox_lanes_threads_ports.specs.Courses.{PublisherGoes}
+use Rattle.iox_lanes_threads_ports.specs.Known.{KeepsPayload}
+use Rattle.iox_lanes_threads_ports.specs.Ports.{PublisherStands}
+use Rattle.iox_lanes_threads_ports.specs.Values.{PublisherPort, Loans, Sends, Drops}
+
+-- a call writes no payload into this slot
+abbrev pub SparesPayload : ℕ → PublisherCall → Type 0
+SparesPayload slot publishing.Idle = Unit {0}
+SparesPayload slot (publishing.LoanReclaims place route pop) = Unit {0}
+SparesPayload slot publishing.Lending = Unit {0}
+SparesPayload slot (publishing.Writing other word value) = other ≡ slot → ⊥
+SparesPayload slot (publishing.Written other) = Unit {0}
+SparesPayload slot (publishing.Heading other word value) = Unit {0}
+SparesPayload slot (publishing.Remembering other) = Unit {0}
+SparesPayload slot (publishing.SendReclaims other place route pop) = Unit {0}
+SparesPayload slot (publishing.Pushing other place route push delivery) = Unit {0}
+SparesPayload slot (publishing.Sent other delivery) = Unit {0}
+SparesPayload slot (publishing.Dropping other) = Unit {0}
+
+-- Behind any steps of a call that writes no payload into a slot, the slot's payload is as it was.
+abbrev pub SparedPayloadsStay : Type 0
+SparedPayloadsStay = (slot : ℕ) (p : Port) (lane : PublisherLaneState) (q : Port) (now : PublisherLaneState)
+    → PublisherStands p lane → slot < p.service.sizes.slots → SparesPayload slot lane.port.call → PublisherGoes p lane q now
+    → KeepsPayload p q slot
+
+-- A loan, a send and a drop of a loan leave the payload of every slot as it was, be they answered or not.
+abbrev pub CallsKeepPayloads : Type 0
+CallsKeepPayloads = (slot : ℕ) (old new : PublisherPort) → PublisherStands old.port old.lane → slot < old.port.service.sizes.slots
+    → ((given : Option LoanAnswer) → Loans old new given → KeepsPayload old.port new.port slot)
+    × ((loan : ℕ) (told : Option SendAnswer) → Sends old loan new told → KeepsPayload old.port new.port slot)
+    × ((loan : ℕ) (done : Bool) → Drops old loan new done → KeepsPayload old.port new.port slot)
