@@ -23,7 +23,6 @@ CASES = (
     "a_line_of_each_verb_takes_what_the_table_says",
     "a_message_in_threads_asks_for_no_memory",
     "a_call_takes_no_more_at_a_larger_capacity",
-    "a_domain_is_taken_out_and_put_back_without_a_request_for_memory",
 )
 # For each case that counts the program that it takes from the environment, with the library that names all of its own.
 COUNTED = {case: ("COSTS_OF", "iox", "iox_script") for case in CASES[1:4]}

@@ -14,13 +14,11 @@
 //! in how many accesses, after `close` also what a close did; and `amiss` what answers were of no access, or lacking.
 //!
 //! A block whose second line begins with `lanes` has lines about lanes of those sizes in place of a script; one whose second line
-//! begins with `steps`, lines about a machine whose parties go a step at a time; and one whose second line is `hub`, lines of a script and
-//! others that take a domain out of the hub.
+//! begins with `steps`, lines about a machine whose parties go a step at a time.
 //!
 //! Standard output is typed by hand from the formats, and standard input is its lines without their replies.
 #![tactic(auto)]
 
-mod domains;
 mod faults;
 mod lanes;
 mod said;
@@ -28,7 +26,6 @@ mod steps;
 mod storages;
 mod words;
 
-use domains::answer_hub;
 use faults::left_by_faults;
 use iox_script::{HubConfig, Input, Output, serve};
 use lanes::answer_lanes;
@@ -64,8 +61,6 @@ fn answer_lines(rt: &HostRuntime, title: &str, lines: &str) -> io::Result<()> {
         answer_lanes(rt, rt.alloc(), lines)
     } else if lines.starts_with("steps ") {
         answer_steps(rt, rt.alloc(), lines)
-    } else if lines.starts_with("hub\n") {
-        answer_hub(rt, rt.alloc(), config(title), lines)
     } else {
         answer(rt, config(title), lines)
     }
