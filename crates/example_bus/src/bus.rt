@@ -125,7 +125,7 @@ fn write<T: Copy, H: Home<T, u64>>(
     Ok(loan.write_from_slice(home, values))
 }
 
-/// Sends a message; the answer is to how many subscribers.
+/// Sends a message, and returns how many subscribers got it.
 fn send<T: Copy, H: Home<T, u64>>(
     alloc: Global,
     home: &mut H,
@@ -141,7 +141,7 @@ fn send<T: Copy, H: Home<T, u64>>(
     }
 }
 
-/// Sends these values with a time stamp; the answer is to how many subscribers.
+/// Sends these values with a time stamp, and returns how many subscribers got them.
 pub fn publish<T: Copy>(
     alloc: Global,
     bus: &mut Bus<T>,

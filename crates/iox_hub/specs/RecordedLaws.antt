@@ -49,7 +49,7 @@ ReadsAsReceived {T} choices = (types : MessageTypeDetails) (buffer : ℕ) (befor
     ((first ++ reply.Received sample values ∷ []) ++ told ++ reply.Values read ∷ [])
     → vec_items read ≡ vec_items values
 
--- If the premises hold of the calls, they hold of them with one read more, if the calls are few enough.
+-- If the premises hold of the calls, and these are few enough, the premises also hold of the calls followed by one more read.
 abbrev pub ReadsAreFollowed : (T : Type 0) → {B D : Type 0} → (BackpressureStrategy → Option BackpressureAction → DegradationAction → B)
     → (B → DegradationCause → DegradationInfo → DegradationAction → Type 0) → (B → BackpressureInfo → BackpressureDecision → Type 0)
     → (DegradationAction → D) → (D → DegradationCause → DegradationInfo → DegradationAction → Type 0) → Type 0

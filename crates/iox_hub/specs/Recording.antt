@@ -91,7 +91,7 @@ abbrev pub AllFit : {T : Type 0} → List (List T) → Type 0
 AllFit received = AllByRecursion (λ values. length values < 2 ^ 63) received
 
 module _ {T : Type 0} where
-  -- The reply to a send that may not be made: skipped if no publisher may send, or no blocked send may be tried again.
+  -- The reply to a send that perhaps can't be made: skipped if no publisher may send, or no blocked send may be tried again.
   abbrev pub told_sent_if : {U : Type 0} → Option (Result (Sent T U) SendError) → Reply T
   told_sent_if None = reply.Skipped
   told_sent_if (Some answer) = told_sent answer

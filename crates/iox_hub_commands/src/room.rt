@@ -166,7 +166,8 @@ impl<T: Copy, U: Copy, B: Decides + Degrades, D: Degrades> NumberedHub<T, U, B, 
         }
     }
 
-    /// Reserves the numbers that a new publisher of a domain may need: those of so many loans, and of the samples of it that may be held.
+    /// Reserves the numbers that a new publisher of a domain may need: one for each of its loans, and one for each sample of its messages
+    /// that may be held at once.
     /// Fails as `pledge_loans` and `pledge_samples` do.
     /// Example: `hub.pledge_for_publisher(domain, 2)?;`
     pub fn pledge_for_publisher(&mut self, domain: DomainId, loans: u64) -> Result<(), AllocError>

@@ -15,7 +15,7 @@ module _ {T U B D : Type 0} (choices : Choices T) (is_default_header : U → Typ
     (degrades : B → DegradationCause → DegradationInfo → DegradationAction → Type 0)
     (decides : B → BackpressureInfo → BackpressureDecision → Type 0)
     (reader_degrades : D → DegradationCause → DegradationInfo → DegradationAction → Type 0) where
-  -- A blocked send is tried again, with so many nanoseconds elapsed.
+  -- Trying a blocked send again, after this many nanoseconds, is a step of the machine.
   abbrev pub RetryIsSimulated : Type 0
   RetryIsSimulated = (publisher nanoseconds : ℕ)
       → IsSimulatedIfGrown choices is_default_header degrades decides reader_degrades (command.Retry publisher nanoseconds)

@@ -83,7 +83,7 @@ module _ {T U B D : Type 0} where
     pub same : state.factories ≡ factories_as hub.factories.made
     pub each : (number : ℕ) (made : MadeFactory) → value_at hub.factories.made number ≡ Some made
         → FactoryStands names taken hub.hub.table state number made
-    -- A node of the hub is in a service with exactly the factories that it has of it.
+    -- In each service, the machine counts for a node of the hub exactly the factories that the node has of this service.
     pub seats : (pattern : MessagingPattern) (name : List ℕ) (node : ℕ) → IsAmong names name
         → seats_in node (state.phases pattern name) ≡ seats_for (factories_of_node pattern name node state.factories)
     -- The hub counts how many factories each service has.

@@ -33,7 +33,7 @@ module _ {T U B D : Type 0} where
 -- A node of a hub asks for a service, as options ask, with lists of actions of other nodes before the accesses: those that the command
 -- names, and what they publish has the form of a description. A new factory gets the next number. The parameters: the terms of the hub.
 module _ {T U B D : Type 0} (terms : Terms T U B D) where
-  -- The service is created with these attributes.
+  -- Creating a service with these attributes is a step of the machine.
   abbrev pub CreateIsStep : Type 0
   CreateIsStep = (node : ℕ) (name : List ℕ) (named : ServiceOptions) (attributes : List Attribute) (steps : List StepBefore)
       (old : NumberedHub T U B D) (hub : Hub T U B D) (answer : Result ℕ Refusal) (table : FactoryTable)

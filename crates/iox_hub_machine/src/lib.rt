@@ -40,7 +40,8 @@ use iox_describe_base::ZeroCopySend;
 use iox_domain_values::{Decides, DegradationHandler, Degrades, Handlers};
 use iox_hub_commands::{FixedDegradation, FixedHandlers, PublisherHandlers, SubscriberHandler};
 
-/// Writing a value at a place of a numbered loan, if the loan is written and has this place. Otherwise nothing happens, nor if the number
+/// This step of the hub is one of the machine:
+/// writing a value at a place of a numbered loan, if the loan is written and has this place. Otherwise nothing happens, nor if the number
 /// has no loan.
 pub fn setting_a_value_is_simulated<T: Default, U: Default, B: Decides + Degrades, D: Degrades>()
     ensures { (handed : Handed B D) → SetIsSimulated (chosen_by T.is_default (λ handlers. B.decides handlers)
@@ -49,7 +50,8 @@ pub fn setting_a_value_is_simulated<T: Default, U: Default, B: Decides + Degrade
         (λ handler. D.degrades handler) }
 {}
 
-/// Writing all values of a numbered loan at once, if it has as many. Otherwise nothing happens, nor if the number has no loan.
+/// This step of the hub is one of the machine:
+/// writing all values of a numbered loan at once, if it has as many. Otherwise nothing happens, nor if the number has no loan.
 pub fn filling_a_loan_is_simulated<T: Default, U: Default, B: Decides + Degrades, D: Degrades>()
     ensures { (handed : Handed B D) → FillIsSimulated (chosen_by T.is_default (λ handlers. B.decides handlers)
         (λ handlers. B.degrades handlers) (λ handler. D.degrades handler) handed) U.is_default (λ handlers. B.degrades handlers)
@@ -57,7 +59,8 @@ pub fn filling_a_loan_is_simulated<T: Default, U: Default, B: Decides + Degrades
         (λ handler. D.degrades handler) }
 {}
 
-/// Reading a numbered sample, by which nothing changes. Nothing is read if the number has no sample.
+/// This step of the hub is one of the machine:
+/// reading a numbered sample, by which nothing changes. Nothing is read if the number has no sample.
 pub fn reading_is_simulated<T: Default, U: Default, B: Decides + Degrades, D: Degrades>()
     ensures { (handed : Handed B D) → ReadIsSimulated (chosen_by T.is_default (λ handlers. B.decides handlers)
         (λ handlers. B.degrades handlers) (λ handler. D.degrades handler) handed) U.is_default (λ handlers. B.degrades handlers)
@@ -79,7 +82,8 @@ pub fn telling_a_sequence_number_is_simulated<
         (λ handler. D.degrades handler) }
 {}
 
-/// Dropping a numbered loan, whose number names nothing any longer. Nothing happens if the number has no loan. The domains of the hub have
+/// This step of the hub is one of the machine:
+/// dropping a numbered loan, whose number names nothing any longer. Nothing happens if the number has no loan. The domains of the hub have
 /// grown by calls of ports, as `NumberedHub::new` and `NumberedHub::step` say of each hub.
 pub fn dropping_a_loan_is_simulated<T: Default, U: Default, B: Decides + Degrades, D: Degrades>()
     ensures { (handed : Handed B D) → DropIsSimulated (chosen_by T.is_default (λ handlers. B.decides handlers)
@@ -88,7 +92,8 @@ pub fn dropping_a_loan_is_simulated<T: Default, U: Default, B: Decides + Degrade
         (λ handler. D.degrades handler) }
 {}
 
-/// Releasing a numbered sample, whose number names nothing any longer. Nothing happens if the number has no sample. The domains of the hub
+/// This step of the hub is one of the machine:
+/// releasing a numbered sample, whose number names nothing any longer. Nothing happens if the number has no sample. The domains of the hub
 /// have grown by calls of ports, as `NumberedHub::new` and `NumberedHub::step` say of each hub.
 pub fn releasing_a_sample_is_simulated<T: Default, U: Default, B: Decides + Degrades, D: Degrades>()
     ensures { (handed : Handed B D) → ReleaseIsSimulated (chosen_by T.is_default (λ handlers. B.decides handlers)
@@ -97,7 +102,8 @@ pub fn releasing_a_sample_is_simulated<T: Default, U: Default, B: Decides + Degr
         (λ handler. D.degrades handler) }
 {}
 
-/// Giving up a blocked send of a numbered publisher; the reply says how many mailboxes took its message. Nothing happens if no send is
+/// This step of the hub is one of the machine:
+/// giving up a blocked send of a numbered publisher; the reply says how many mailboxes took its message. Nothing happens if no send is
 /// blocked, or if the number has no publisher.
 pub fn giving_up_a_send_is_simulated<T: Default, U: Default, B: Decides + Degrades, D: Degrades>()
     ensures { (handed : Handed B D) → GiveUpIsSimulated (chosen_by T.is_default (λ handlers. B.decides handlers)
@@ -115,7 +121,8 @@ pub fn retrying_a_send_is_simulated<T: Default, U: Default, B: Decides + Degrade
         (λ handler. D.degrades handler) }
 {}
 
-/// Sending a numbered loan, whose number names nothing any longer, if the loan is written and no send of its publisher is blocked. Nothing
+/// This step of the hub is one of the machine:
+/// sending a numbered loan, whose number names nothing any longer, if the loan is written and no send of its publisher is blocked. Nothing
 /// happens otherwise, nor if the number has no loan. The publisher updates its connections first, if the list of subscribers changed. The
 /// domains of the hub have grown by calls of ports, as `NumberedHub::new` and `NumberedHub::step` say of each hub.
 pub fn sending_a_loan_is_simulated<T: Default, U: Default, B: Decides + Degrades, D: Degrades>()
@@ -125,7 +132,8 @@ pub fn sending_a_loan_is_simulated<T: Default, U: Default, B: Decides + Degrades
         (λ handler. D.degrades handler) }
 {}
 
-/// Loaning values of a numbered publisher, writing and sending them at once, or the refusal. Nothing happens if a send of it is blocked, or
+/// This step of the hub is one of the machine:
+/// loaning values of a numbered publisher, writing and sending them at once, or the refusal. Nothing happens if a send of it is blocked, or
 /// if the number has no publisher. The domains of the hub have grown by calls of ports, as `NumberedHub::new` and `NumberedHub::step` say
 /// of each hub.
 pub fn putting_is_simulated<T: Default, U: Default, B: Decides + Degrades, D: Degrades>()
@@ -135,7 +143,8 @@ pub fn putting_is_simulated<T: Default, U: Default, B: Decides + Degrades, D: De
         (λ handler. D.degrades handler) }
 {}
 
-/// Updating the connections of a numbered publisher: those to closed subscribers end, and each listed subscriber gets one, with as much of
+/// This step of the hub is one of the machine:
+/// updating the connections of a numbered publisher: those to closed subscribers end, and each listed subscriber gets one, with as much of
 /// the history as may wait, unless memory runs out for it. The command is skipped if a send of the publisher is blocked, and if the number
 /// has no publisher. The domains of the hub have grown by calls of ports, as `NumberedHub::new` and `NumberedHub::step` say of each hub.
 pub fn updating_a_publisher_is_simulated<
@@ -150,7 +159,8 @@ pub fn updating_a_publisher_is_simulated<
         (λ handler. D.degrades handler) }
 {}
 
-/// Updating the connections of a numbered subscriber: those to closed publishers end or expire, and it is connected to the listed ones, or
+/// This step of the hub is one of the machine:
+/// updating the connections of a numbered subscriber: those to closed publishers end or expire, and it is connected to the listed ones, or
 /// the connection fails. The command is skipped if the number has no subscriber. The domains of the hub have grown by calls of ports, as
 /// `NumberedHub::new` and `NumberedHub::step` say of each hub.
 pub fn updating_a_subscriber_is_simulated<
@@ -175,7 +185,8 @@ pub fn asking_for_samples_is_simulated<T: Default, U: Default, B: Decides + Degr
         (λ handler. D.degrades handler) }
 {}
 
-/// Receiving by a numbered subscriber, after an update of its connections: a received sample gets the next number, and the reply has its
+/// This step of the hub is one of the machine:
+/// receiving by a numbered subscriber, after an update of its connections: a received sample gets the next number, and the reply has its
 /// values; otherwise the reply says why there is none. The command is skipped if the number has no subscriber. The domains of the hub have
 /// grown by calls of ports, and its numbers rise, as `NumberedHub::new` and `NumberedHub::run` say of each hub; and the next number of a
 /// sample is below 2 ^ 64. From these it follows that a subscriber holds fewer than 2 ^ 64 - 1 samples, and that the next number names
@@ -200,7 +211,8 @@ pub fn new_hub_stands<T: Default, U, B: PublisherHandlers, D: SubscriberHandler>
         (λ handlers. B.decides handlers) (λ handler. D.degrades handler) }
 {}
 
-/// Making a node. Fewer than 2 ^ 64 - 1 nodes must have been made.
+/// This step of the hub is one of the machine:
+/// making a node. Fewer than 2 ^ 64 - 1 nodes must have been made.
 pub fn making_a_node_matches<
     T: ZeroCopySend + Default,
     U: ZeroCopySend + Default,
@@ -256,7 +268,8 @@ pub fn handlers_of_actions_are_answered(_handlers: &Handlers, _handler: &Degrada
     ensures subscriber { AnswersAsFixed ⟦<DegradationHandler as SubscriberHandler>⟧.fixed ⟦<DegradationHandler as Degrades>⟧.degrades }
 {}
 
-/// Creating a subscriber by a numbered factory of the hub: it gets the next number; or it is refused if the machine's is; or the command is
+/// This step of the hub is one of the machine:
+/// creating a subscriber by a numbered factory of the hub: it gets the next number; or it is refused if the machine's is; or the command is
 /// skipped if the hub has no factory with the number, or one of another pattern. Whatever its handler may answer, handed in or made of the
 /// named action, may be chosen for the subscriber with the number that it gets. The domains of the hub have grown by calls of ports, and
 /// each of its services has one agreement, as `NumberedHub::new` and `NumberedHub::step` say of each hub; and one port more of each service
@@ -274,7 +287,8 @@ pub fn coming_of_a_subscriber_is_followed<
         (chosen_by T.is_default (λ handlers. B.decides handlers) (λ handlers. B.degrades handlers) (λ handler. D.degrades handler) handed) }
 {}
 
-/// Creating a publisher by a numbered factory of the hub: it gets the next number; or it is refused if the machine's is; or the command is
+/// This step of the hub is one of the machine:
+/// creating a publisher by a numbered factory of the hub: it gets the next number; or it is refused if the machine's is; or the command is
 /// skipped if the hub has no factory with the number, or one of another pattern. It gets the slots that the command names, or those that it
 /// needs. Whatever its handlers may decide and answer, handed in or made of what the command names, may be chosen for the publisher with
 /// the number that it gets. The domains of the hub have grown by calls of ports, and each of its services has one agreement, as
@@ -293,7 +307,8 @@ pub fn coming_of_a_publisher_is_followed<
         (chosen_by T.is_default (λ handlers. B.decides handlers) (λ handlers. B.degrades handlers) (λ handler. D.degrades handler) handed) }
 {}
 
-/// Loaning so many values of a numbered publisher, none of which is written: the loan gets the next number, or is refused. Nothing happens
+/// This step of the hub is one of the machine:
+/// loaning so many values of a numbered publisher, none of which is written: the loan gets the next number, or is refused. Nothing happens
 /// if a send of the publisher is blocked, or if the number has no publisher. The domains of the hub have grown by calls of ports, and its
 /// numbers rise, as `NumberedHub::new` and `NumberedHub::run` say of each hub.
 pub fn lending_uninit_is_simulated<T: Default, U: Default, B: Decides + Degrades, D: Degrades>()
@@ -303,7 +318,8 @@ pub fn lending_uninit_is_simulated<T: Default, U: Default, B: Decides + Degrades
         (λ handler. D.degrades handler) }
 {}
 
-/// Loaning so many values of a numbered publisher, each written with a default value: the loan gets the next number, or is refused. Nothing
+/// This step of the hub is one of the machine:
+/// loaning so many values of a numbered publisher, each written with a default value: the loan gets the next number, or is refused. Nothing
 /// happens if a send of the publisher is blocked, or if the number has no publisher. The domains of the hub have grown by calls of ports,
 /// and its numbers rise, as `NumberedHub::new` and `NumberedHub::run` say of each hub.
 pub fn lending_is_simulated<T: Default, U: Default, B: Decides + Degrades, D: Degrades>()
@@ -313,7 +329,8 @@ pub fn lending_is_simulated<T: Default, U: Default, B: Decides + Degrades, D: De
         (λ handler. D.degrades handler) }
 {}
 
-/// Closing a numbered publisher, whose number names nothing any longer. Nothing happens if a send of it is blocked, or if the number has no
+/// This step of the hub is one of the machine:
+/// closing a numbered publisher, whose number names nothing any longer. Nothing happens if a send of it is blocked, or if the number has no
 /// publisher. The domains of the hub have grown by calls of ports, and its numbers rise, as `NumberedHub::new` and `NumberedHub::run` say
 /// of each hub; and the lists of ports of each domain changed fewer than 2^64 - 1 times.
 pub fn leaving_of_a_publisher_is_simulated<
@@ -328,7 +345,8 @@ pub fn leaving_of_a_publisher_is_simulated<
         (λ handler. D.degrades handler) }
 {}
 
-/// Closing a numbered subscriber, whose number names nothing any longer. Nothing happens if the number has no subscriber. The domains of
+/// This step of the hub is one of the machine:
+/// closing a numbered subscriber, whose number names nothing any longer. Nothing happens if the number has no subscriber. The domains of
 /// the hub have grown by calls of ports, and its numbers rise, as `NumberedHub::new` and `NumberedHub::run` say of each hub; and the lists
 /// of ports of each domain changed fewer than 2^64 - 1 times.
 pub fn leaving_of_a_subscriber_is_simulated<
@@ -343,7 +361,8 @@ pub fn leaving_of_a_subscriber_is_simulated<
         (λ handler. D.degrades handler) }
 {}
 
-/// Creating a service under a name that is asked for, as options ask and with these attributes: the node is refused, or gets a factory,
+/// This step of the hub is one of the machine:
+/// creating a service under a name that is asked for, as options ask and with these attributes: the node is refused, or gets a factory,
 /// exactly as the machine says, and the hub represents the machine's state then; a publish-subscribe service that is created has a new
 /// domain. No two services of the names that are asked for may share a hash; the numbers of factories must rise, as `NumberedHub::new` and
 /// `NumberedHub::run` say of each hub, and fewer than 2 ^ 64 - 2 of them may have been given; and there must be numbers left for as many
@@ -360,7 +379,8 @@ pub fn creating_matches<
         (chosen_by T.is_default (λ handlers. B.decides handlers) (λ handlers. B.degrades handlers) (λ handler. D.degrades handler) handed) }
 {}
 
-/// Opening a service by a name that is asked for, if it meets what is asked: the hub replies as the machine may, and represents the
+/// This step of the hub is one of the machine:
+/// opening a service by a name that is asked for, if it meets what is asked: the hub replies as the machine may, and represents the
 /// machine's state then. This holds if the service is refused, if memory runs out, and if it is opened, whether or not the hub had it open
 /// before. No two services of the names that are asked for may share a hash; the numbers of factories must rise, as `NumberedHub::new` and
 /// `NumberedHub::run` say of each hub, one must be left for the new one, and numbers for as many locks as there are actions of other nodes.
@@ -376,7 +396,8 @@ pub fn opening_matches<
         (chosen_by T.is_default (λ handlers. B.decides handlers) (λ handlers. B.degrades handlers) (λ handler. D.degrades handler) handed) }
 {}
 
-/// Opening a service, or creating it with the required pairs as attributes if it doesn't exist. The premises are those of an opening, and a
+/// This step of the hub is one of the machine:
+/// opening a service, or creating it with the required pairs as attributes if it doesn't exist. The premises are those of an opening, and a
 /// number must be left for its own lock.
 pub fn opening_or_creating_matches<
     T: ZeroCopySend + Default,
@@ -390,7 +411,8 @@ pub fn opening_or_creating_matches<
         (chosen_by T.is_default (λ handlers. B.decides handlers) (λ handlers. B.degrades handlers) (λ handler. D.degrades handler) handed) }
 {}
 
-/// Closing a factory, or refusing that since it is in use: the machine does so, too. With the last factory of a publish-subscribe service
+/// This step of the hub is one of the machine:
+/// closing a factory, or refusing that since it is in use: the machine does so, too. With the last factory of a publish-subscribe service
 /// its ports end. Each service of the hub must have one agreement, as `NumberedHub::new` and `NumberedHub::step` say of each hub; no two
 /// services of the hub may have the same number, and the factories of a service must be counted once, as these numbers rise in each hub
 /// after a run (`StandsAfter`); no two services of the names that are asked for may share a hash; and a run of a new machine must have

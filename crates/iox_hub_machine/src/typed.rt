@@ -72,7 +72,8 @@ pub fn typed_service_calls_are_steps<
         (λ handler. D.degrades handler))) }
 {}
 
-/// Creating a publisher by a publish-subscribe factory: `create` and `create_slice` of its builder, with what the options of the command
+/// This step of the hub is one of the machine:
+/// creating a publisher by a publish-subscribe factory: `create` and `create_slice` of its builder, with what the options of the command
 /// name. A publisher of single values is named as one with one value in a loan, which never gets a larger segment. The override of its
 /// number of slots answers what the options name.
 pub fn typed_publishers_come_by_steps<
@@ -87,7 +88,8 @@ pub fn typed_publishers_come_by_steps<
         (λ handler. D.degrades handler))) (O.overrides _overriding.now) }
 {}
 
-/// Closing a factory, or handing it back while it is in use: `close`.
+/// This step of the hub is one of the machine:
+/// closing a factory, or handing it back while it is in use: `close`.
 pub fn typed_closes_are_steps<
     T: ZeroCopySend + Default,
     U: ZeroCopySend + Default,
@@ -142,7 +144,8 @@ pub fn typed_subscriber_calls_are_steps<
         (λ handler. D.degrades handler))) }
 {}
 
-/// Writing the user header of a loan: `user_header_write`, and `user_header_mut` as the reference ends. The machine has no user headers, so
+/// This step of the hub is one of the machine:
+/// writing the user header of a loan: `user_header_write`, and `user_header_mut` as the reference ends. The machine has no user headers, so
 /// the hub represents the same state as before, and the calls of the program are the same run of the machine.
 pub fn typed_user_headers_keep_standing<
     T: ZeroCopySend + Default,
@@ -158,7 +161,8 @@ pub fn typed_user_headers_keep_standing<
         D.fixed (λ handler. D.degrades handler))) }
 {}
 
-/// Reading the header of a sample: `header`. The sequence number that it reports is the machine's answer for the sample. The publisher
+/// This step of the hub is one of the machine:
+/// reading the header of a sample: `header`. The sequence number that it reports is the machine's answer for the sample. The publisher
 /// whose id it reports is that of the machine's sample.
 pub fn typed_headers_are_read_by_steps<
     T: ZeroCopySend + Default,

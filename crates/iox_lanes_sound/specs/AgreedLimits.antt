@@ -17,8 +17,8 @@ AgreedLimitsStay = (agreed : ServiceSizes) (publishers subscribers payload_count
     → (place : ℕ) (lane : SubscriberLaneState) → slice_get m.subscribers place ≡ Some lane
     → lane.port.most_borrowed ≡ agreed.subscriber_max_borrowed_samples
 
--- Each receive that ended on such lanes took at its connections by exactly that limit: at each it only looked where as many samples were
--- borrowed as agreed, and took where fewer were. It holds as long as at most 2^63 steps were made.
+-- On the lanes that `into_lanes` makes, each receive that ended kept to the agreed borrow limit: at each connection it only looked where as
+-- many samples were borrowed as agreed, and took where fewer were. It holds as long as at most 2^63 steps were made.
 abbrev pub ReceivesLookAsAgreed : Type 0
 ReceivesLookAsAgreed = (agreed : ServiceSizes) (publishers subscribers payload_count header_count : ℕ) (begun : World)
     → AreSized agreed publishers subscribers payload_count header_count begun

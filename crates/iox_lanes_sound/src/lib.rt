@@ -166,7 +166,8 @@ pub fn calls_leave_no_strays<T, U, O: Overrides, B: Decides + Degrades>(
         (B.decides _handlers.now) }
 {}
 
-/// A domain whose ports calls left (`AreWithoutStrays`) is refused as `ConnectionsNotUpToDate` only if a listed port lags behind. Either a
+/// A domain whose ports are as calls leave them (`AreWithoutStrays`) is refused as `ConnectionsNotUpToDate` only if a listed port lags
+/// behind. Either a
 /// listed publisher doesn't exist, hasn't seen all changes of the list of subscribers, or shares no connection with a listed subscriber; or
 /// a listed subscriber doesn't exist, hasn't followed the current list of publishers, or has to follow it again.
 pub fn refused_where_ports_lag<T, U>(domain: &Domain<T, U>)

@@ -80,8 +80,8 @@ fn ends_so(
     ending == Err(error) && output.writer().bytes.as_slice() == replies
 }
 
-/// A script is said again, once for each read that may fail, also that which would find its end, and once for each write. How
-/// many of both ended it as such a fault does and left just the replies to the lines before them.
+/// Runs a script once for each read that may fail (the one that would find its end, too) and once for each write, and counts the
+/// runs that ended with the status of that fault and wrote exactly the replies to the lines before it.
 pub fn left_by_faults(
     alloc: Global,
     config: HubConfig,

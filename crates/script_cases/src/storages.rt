@@ -134,7 +134,7 @@ fn answered_by(
     outcome(alloc, verb, pattern, &mut storage)
 }
 
-/// What the call of a line comes to: its verb, `create`, `open` or `open_or_create`; its pattern, `ps`, `ev` or `rr`; and the
+/// The result of the call that a line names: its verb, `create`, `open` or `open_or_create`; its pattern, `ps`, `ev` or `rr`; and the
 /// storage's answer to each access.
 ///
 /// In place of a call `prefixes` says how many proper prefixes of the service's line could be opened, `spaces` how often a space
