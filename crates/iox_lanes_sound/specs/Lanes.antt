@@ -48,7 +48,8 @@ StandAsPorts {T} choices payload_words value domain lanes senders readers = (nam
 abbrev pub begun_numbers : LaneNaming → LaneNumbers
 begun_numbers names = record { names = names; lent = []; held = [] }
 
--- Calls that don't overlap, begun on the lanes of this domain, are a run of a machine whose one service is the one that the ports represent.
+-- Calls that don't overlap, begun on the lanes of this domain, are a run of a machine whose one service is the one that the ports
+-- represent.
 abbrev pub TurnsGoOnAsPorts : {T U X Y D : Type 0} {F : X → Type 0} {G : Y → Type 0} → Choices T → (T → List ℕ) → (List ℕ → T)
     → Domain T U (Handlers X Y F G) D → World → List ℕ → List ℕ → Type 0
 TurnsGoOnAsPorts {T} choices payload_words value domain lanes senders readers = (types : MessageTypeDetails) (most_buffered : ℕ)

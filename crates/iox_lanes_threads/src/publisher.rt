@@ -137,8 +137,8 @@ impl LanePublisher {
         self.port.send(self.words.words(), loan)
     }
 
-    /// Gives a loan up, so that its slot is free again. It touches no shared word. Returns false, and does nothing, if the slot is no loan of
-    /// this port or the port is inside a call.
+    /// Gives a loan up, so that its slot is free again. It touches no shared word. Returns false, and does nothing, if the slot is no loan
+    /// of this port or the port is inside a call.
     pub fn drop_loan(&mut self, loan: u64) -> bool
         ensures same { StaysPublisher self.old self.new }
         ensures call { Drops self.old.own loan self.new.own result }

@@ -339,8 +339,8 @@ impl ThreadedPublisher {
         sent(answer)
     }
 
-    /// Gives a loan up, so that its slot is free again. It touches no shared word. Returns false, and does nothing, if the slot is no loan of
-    /// this port or the port is inside a call.
+    /// Gives a loan up, so that its slot is free again. It touches no shared word. Returns false, and does nothing, if the slot is no loan
+    /// of this port or the port is inside a call.
     pub fn drop_loan(&mut self, loan: u64) -> bool
         ensures same { SamePublisher self.old self.new }
         ensures call { Drops self.old loan self.new result }
