@@ -36,7 +36,7 @@ def script_blocks():
     """The title and the answered lines of each block that has lines of a script."""
     for block in STORED.read_text(encoding="ascii").rstrip("\n").split("\n\n"):
         title, *lines = block.split("\n")
-        if not title.startswith("storage") and not lines[0].startswith(("lanes ", "steps ")):
+        if not title.startswith("storage") and not lines[0].startswith(("lanes ", "steps ")) and lines[0] != "hub":
             yield title, lines
 
 

@@ -8,7 +8,6 @@ import subprocess
 import sys
 import time
 
-from tool.build import how_many_at_once
 from tool.progress import UNPROVED
 
 from cases.kit import (
@@ -55,7 +54,7 @@ def an_unreadable_file_ends_before_a_build():
 
 
 @case
-def only_the_crates_of_the_program_are_proved_in_order():
+def the_crates_of_the_program_are_proved_side_by_side_and_only_once():
     with Copy() as copy:
         copy.expect_built(BUILD)
         copy.expect_built([])
@@ -88,22 +87,13 @@ def nothing_else_calls_for_a_build():
 
 
 @case
-def crates_that_need_no_other_are_proved_side_by_side():
-    with Copy() as copy:
-        listed = copy.top / "crates.txt"
-        listed.write_text(listed.read_text(encoding="utf-8").replace("iox: ", "iox: iox_queues_base "))
-        (copy.top / "crates" / "iox_queues_base" / "out").mkdir()
-        copy.expect_built([f"iox all check --jobs {how_many_at_once()}", "iox run"])
-
-
-@case
 def what_was_edited_during_a_build_is_not_taken_for_built():
     with Copy() as copy:
         main = copy.top / "crates" / "iox" / "src" / "main.rt"
         before = main.read_text(encoding="utf-8")
         (copy.top / "edit").touch()
         # The edit comes at the end of the first build, and the second one fails.
-        expect((copy.run("--proved").status, copy.calls()), (3, BUILD + BUILD[:3]))
+        expect((copy.run("--proved").status, copy.calls()), (3, BUILD + BUILD[:1]))
         (copy.top / "fail").unlink()
         main.write_text(before)
         copy.expect_built(BUILD)
@@ -116,7 +106,7 @@ def a_failed_build_names_its_first_error_and_its_log():
         ran = copy.run("--proved", given=b"node\n")
         expect((ran.status, ran.out), (3, b""))
         log = copy.top / "crates" / "iox" / "out" / "build.log"
-        expect_in(f"iox_line is not proved or not built: error: no proof ({log} has all of it)".encode(), ran.err)
+        expect_in(f"the program is not proved or not built: error: no proof ({log} has all of it)".encode(), ran.err)
         expect_in("error: no proof", log.read_text(encoding="utf-8"))
         (copy.top / "fail").unlink()
         copy.calls()
@@ -203,7 +193,7 @@ def what_the_gate_built_is_served_unless_it_failed_or_a_source_changed():
 
 
 @case
-def progress_is_one_line_with_crate_and_functions():
+def progress_is_one_line_with_the_crates_that_are_done():
     with Copy() as copy:
         words = [sys.executable, copy.top / "iox", "--proved", SCRIPT]
         status, _, screen = on_terminal(words, **copy.how)
@@ -212,7 +202,7 @@ def progress_is_one_line_with_crate_and_functions():
         expect_in(b" min on four idle cores", first)
         expect((status, line.count(b"\n")), (0, 1))
         for at, crate in enumerate(PROGRAM, 1):
-            expect_in(f"\r\033[Kiox: crate {at} of 6, {crate}: 17 of 64 functions".encode(), line)
+            expect_in(f"\r\033[Kiox: {at} of 6 crates done, last {crate}".encode(), line)
 
 
 @case
@@ -309,7 +299,7 @@ def without_a_toolchain_a_program_of_these_sources_is_taken():
         alone = {"PATH": "/usr/bin:/bin"}
         ran = copy.run(SCRIPT, env=alone)
         expect((ran.status, ran.out, copy.calls()), (0, REPLIES, []))
-        expect_in(b"there is no rt on the path: what answers was built from these sources", ran.err)
+        expect_in(b"there is no rt on the path: the program that answers was built from these sources", ran.err)
         copy.run("-q", SCRIPT, env=alone).expect(0, REPLIES)
         copy.edit("crates/iox_line/src/lib.rt")
         copy.run(SCRIPT, env=alone).expect_one_line(3, "no rt on the path", "--model")

@@ -1,7 +1,7 @@
 """Schedules of lanes that are cut: one party has no further entry, the other one goes on, and what is read then is whole."""
 import re
 
-from cases.kit import answered, case, expect, takes_long
+from cases.kit import answered, asks_what_others_build, case, expect
 
 # Two schedules of one publisher and one subscriber, at whose connection one message may wait: each line with how many entries it has,
 # by the word steps of docs/FORMATS.md. Slot K is sent with message K + 1. In the first a receive overtakes the put of a send; in the
@@ -97,7 +97,7 @@ def differs(lines, behind, is_at_its_end, kept, told):
 
 
 @case
-@takes_long
+@asks_what_others_build
 def each_read_is_whole_where_a_schedule_of_lanes_is_cut():
     asked = [it for schedule in SCHEDULES.items() for it in blocks(*schedule)]
     given = "\n\n".join("\n".join(lines) for lines, *_ in asked)

@@ -22,14 +22,14 @@ CLIENTS = 50
 
 
 @contextlib.contextmanager
-def listening(*words, ends_by=signal.SIGTERM):
+def listening(*words, ends_by=signal.SIGTERM, at="0", host="127.0.0.1"):
     """A launcher that listens on a free port. It ends by a signal, if it didn't end before, and `said` is what it said meanwhile."""
     how = {"stdin": subprocess.DEVNULL, "stdout": subprocess.PIPE, "stderr": subprocess.PIPE}
     heard = {"preexec_fn": lambda: signal.signal(signal.SIGINT, signal.default_int_handler)}
-    with subprocess.Popen([sys.executable, TOP / "iox", *words, "--listen", "0"], **how, **heard) as server:
+    with subprocess.Popen([sys.executable, TOP / "iox", *words, "--listen", at], **how, **heard) as server:
         try:
             said = server.stderr.readline()
-            while said and not said.startswith(b"iox: listening on 127.0.0.1:"):
+            while said and not said.startswith(f"iox: listening on {host}:".encode()):
                 said = server.stderr.readline()
             server.port, server.status = int(said.rpartition(b":")[2]), 128 + ends_by
             yield server
@@ -40,13 +40,13 @@ def listening(*words, ends_by=signal.SIGTERM):
             server.kill()
 
 
-def connect(port):
-    return socket.create_connection(("127.0.0.1", port), timeout=REPLY)
+def connect(port, host="127.0.0.1"):
+    return socket.create_connection((host, port), timeout=REPLY)
 
 
-def ask(port, given):
+def ask(port, given, host="127.0.0.1"):
     """What one client gets that sends all at once and then says that it has ended."""
-    with connect(port) as client:
+    with connect(port, host) as client:
         client.sendall(given)
         client.shutdown(socket.SHUT_WR)
         return b"".join(iter(lambda: client.recv(65536), b""))
@@ -192,7 +192,7 @@ def who_is_idle_is_dropped_and_others_stay():
             with contextlib.suppress(OSError):
                 # A line that never ends isn't one.
                 dribbles.sendall(b"x")
-            with contextlib.suppress(TimeoutError):
+            with contextlib.suppress(socket.timeout):
                 gone = idle.recv(100)
             expect(time.monotonic() < until, True)
         expect((gone, dribbles.recv(100)), (b"", b""))
@@ -212,13 +212,66 @@ def records_and_messages_of_clients_have_their_own_lines():
     expect(server.said, b"client 2, line 2, skip: p9 doesn't exist\n")
 
 
+def has_ipv6():
+    with contextlib.suppress(OSError), socket.create_server(("::1", 0), family=socket.AF_INET6):
+        return True
+    return False
+
+
+def own_address():
+    """An address of this machine that others may reach: the one by which it would reach them. Nothing is sent."""
+    with contextlib.suppress(OSError), socket.socket(socket.AF_INET, socket.SOCK_DGRAM) as it:
+        it.connect(("192.0.2.1", 9))
+        return it.getsockname()[0]
+    return None
+
+
+def is_refused(port, host):
+    with contextlib.suppress(ConnectionRefusedError):
+        connect(port, host).close()
+        return False
+    return True
+
+
+# Where is listened, as it is said then, the addresses at which the hub answers, and those at which nobody does; `own` is the machine's own.
+ADDRESSES = [
+    ("0", "127.0.0.1", ["127.0.0.1"], ["own", "::1"]),
+    ("localhost:0", "127.0.0.1", ["127.0.0.1"], ["own"]),
+    ("[::1]:0", "[::1]", ["::1"], ["127.0.0.1", "own"]),
+    ("0.0.0.0:0", "0.0.0.0", ["127.0.0.1", "own"], ["::1"]),
+    ("[::]:0", "[::]", ["::1"], []),
+    ("own:0", "own", ["own"], ["127.0.0.1"]),
+]
+
+
+@case
+def a_hub_is_open_to_whom_its_address_lets_in_and_says_so():
+    own, lacks = own_address(), []
+    for at, host, answering, silent in ADDRESSES:
+        if ("own" in at and not own) or ("::" in at and not has_ipv6()):
+            lacks.append(at)
+            continue
+        at, host = (it.replace("own", own or "") for it in (at, host))
+        with listening("--model", at=at, host=host) as server:
+            for it in answering if own else set(answering) - {"own"}:
+                expect((at, it, ask(server.port, b"node\n", it.replace("own", own or ""))[:4]), (at, it, b"ok n"))
+            for it in silent if own else set(silent) - {"own"}:
+                expect((at, it, is_refused(server.port, it.replace("own", own or "")) or not has_ipv6()), (at, it, True))
+        is_open = host not in ("127.0.0.1", "[::1]")
+        told = f"iox: whoever can reach {host.strip('[]')} can use this hub: there is no password\n".encode()
+        expect((at, server.said), (at, told * is_open))
+    if lacks:
+        raise NotHere(f"this machine has no address for {', '.join(lacks)}")
+
+
 @case
 def an_address_that_cannot_be_listened_on_is_told_before_a_build():
-    for wrong in ("x", "127.0.0.1:", "70000", "-1", "1:2:x"):
+    for wrong in ("x", "127.0.0.1:", "70000", "-1", "1:2:x", "[::1", "::1]:0"):
         Ran("--model", f"--listen={wrong}").expect_one_line(64, "--listen needs [HOST:]PORT")
     Ran("--model", "--listen").expect_one_line(64, "--listen")
     for word in (str(SCRIPT), "--svg", "--html", "--strict", "--time", "--path", "--expect=x"):
         Ran("--model", "--listen=0", word).expect_one_line(64, "--listen can't be given with")
+    Ran("--model", "--listen", "no-host.invalid:0").expect_one_line(66, "iox: no-host.invalid:0: ")
     with socket.create_server(("127.0.0.1", 0)) as taken:
         port = taken.getsockname()[1]
         Ran("--listen", f"127.0.0.1:{port}").expect_one_line(66, f"127.0.0.1:{port}: Address already in use")

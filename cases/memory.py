@@ -33,10 +33,18 @@ BODIES = [
     ("let full = self.len() > 9; if full { Err(AllocError) }", ["if full → Err(AllocError); let full = self.len() > 9"]),
     ("let mut no = false; no = add(it); if no { Err(AllocError) }", ["if no → Err(AllocError); let mut no = false; no = add(it)"]),
     ("if self.len() > MOST { return Err(AllocError); }", ["if self.len() > MOST → return Err(AllocError); MOST = 1 << HALF; HALF = 9"]),
+    ("const FEW: u8 = 4; if a > FEW { Err(AllocError) }", ["if a > FEW → Err(AllocError); const FEW: u8 = 4"]),
     # A value of it that is made first is made where it is used.
     ("let error = Failed::OutOfMemory; if a { return Err(error); }", ["let error = Failed::OutOfMemory", "if a → return Err(error)"]),
     # Another refusal beside it in the arm is turned into it.
     ("match it { Err(AllocError) | Full => Err(AllocError), _ => Ok(()) }", ["match it → Err(AllocError) | Full → Err(AllocError)"]),
+    # An allocator that is asked for more than there can be finds no memory, either.
+    ("Vec::<u64>::with_capacity(alloc, usize::MAX)?;", ["with_capacity(alloc, usize::MAX)"]),
+    ("if at > 9 { self.items.reserve(1)?; }", ["if at > 9 → reserve(1)"]),
+    ("let more = if a { 9 } else { 1 }; self.items.reserve(more)?;", ["reserve(more); let more = if a { 9 } else { 1 }"]),
+    ("self.items.reserve(beside(at))?;", ["reserve(beside(at))"]),
+    ("let set = Set::new(alloc, self.len() << 40)?;", ["new(alloc, self.len() << 40)"]),
+    ("let one = vec![in alloc; 0; self.len() + 1]?; self.items.reserve(more)?; Set::new(alloc, one)?;", []),
     # What a callee answered is handed on; a pattern, a type and a comparison make nothing.
     ("match it { Err(AllocError) => Stepped::NoMemory, Err(Full) => Stepped::Skipped }", []),
     ("if let Err(AllocError) = it { return Err(LoanError::OutOfMemory); }", []),
@@ -47,9 +55,11 @@ BODIES = [
 CONSTANTS = {"MOST": ["MOST = 1 << HALF"], "HALF": ["HALF = 9"]}
 # A file, and what the list says of it.
 FILE = '''//! Rows.
-use std::alloc::{AllocError, Global};
+use std::alloc::{AllocError, AllocError as Want, Global};
 
 const MOST: usize = 1 << 9;
+
+const REFUSED: AllocError = AllocError;
 
 impl From<AllocError> for Failed {
     fn from(_error: AllocError) -> Failed {
@@ -79,6 +89,20 @@ impl Rows {
         count > MOST
     }
 
+    fn refuse(&self, count: usize) -> Result<(), AllocError> {
+        if count == 7 {
+            return Err(REFUSED);
+        }
+        Err(Want)
+    }
+
+    fn settle<E>(&self, errors: Lacking<E>) -> Result<(), E> {
+        if self.len() > 3 {
+            return Err(errors.opened);
+        }
+        Ok(())
+    }
+
     pub fn share(self, alloc: Global) -> Result<Shared, Rows> {
         if self.len() > 3 {
             return Err(self);
@@ -90,6 +114,9 @@ impl Rows {
 PLACES = [
     ("Failed::from", "Failed::OutOfMemory"),
     ("Rows::reach", "if self.lacks(count) → return Err(AllocError); lacks() is "),
+    ("Rows::refuse", "if count == 7 → return Err(REFUSED)"),
+    ("Rows::refuse", "Err(Want)"),
+    ("Rows::settle", "if self.len() > 3 → return Err(errors.opened)"),
     ("Rows::share", "if self.len() > 3 → return Err(self)"),
 ]
 
@@ -122,11 +149,11 @@ def a_place_a_condition_or_a_constant_that_differs_from_the_table_is_told():
     page = part("page")
     found = [("rows.rt", name, it.text) for name, it in part("sources").Crate({"rows.rt": FILE}).places("rows.rt")]
     whole = page.written(page.HEADER, found)
-    expect(len(page.differences(whole, found)), 3)
+    expect(len(page.differences(whole, found)), len(PLACES))
     whole = whole.replace("|  |\n", "| a reason |\n")
     expect(page.differences(whole, found), [])
-    expect_in("a new or changed place of out of memory: rows.rt: Rows::share", page.differences(whole, [*found, found[2]])[0])
-    expect_in("no place any longer: rows.rt: Rows::share", page.differences(whole, found[:2])[0])
+    expect_in("a new or changed place of out of memory: rows.rt: Rows::share", page.differences(whole, [*found, found[-1]])[0])
+    expect_in("no place any longer: rows.rt: Rows::share", page.differences(whole, found[:-1])[0])
     new = found[0][:2] + ("if a | b → " + found[0][2],)
     told = [it.partition(":")[0] for it in page.differences(whole, [new, *found[1:]])]
     expect(told, ["a new or changed place of out of memory", "no place any longer"])

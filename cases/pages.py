@@ -232,7 +232,8 @@ def mypy_finds_nothing_wrong_in_what_is_annotated():
     if not shutil.which("mypy"):
         raise NotHere("no mypy: Debian's package has it")
     # Each program is a module of its own; what they import is found below these folders.
-    roots = (["tool", "cases", "model"], ["vendor"], ["check"], ["iox"], ["docs/api.py"], ["docs/definitions.py"])
+    scripts = [it.relative_to(TOP).as_posix() for it in sorted((TOP / "docs").glob("*.py")) if it.name != "api.py"]
+    roots = (["tool", "cases", "model"], ["vendor"], ["check"], ["iox"], ["docs/api.py"], scripts)
     for asked in roots:
         words = ["mypy", "--cache-dir", os.devnull, *asked]
         ran = subprocess.run(words, cwd=TOP, env={**os.environ, "MYPYPATH": "model:docs"}, capture_output=True, text=True)
@@ -256,7 +257,8 @@ def users_pages_have_no_more_words_than_they_may():
 
 
 # Pages for users.
-LINKED = [*MOST_WORDS, *(f"docs/{it}.md" for it in "FAQ ERRORS FORMATS GLOSSARY PREMISES DIFFERENCES".split()), "examples/README.md"]
+LINKED_DOCS = "THREADS FAQ ERRORS FORMATS GLOSSARY PREMISES DIFFERENCES".split()
+LINKED = [*MOST_WORDS, *(f"docs/{it}.md" for it in LINKED_DOCS), "examples/README.md"]
 
 
 @case

@@ -1,15 +1,14 @@
 """The picture and the page that plays a conversation, and the prompt's help. By the Python model."""
 import json
 import re
-import shutil
-import subprocess
 import sys
 import tempfile
 import xml.etree.ElementTree as ElementTree
-from itertools import combinations
+from itertools import combinations, product
 from pathlib import Path
 
-from cases.kit import LONG, TOP, NotHere, Ran, case, expect, expect_in, talk
+from cases.browser import browser
+from cases.kit import TOP, Ran, case, expect, expect_in, talk
 
 # Many messages in few rows, of long values, to two subscribers; some are lost, some no mailbox took, some still wait.
 DENSE = """node
@@ -78,46 +77,53 @@ def the_page_has_reasons_and_what_was_missed():
     expect([row["missed"] for row in told["rows"] if row["missed"]], ["1 message of p1 is missing before this one"])
 
 
-# What a reader does, and what is to be seen then: `seen` is what the page's title becomes.
-PROBE = """<script>
-addEventListener("load", () => setTimeout(() => {
-  const seen = [location.hash];
+# What a reader does, and what is to be seen then.
+READS = """(async () => {
+  const seen = [location.hash], moment = () => new Promise(done => setTimeout(done, 50));
   for (const id of ["first", "on", "on", "last"]) { get(id).click(); seen.push(location.hash); }
   location.hash = "#5";
-  setTimeout(() => {
-    seen.push(get("count").textContent);
-    get("last").click();
-    seen.push([...document.querySelectorAll("#script li:not(.later) .why")].map(it => it.textContent).join(" / "));
-    seen.push(document.querySelector(".reply.bad wbr") !== null);
-    seen.push(document.documentElement.scrollWidth <= innerWidth);
-    const list = get("script").getBoundingClientRect(), state = get("state").getBoundingClientRect();
-    seen.push(innerWidth > 760 || (list.top >= 0 && state.bottom <= innerHeight + 1 && state.height > 100 && list.height > 100));
-    seen.push(getComputedStyle(document.body).backgroundColor);
-    document.title = seen.join("; ");
-  }, 100);
-}, 100));
-</script>"""
+  await moment();
+  seen.push(get("count").textContent);
+  get("last").click();
+  seen.push([...document.querySelectorAll("#script li:not(.later) .why")].map(it => it.textContent).join(" / "));
+  return seen;
+})()"""
+# What holds at each width: long names may break, nothing is wider than the screen, script and state are seen together, no label of the
+# picture covers another.
+HOLDS = """(() => {
+  const box = it => it.getBoundingClientRect(), list = box(get("script")), state = box(get("state"));
+  const labels = [...document.querySelectorAll("#picture .value")].map(box);
+  const covers = (a, b) => a.left < b.right - 1 && b.left < a.right - 1 && a.top < b.bottom - 4 && b.top < a.bottom - 4;
+  return {
+    breaks: document.querySelector(".reply.bad wbr") !== null,
+    fits: document.documentElement.scrollWidth <= innerWidth,
+    both: list.top >= 0 && state.top < innerHeight - 100 && state.height > 100 && list.height > 100
+      && (innerWidth > 760 ? state.left >= list.right : state.bottom <= innerHeight + 1),
+    apart: labels.length > 3 && !labels.some((a, i) => labels.some((b, k) => i < k && covers(a, b))),
+    ground: getComputedStyle(document.body).backgroundColor,
+    ink: getComputedStyle(document.querySelector("#picture .title")).fill,
+  };
+})()"""
+LIGHT, DARK = ("rgb(255, 255, 255)", "rgb(34, 34, 34)"), ("rgb(22, 24, 28)", "rgb(228, 230, 234)")
 
 
 @case
-def the_page_plays_in_a_browser():
-    browser = next(filter(None, map(shutil.which, ("chromium", "chromium-browser", "google-chrome"))), None)
-    if browser is None:
-        raise NotHere("no Chromium")
-    given = MISSED.read_bytes() + b"open n1 ps ALongNameOfAServiceThatIsNotThere\n"
-    page = Ran("--model", "-q", "--html", "-", given=given).out.decode()
-    with tempfile.TemporaryDirectory(prefix="iox-check-") as folder:
-        file = Path(folder) / "page.html"
-        file.write_text(page.replace("</body>", f"{PROBE}</body>"), encoding="utf-8")
-        for width, is_dark in ((500, True), (1440, False)):
-            words = ["--headless", "--no-sandbox", "--disable-gpu", f"--user-data-dir={folder}/user", f"--window-size={width},800"]
-            words += ["--virtual-time-budget=5000", f"--blink-settings=preferredColorScheme={0 if is_dark else 1}", "--dump-dom"]
-            seen = subprocess.run([browser, *words, f"{file.as_uri()}#3"], capture_output=True, text=True, timeout=LONG).stdout
-            title = re.search(r"<title>(.*?)</title>", seen)
-            why = "1 message of p1 is missing before this one / "
-            ground = "rgb(22, 24, 28)" if is_dark else "rgb(255, 255, 255)"
-            seen = title and re.sub(r"(?<= / ).*?(?=; true)", "..", title[1])
-            expect(seen, f"#3; #1; #2; #3; #14; line 5 of 14; {why}..; true; true; true; {ground}")
+def the_page_plays_in_a_browser_at_each_width_in_light_and_dark():
+    missed = MISSED.read_bytes() + b"open n1 ps ALongNameOfAServiceThatIsNotThere\n"
+    dense = DENSE.encode() + b"open n1 ps ALongNameOfAServiceThatIsNotThere\n"
+    why = "1 message of p1 is missing before this one / "
+    with tempfile.TemporaryDirectory(prefix="iox-check-") as folder, browser() as asked:
+        files = [Path(folder) / it for it in ("missed.html", "dense.html")]
+        for file, given in zip(files, (missed, dense)):
+            file.write_bytes(Ran("--model", "-q", "--html", "-", given=given).out)
+        for file, width, colours in product(files, (360, 768, 1440), (LIGHT, DARK)):
+            asked.open(f"{file.as_uri()}#3", width, colours is DARK)
+            *seen, reasons = asked.value(READS)
+            lines = len(missed.splitlines()) if file.stem == "missed" else len(dense.splitlines())
+            expect((file.stem, width, *seen), (file.stem, width, "#3", "#1", "#2", "#3", f"#{lines}", f"line 5 of {lines}"))
+            expect((file.stem == "missed", reasons.startswith(why)), (reasons.startswith(why), file.stem == "missed"))
+            held = {"breaks": True, "fits": True, "both": True, "apart": True, "ground": colours[0], "ink": colours[1]}
+            expect((file.stem, width, asked.value(HOLDS)), (file.stem, width, held))
 
 
 @case

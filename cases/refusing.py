@@ -31,7 +31,7 @@ MOST = 400
 MAKING = {
     "iox_values_rows": ["containers::sizes::", "queues::sizes::", "agreement::sizes::"],
     "iox_lanes_rows": ["messages::", "sizes::"],
-    "iox_hub_rows": ["services::"],
+    "iox_hub_rows": ["services::", "asked::", "making::"],
 }
 # More than the limits below, in requests of 45 kB, and then lines of services, which go deepest.
 FILLING = b"node\ncreate n1 ps A publishers=400 subscribers=1 buffer=1\n" + b"publisher f1 slice=1000\n" * 400 + b"""\

@@ -25,6 +25,9 @@ FAULTS = [
     ("put p1 1.5", 8, '"1.5" isn\'t a number: numbers are decimal, with no sign and no point'),
     ("put p1 18446744073709551616", 8, "18446744073709551616 is above 18446744073709551615, the largest number"),
     ("put f1 1", 5, 'expected a publisher such as p1, not "f1"'),
+    ("put p1 café", 8, '"café" isn\'t a number'),
+    ("nöde", 1, '"nöde" isn\'t a command; did you mean "node"?'),
+    ("put p1 " + "9" * 50, 8, f"{'9' * 40} .. is above 18446744073709551615, the largest number"),
     ("receive", 8, "a subscriber such as s1 is missing: receive sK"),
     ("receive s1 s2", 12, '"s2" is one word too many: receive sK'),
     ("create n1 PS A", 11, '"PS" isn\'t a pattern: ps, ev or rr; did you mean "ps"?'),
@@ -64,6 +67,9 @@ def windows_line_ends_and_a_byte_order_mark_are_told():
     expect(ran.out, b"err faulty line\n" * 3)
     expect_in("line 1, column 1: the file begins with a byte order mark (EF BB BF): save it as UTF-8 without BOM\n", ran.err.decode())
     expect_in("line 2, column 5: a carriage return ends the line: the file has Windows line ends (CRLF); `sed", ran.err.decode())
+    for mark in (b"\xff\xfe", b"\xfe\xff"):
+        ran_in_utf_16 = Ran("--model", given=mark + b"n\0o\0d\0e\0\n")
+        expect_in("line 1, column 1: the file is in UTF-16: save it as UTF-8 without BOM\n", ran_in_utf_16.err.decode())
     # The hint is given once.
     expect_in("line 3, column 7: a carriage return ends the line\n", ran.err.decode())
 
@@ -159,7 +165,7 @@ def verbose_says_what_an_error_means_and_what_to_do():
 
 @case
 def each_error_has_the_meaning_of_its_own_row():
-    from tool.meanings import meaning_of
+    from tool.notes import meaning_of
 
     for error, meaning in (
         ("PublishSubscribeCreateError::InternalFailure", "a setting is beyond the limits (the storage isn't used then)"),

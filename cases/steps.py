@@ -1,10 +1,10 @@
-"""Machines that go a step at a time: schedules as lines of `crates/script_cases`, held against the plain models of `model/step_machines.py`.
+"""Machines that go a step at a time: schedules as lines of `crates/script_cases`, beside the plain models of `model/step_machines.py`.
 
 What calls take is counted too: it doesn't grow with the capacity.
 """
 import sys
 
-from cases.kit import TOP, answered, case, expect
+from cases.kit import TOP, answered, asks_what_others_build, case, expect
 
 sys.path.insert(0, str(TOP / "model"))
 from step_machines import KINDS, answers, schedules
@@ -30,6 +30,7 @@ def the_models_answer_the_stored_schedules_of_steps():
 
 
 @case
+@asks_what_others_build
 def schedules_of_chance_are_answered_as_the_models_answer_them():
     blocks = schedules(SEED, LINES)
     given = "\n\n".join("\n".join(it.partition(" -> ")[0] for it in block) for block in blocks)

@@ -1,11 +1,10 @@
-"""What `./vendor --struct` writes for a user's own structs, and what it refuses; the whole examples of the API pages."""
+"""What `./vendor --struct` writes for a user's own structs, and what it refuses. `cases/programs.py` runs a program over two of them."""
 import re
-import subprocess
 import sys
 import tempfile
 from pathlib import Path
 
-from cases.kit import LONG, TOP, case, expect, expect_in, tries_unproved
+from cases.kit import TOP, case, expect, expect_in
 from cases.vendoring import vendor
 
 # A struct, what is refused of it, and in which line.
@@ -68,7 +67,7 @@ fn main(rt: HostRuntime) -> Result<()> {
 """
 WHOLE = """\
 //! The whole examples of the API pages, over two services, of single values and of slices.
-use anyhow::{Context, Result};
+use anyhow::{Context, Result, bail};
 use iox_hub::prelude::*;
 
 pub type Bus = Hub<u64, (), Nobody, Nobody>;
@@ -128,6 +127,14 @@ OUTPUT = (
 )
 
 
+def whole():
+    """The whole examples of the API pages, as a module of that program."""
+    sys.path.insert(0, str(TOP / "docs"))
+    from api.whole import whole_examples
+
+    return WHOLE.replace("EXAMPLES", "\n\n".join(whole_examples().values()))
+
+
 def written(folder, text):
     """Returns what the call answered, and the file that it wrote or None."""
     source = Path(folder) / "own.rt"
@@ -143,9 +150,10 @@ def a_struct_that_is_not_supported_is_refused_with_its_line():
             ran, made = written(folder, text)
             expect((text, ran.returncode, ran.stdout, made), (text, 64, "", None))
             expect_in(f"own.rt: {why}", ran.stderr)
-        misused = {64: (["--struct"], ["--struct", "x", "--list"]), 66: (["--struct", f"{folder}/missing.rt"], ["--struct", folder])}
+        misused = {64: (["--struct"], ["--struct", "x", "--list"]), 66: [["--struct", it] for it in (f"{folder}/missing.rt", folder, ".")]}
         for status, words in ((status, it) for status, calls in misused.items() for it in calls):
-            expect((words, vendor(*words).returncode), (words, status))
+            refused = vendor(*words)
+            expect((words, refused.returncode, refused.stderr.count("\n")), (words, status, 1))
 
 
 @case
@@ -170,23 +178,3 @@ def a_struct_has_the_size_and_the_alignment_of_repr_c():
             _, made = written(folder, f"#[derive(Clone, Copy)]\npub struct A {{ {fields} }}\n")
             told = re.search(r'known\(variant, b"A", (\d+), (\d+)\)', made)
             expect((fields, (int(told[1]), int(told[2]))), (fields, sizes))
-
-
-@case
-@tries_unproved
-def values_of_own_structs_and_the_whole_examples_run():
-    sys.path.insert(0, str(TOP / "docs"))
-    from api.whole import whole_examples
-
-    with tempfile.TemporaryDirectory(prefix="iox-check-") as folder:
-        expect(vendor(folder, "iox_hub").returncode, 0)
-        src = Path(folder) / "crates" / "own" / "src"
-        src.mkdir(parents=True)
-        (src / "main.rt").write_text(PROGRAM, encoding="utf-8")
-        (src / "imu.rt").write_text(STRUCTS, encoding="utf-8")
-        (src / "whole.rt").write_text(WHOLE.replace("EXAMPLES", "\n\n".join(whole_examples().values())), encoding="utf-8")
-        expect(vendor("--struct", src / "imu.rt").returncode, 0)
-        with open(Path(folder) / "crates.txt", "a", encoding="utf-8") as it:
-            it.write("own: iox_hub anyhow\n")
-        ran = subprocess.run(["rt", "try"], cwd=src.parent, capture_output=True, timeout=LONG)
-        expect((ran.returncode, ran.stdout.decode(), ran.stderr[-300:] * (ran.returncode > 0)), (0, OUTPUT, b""))

@@ -30,7 +30,7 @@ class Small:
         self.kept = tempfile.TemporaryDirectory(prefix="iox-check-")
         self.top, self.user = Path(self.kept.name) / "small", Path(self.kept.name) / "user"
         (self.top / "tool").mkdir(parents=True)
-        for it in ("vendor", "LICENSE", "NOTICE", "tool/__init__.py"):
+        for it in ("vendor", "LICENSE", "NOTICE", "tool/__init__.py", "tool/vendor.py"):
             shutil.copy2(TOP / it, self.top / it)
         self.write(self.top, {"crates.txt": LINES, "HANDLES": f"{HANDLES}\n"})
         for it in ("low", "high", "waiting"):
@@ -143,7 +143,7 @@ def vendor_brings_the_licence_and_the_notice_beside_the_users_own():
 def vendor_refuses_what_stands_in_its_way():
     with Small() as small:
         small.write(small.user, {"third_party/kohepuri/NOTICE": "my own\n"})
-        small.expect_refused(64, [small.user, "low"], "third_party/kohepuri is there already with another text")
+        small.expect_refused(64, [small.user, "low"], "third_party/kohepuri exists already, and its files differ from ours")
         shutil.rmtree(small.user / "third_party")
         small.write(small.user, {"third_party": "a file\n"})
         small.expect_refused(66, [small.user, "low"], "third_party: not a directory")
@@ -246,10 +246,10 @@ def vendor_refuses_to_update_what_was_edited_and_names_all_of_it():
         kept = files_below(small.user)
         listed = kept["crates.txt"].decode()
         for texts, names in (
-            ({"crates/low/src/lib.rt": "mine\n", "crates/waiting/src/lib.rt": "mine\n"}, "edited since: low, waiting;"),
-            ({"crates/high/src/mine.rt": "mine\n"}, "edited since: high;"),
-            ({"crates.txt": listed.replace("high: low", "high: low mine")}, "edited since: high;"),
-            ({"third_party/kohepuri/NOTICE": "mine\n"}, "edited since: LICENSE and NOTICE;"),
+            ({"crates/low/src/lib.rt": "mine\n", "crates/waiting/src/lib.rt": "mine\n"}, "from what ./vendor copied there: low, waiting;"),
+            ({"crates/high/src/mine.rt": "mine\n"}, "from what ./vendor copied there: high;"),
+            ({"crates.txt": listed.replace("high: low", "high: low mine")}, "from what ./vendor copied there: high;"),
+            ({"third_party/kohepuri/NOTICE": "mine\n"}, "from what ./vendor copied there: LICENSE and NOTICE;"),
         ):
             small.write(small.user, texts)
             small.expect_refused(64, ["--update", small.user], names, "--force")
@@ -257,7 +257,7 @@ def vendor_refuses_to_update_what_was_edited_and_names_all_of_it():
                 (small.user / it).unlink()
             small.write(small.user, {it: kept[it].decode() for it in texts if it in kept})
         (small.user / "crates" / "high" / "specs" / "Lib.antt").unlink()
-        small.expect_refused(64, ["--update", small.user], "edited since: high;")
+        small.expect_refused(64, ["--update", small.user], "from what ./vendor copied there: high;")
 
 
 @case
@@ -280,7 +280,7 @@ def vendor_forced_takes_no_crate_that_is_the_users_own():
         small.copy("high")
         small.write(small.user, {"crates/new/src/lib.rt": "mine\n"})
         small.write(small.top, {"crates/new/src/lib.rt": "// new\n", "crates.txt": LINES.replace("high: low", "new:\nhigh: low new")})
-        small.expect_refused(64, ["--update", "--force", small.user], "crates/new is there already with another text")
+        small.expect_refused(64, ["--update", "--force", small.user], "crates/new exists already, and its files differ from ours")
 
 
 @case
@@ -288,7 +288,8 @@ def vendor_mixes_no_crates_of_two_texts():
     with Small() as small:
         small.copy("low")
         small.write(small.top, {"crates/low/src/lib.rt": "//! low, anew\n"})
-        small.expect_refused(64, [small.user, "waiting"], "low is another one here", f"./vendor --update {small.user} first")
+        told = ("this repository's text of low differs from the one that ./vendor copied", f"./vendor --update {small.user} first")
+        small.expect_refused(64, [small.user, "waiting"], *told)
         small.update()
         expect(small.copy("waiting")[1], "waiting: added, its line added to crates.txt")
         expect(sorted(small.record()["copied"]), ["LICENSE and NOTICE", "low", "waiting"])

@@ -1,19 +1,113 @@
 """What the launcher writes into files, and that nothing of the user's is lost by it; what a run is held against. By the Python model."""
+import contextlib
 import json
 import os
+import resource
 import shutil
 import signal
 import subprocess
 import sys
 import tempfile
-from contextlib import contextmanager
+from contextlib import ExitStack, contextmanager
+from itertools import product
 from pathlib import Path
 
-from cases.kit import PATIENCE, REPLIES, SCRIPT, TOP, NotHere, Ran, case, case_of_program, expect, expect_in
+from cases.kit import PATIENCE, REPLIES, SCRIPT, TOP, NotHere, Ran, await_that, case, case_of_program, expect, expect_in
 
 # The options that write a file, with its suffix if none is named, and what such a file begins with.
 WRITING = (("svg", ".svg", b"<svg "), ("html", ".html", b"<!DOCTYPE html>"))
 MINE = b"a text of mine\n"
+# How pictures and pages of the launcher begin.
+PICTURE = b"""<svg xmlns="http://www.w3.org/2000/svg" width="728" height="460" viewBox="0 0 728 460" role="img">
+<metadata>Kohepuri ./iox --svg</metadata>
+<title>first.iox</title>
+"""
+PAGE = b"""<!DOCTYPE html>
+<html lang="en">
+<head>
+<meta charset="utf-8">
+<meta http-equiv="Content-Security-Policy" content="default-src 'none'; style-src 'unsafe-inline'; script-src 'unsafe-inline'">
+<meta name="generator" content="Kohepuri ./iox --html">
+"""
+OURS = {".svg": PICTURE, ".html": PAGE}
+# Files of the user's in which such a beginning, or its mark, is further on; and the page before its parts are put in.
+MARKED = {
+    "pasted": b"<!DOCTYPE html>\n<html lang=\"en\">\n<head>\n<title>Mine</title>\n</head>\n<body>\n" + PICTURE + b"</svg></body></html>\n",
+    "framed": b'<svg xmlns="http://www.w3.org/2000/svg">\n<g>\n' + PICTURE + b"</svg></g></svg>\n",
+    "quoting": b"Pages of ./iox have this line:\n" + PAGE + b"Pictures have this one:\n" + PICTURE,
+    "template": (TOP / "tool" / "page.html").read_bytes(),
+}
+# What such an option is asked in a folder of the user's: the words, the status, what is said in one line, and the file that is written.
+# `--it` is the option and `.end` its suffix. Streams are as in a shell: `<F`, `>F`, `2>F`, and `<-` is a pipe with the line `node`.
+OUTCOMES = [
+    # The script is kept, whoever names it as OUT.
+    ("--it own.iox", 64, "own.iox is a script, so nothing is written there: `./iox own.iox --it` writes own.end", ""),
+    ("--it own.iox own.iox", 64, "own.iox is a script, so", ""),
+    ("--it=own.iox own.iox", 64, "own.iox is a script, so", ""),
+    ("own.iox --it own.iox", 64, "own.iox is a script, so", ""),
+    ("--force --it=./own.iox own.iox", 64, "own.iox is a script, so", ""),
+    ("--it new.iox own.iox", 64, "new.iox is a script, so", ""),
+    ("--it NEW.IOX own.iox --force", 64, "NEW.IOX is a script, so", ""),
+    ("--it link own.iox", 64, "link is a script, so", ""),
+    ("--it other.txt --force own.iox", 64, "other.txt is the script itself", ""),
+    ("--it=other.txt --force <other.txt", 64, "other.txt is the script itself", ""),
+    ("--expect own.replies --it own.replies --force own.iox", 64, "own.replies has the expected replies", ""),
+    ("--force --it own.replies --expect own.replies own.iox", 64, "own.replies has the expected replies", ""),
+    # A file that the launcher didn't write is replaced by `--force` alone, and by this only if FILE is named.
+    ("--it mine.end own.iox", 64, "mine.end exists, and ./iox didn't write it: --force replaces it", ""),
+    ("mine.iox --it", 64, "mine.end exists, and ./iox didn't write it: --force replaces it", ""),
+    ("--it mine.end", 64, "`./iox mine.end --it` draws it if it is a script, `./iox - --it mine.end --force` replaces it", ""),
+    ("--it mine.end <-", 64, "mine.end exists, and ./iox didn't write it: `./iox mine.end --it` draws it", ""),
+    ("--force --it=mine.end <-", 64, "mine.end exists, and ./iox didn't write it: `./iox mine.end --it` draws it", ""),
+    ("--it mine.end --force own.iox", 0, "iox: wrote mine.end", "mine.end"),
+    ("mine.iox --it --force", 0, "iox: wrote mine.end", "mine.end"),
+    ("- --it mine.end --force <-", 0, "iox: wrote mine.end", "mine.end"),
+    ("--it to-mine --force own.iox", 0, "iox: wrote to-mine", "mine.end"),
+    ("--it ours.end own.iox", 0, "iox: wrote ours.end", "ours.end"),
+    ("-q --it ours.end own.iox", 0, "", "ours.end"),
+    ("--it pasted own.iox", 64, "pasted exists, and ./iox didn't write it: --force replaces it", ""),
+    ("--it framed own.iox", 64, "framed exists, and ./iox didn't write it: --force replaces it", ""),
+    ("--it quoting own.iox", 64, "quoting exists, and ./iox didn't write it: --force replaces it", ""),
+    ("--it template own.iox", 64, "template exists, and ./iox didn't write it: --force replaces it", ""),
+    ("--it empty own.iox", 0, "iox: wrote empty", "empty"),
+    ("--it new own.iox", 0, "iox: wrote new", "new"),
+    # The name of FILE is the default, where it has one.
+    ("own.iox --it", 0, "iox: wrote own.end", "own.end"),
+    ("--it= own.iox", 0, "iox: wrote own.end", "own.end"),
+    ("--it <-", 64, "--it needs OUT, since the script isn't read from a file with a name", ""),
+    ("- --it <own.iox", 64, "--it needs OUT", ""),
+    ("/dev/stdin --it <-", 64, "--it needs OUT", ""),
+    ("/dev/stdin --it <own.iox", 64, "--it needs OUT", ""),
+    # Standard output has the picture or page, or the replies.
+    ("--it - own.iox", 0, "", "-"),
+    ("own.iox --it -", 0, "", "-"),
+    ("--json --it - own.iox", 64, "--json and --it can't both be written to standard output", ""),
+    ("--svg - --html - own.iox", 64, "--svg and --html can't both be written to standard output", ""),
+    ("--svg it --html ./it own.iox", 64, "--svg and --html can't both be written to ./it", ""),
+    ("--it /dev/stdout own.iox", 64, "/dev/stdout is where the replies go: `--it -` writes to standard output", ""),
+    ("--it replies own.iox >replies", 64, "replies is where the replies go", ""),
+    ("--it messages own.iox 2>messages", 64, "messages is where the messages go", ""),
+    ("--it - own.iox >/dev/full", 1, "write fault", ""),
+    ("--it /dev/null own.iox", 0, "iox: wrote /dev/null", ""),
+    # What can't be written is said before anything runs.
+    ("--it folder own.iox", 66, "folder: Is a directory", ""),
+    ("--it folder/ own.iox", 66, "folder/: Is a directory", ""),
+    ("--it missing/out own.iox", 66, "missing/out: No such file or directory", ""),
+    ("--it new/ own.iox", 66, "new/: Is a directory", ""),
+    ("--it own.iox/out own.iox", 66, "own.iox/out: Not a directory", ""),
+    ("--it loop own.iox", 66, "loop: Too many levels of symbolic links", ""),
+]
+# The same for somebody who may write neither of these.
+CLOSED = [
+    ("--it closed/out own.iox", 66, "closed/out: Permission denied", ""),
+    ("--it locked.end own.iox", 66, "locked.end: Permission denied", ""),
+]
+# The same where the disk is full.
+FULL = [
+    ("--it new own.iox", 66, "iox: new: File too large", ""),
+    ("--it ours.end own.iox", 66, "iox: ours.end: File too large", ""),
+    ("own.iox --it", 66, "iox: own.end: File too large", ""),
+]
 
 
 @contextmanager
@@ -25,86 +119,178 @@ def own_script():
         yield script
 
 
+@contextmanager
+def own_folder(suffix):
+    """A folder with scripts, replies and texts of the user's, and with pictures or pages that the launcher wrote."""
+    with own_script() as script:
+        folder, ours = script.parent, OURS[suffix]
+        texts = {"mine.iox": SCRIPT.read_bytes(), f"mine{suffix}": MINE, "own.replies": REPLIES, "empty": b"", **MARKED}
+        for name, text in {**texts, f"ours{suffix}": ours, f"locked{suffix}": ours}.items():
+            (folder / name).write_bytes(text)
+        (folder / f"mine{suffix}").chmod(0o640)
+        (folder / f"locked{suffix}").chmod(0o444)
+        for name, target in (("link", "own.iox"), ("loop", "loop"), ("to-mine", f"mine{suffix}")):
+            (folder / name).symlink_to(target)
+        os.link(script, folder / "other.txt")
+        (folder / "folder").mkdir()
+        (folder / "closed").mkdir(mode=0o555)
+        folder.chmod(0o755)
+        yield folder
+
+
+def contents(folder):
+    """What a folder has, with the texts of its files, and where its links lead."""
+    return {it.name: os.readlink(it) if it.is_symlink() else it.read_bytes() if it.is_file() else None for it in folder.iterdir()}
+
+
+def expect_outcome(row, option, **how):
+    """Runs the words of a row, and expects its status, its message, and that nothing else in the folder changed."""
+    name, suffix, begins = option
+    words, *rest = [it.replace("--it", f"--{name}").replace(".end", suffix) if isinstance(it, str) else it for it in row]
+    status, said, written = rest
+    streams = {mark: [it[len(mark) :] for it in words.split(" ") if it.startswith(mark)] for mark in ("<", "2>", ">")}
+    with own_folder(suffix) as folder, ExitStack() as opened:
+        how = {"given": b"node\n", "cwd": folder, **how}
+        for mark, key, mode in (("<", "given", "rb"), (">", "stdout", "wb"), ("2>", "stderr", "wb")):
+            for it in streams[mark]:
+                if it != "-":
+                    how[key] = opened.enter_context(open(folder / it, mode))
+        before = contents(folder)
+        ran = Ran("--model", *(it for it in words.split(" ") if not it.startswith(("<", ">", "2>"))), **how)
+        after = contents(folder)
+        # (Messages that go to a file of this folder.)
+        for it in streams["2>"]:
+            ran.err, after[it] = after[it], before[it]
+    changed = sorted(it for it in {*before, *after} if before.get(it) != after.get(it))
+    expect((words, ran.status, ran.err.count(b"\n"), changed), (words, status, bool(said), [written] * (written not in ("", "-"))))
+    expect_in(said.encode(), ran.err)
+    made = after.get(written, ran.out if written == "-" else begins)
+    replies = (REPLIES if "own.iox" in words or "mine.iox" in words else b"ok n1\n") * (written != "-")
+    expect((words, made.startswith(begins)), (words, True))
+    if not status and ran.out is not None and written != "-":
+        expect((words, ran.out), (words, replies))
+
+
 def ran(*words, **how):
     return Ran("--model", *words, **how)
 
 
 @case
-def a_script_is_never_written_over():
+def each_output_is_written_or_refused_as_the_table_says():
+    for option in WRITING:
+        for row in OUTCOMES:
+            if "/dev/full" not in row[0] or os.path.exists("/dev/full"):
+                expect_outcome(row, option)
+
+
+def nobody():
+    """How a process is begun that may write less than root, who may write everything."""
+    if os.geteuid():
+        return {}
+    with contextlib.suppress(OSError):
+        if not subprocess.run([sys.executable, TOP / "iox", "--commands"], capture_output=True, user=65534).returncode:
+            return {"user": 65534}
+    raise NotHere("root alone can read this repository or its Python")
+
+
+@case
+def an_output_that_may_not_be_written_is_refused_before_anything_runs():
+    how = nobody()
+    for option in WRITING:
+        for row in CLOSED:
+            expect_outcome(row, option, **how)
+
+
+@case
+def a_full_disk_leaves_what_was_there_and_nothing_half_written():
+    for option in WRITING:
+        for row in FULL:
+            expect_outcome(row, option, preexec_fn=lambda: resource.setrlimit(resource.RLIMIT_FSIZE, (100, 100)))
+
+
+@case
+def a_comparison_that_cannot_write_what_it_found_leaves_nothing_half_written():
+    words, reply = ("--against", "sh -c 'while read line; do echo no; done'", "own.iox"), b"node  no\n"
+    limit = {"preexec_fn": lambda: resource.setrlimit(resource.RLIMIT_FSIZE, (4, 4))}
+    for how, told in ((limit, "iox: against-1.iox: File too large"), ({}, "iox: 3 of 3 runs of these 1 lines show it: against-1.iox")):
+        with own_folder(".svg") as folder:
+            before = contents(folder)
+            one = Ran(*words, cwd=folder, **how)
+            expect_in(told.encode(), one.err)
+            expect((one.status, one.out.startswith(reply)), (66 if how else 5, True))
+            made = sorted({*contents(folder)} - {*before})
+            expect((made, {it: contents(folder)[it] for it in before}), ([] if how else ["against-1.iox", "against-1.svg"], before))
+
+
+@case
+def what_one_run_wrote_the_next_replaces():
     for name, suffix, _ in WRITING:
         with own_script() as script:
-            link, other = script.with_name("link"), script.with_name("other.txt")
-            link.symlink_to(script)
-            os.link(script, other)
-            at = {"cwd": script.parent}
-            told = f"own.iox is a script, so nothing is written there: `./iox own.iox --{name}` writes own{suffix}"
-            ran(f"--{name}", "own.iox", **at).expect_one_line(64, told)
-            for words in ((f"--{name}", "own.iox"), (f"--{name}=own.iox",), ("--force", f"--{name}=./own.iox")):
-                ran(*words, "own.iox", **at).expect_one_line(64, "own.iox is a script")
-            ran(f"--{name}", "new.iox", "own.iox", **at).expect_one_line(64, "new.iox is a script")
-            ran(f"--{name}", "link", "own.iox", **at).expect_one_line(64, "link is a script")
-            ran(f"--{name}", "other.txt", "--force", "own.iox", **at).expect_one_line(64, "other.txt is the script itself")
-            with open(other, "rb") as given:
-                ran(f"--{name}=other.txt", "--force", given=given, **at).expect_one_line(64, "other.txt is the script itself")
-            expect((script.read_bytes(), sorted(os.listdir(script.parent))), (SCRIPT.read_bytes(), ["link", "other.txt", "own.iox"]))
+            for _ in range(2):
+                ran("-q", script, f"--{name}").expect(0, REPLIES)
 
 
 @case
-def a_file_that_is_no_picture_or_page_of_the_launchers_is_kept():
-    for name, suffix, begins in WRITING:
-        with own_script() as script:
-            mine = script.with_suffix(suffix)
-            mine.write_bytes(MINE)
-            mine.chmod(0o640)
-            for words in ((f"--{name}", mine, script), (script, f"--{name}")):
-                ran(*words).expect_one_line(64, f"{mine} exists, and ./iox didn't write it: --force replaces it")
-            expect(mine.read_bytes(), MINE)
-            ran(f"--{name}", mine, "--force", script).expect(0, REPLIES, f"iox: wrote {mine}\n".encode())
-            expect((mine.read_bytes().startswith(begins), mine.stat().st_mode & 0o777), (True, 0o640))
-            # What the launcher wrote, and an empty file, are replaced.
-            ran(script, f"--{name}").expect(0, REPLIES, f"iox: wrote {mine}\n".encode())
-            mine.write_bytes(b"")
-            ran("-q", script, f"--{name}").expect(0, REPLIES)
-            expect(mine.read_bytes().startswith(begins), True)
+def a_replaced_file_keeps_its_rights_and_a_new_one_has_the_users():
+    with own_folder(".svg") as folder:
+        ran("--svg", "mine.svg", "--force", "own.iox", cwd=folder, preexec_fn=lambda: os.umask(0o027))
+        ran("--svg", "new.svg", "own.iox", cwd=folder, preexec_fn=lambda: os.umask(0o027))
+        expect([(folder / it).stat().st_mode & 0o777 for it in ("mine.svg", "new.svg")], [0o640, 0o640])
+
+
+# What is to be written where a run is stopped: the words, and the line or the file by which it is seen that the run is in its midst.
+STOPPED: list = [(("--model", f"--{name}", f"ours{suffix}"), b"ok n1\n") for name, suffix, _ in WRITING]
+STOPPED.append((("--against", "sh -c 'exec cat >begun'", "own.iox"), None))
+SIGNALS = (signal.SIGINT, signal.SIGTERM, signal.SIGHUP)
 
 
 @case
-def a_script_that_is_named_as_the_output_is_kept():
-    """Whoever forgets FILE names his script as OUT: it is kept, also by `--force`, unless standard input is named as FILE."""
-    for name, _, begins in WRITING:
-        with own_script() as script:
-            other, at = script.with_name("other.txt"), {"cwd": script.parent}
-            script.rename(other)
-            told = f"other.txt exists, and ./iox didn't write it: `./iox other.txt --{name}` draws it if it is a script"
-            for words in ((f"--{name}", "other.txt"), ("--force", f"--{name}=other.txt"), (f"--{name}", "other.txt", "--force")):
-                ran(*words, given=b"node\n", **at).expect_one_line(64, told)
-            expect(other.read_bytes(), SCRIPT.read_bytes())
-            ran("-q", "-", f"--{name}", "other.txt", "--force", given=b"node\n", **at).expect(0, b"ok n1\n")
-            expect(other.read_bytes().startswith(begins), True)
+def a_stopped_run_leaves_what_was_there_and_nothing_half_written():
+    how = {"stdin": subprocess.PIPE, "stdout": subprocess.PIPE, "stderr": subprocess.PIPE}
+    heard = {"preexec_fn": lambda: [signal.signal(it, signal.SIG_DFL) for it in (signal.SIGINT, signal.SIGHUP)]}
+    for (words, reply), number in product(STOPPED, SIGNALS):
+        with own_folder(".html" if "--html" in words else ".svg") as folder:
+            before, begun = contents(folder), folder / "begun"
+            with subprocess.Popen([sys.executable, TOP / "iox", *words], cwd=folder, **heard, **how) as stopped:
+                if reply:
+                    stopped.stdin.write(b"node\n")
+                    stopped.stdin.flush()
+                    expect(stopped.stdout.readline(), reply)
+                else:
+                    await_that(lambda it=begun: it.exists() and it.stat().st_size, "the other program reads a line")
+                    begun.unlink()
+                stopped.send_signal(number)
+                expect((words, stopped.wait(PATIENCE), stopped.stderr.read()), (words, 128 + number, b""))
+            expect((words, contents(folder)), (words, before))
+
+
+# A process of its own, in which a call fails or a signal comes at each place of the writing of a file.
+STOPS = """
+import os, sys
+from pathlib import Path
+from unittest import mock
+sys.path.insert(0, sys.argv[1])
+from tool.outputs import put
+for call in ("os.replace", "os.chmod", "os.umask", "builtins.open"):
+    for stopped in (KeyboardInterrupt, SystemExit, OSError(28, "No space left on device")):
+        for name in ("ours.svg", "new"):
+            try:
+                with mock.patch(call, side_effect=stopped):
+                    put(Path(name), b"other")
+                print("no stop at", call)
+            except (KeyboardInterrupt, SystemExit, OSError) as told:
+                said = str(told) in ("", f"[Errno 28] No space left on device: '{name}'")
+                if not said or os.listdir() != ["ours.svg"] or Path("ours.svg").read_bytes() != b"mine":
+                    print(call, stopped, told.args, os.listdir())
+"""
 
 
 @case
-def expected_replies_are_not_written_over():
-    for name, _, _ in WRITING:
-        with own_script() as script:
-            wanted = script.with_name("own.replies")
-            wanted.write_bytes(REPLIES)
-            for words in (("--expect", wanted, f"--{name}", wanted, "--force"), ("--force", f"--{name}", wanted, "--expect", wanted)):
-                ran(*words, script).expect_one_line(64, f"{wanted} has the expected replies, so nothing is written there")
-            expect(wanted.read_bytes(), REPLIES)
-
-
-@case
-def a_picture_or_page_has_the_scripts_name_if_none_is_given():
-    for name, suffix, begins in WRITING:
-        with own_script() as script:
-            ran(script.name, f"--{name}", cwd=script.parent).expect(0, REPLIES, f"iox: wrote own{suffix}\n".encode())
-            expect(script.with_suffix(suffix).read_bytes().startswith(begins), True)
-            ran(f"--{name}", given=b"node\n").expect_one_line(64, f"--{name} needs OUT")
-            ran("/dev/stdin", f"--{name}", given=b"node\n").expect_one_line(64, f"--{name} needs OUT")
-            with open(script, "rb") as given:
-                ran("/dev/stdin", f"--{name}", given=given).expect_one_line(64, f"--{name} needs OUT")
-            expect(sorted(os.listdir(script.parent)), sorted(["own.iox", f"own{suffix}"]))
+def a_stop_while_a_file_is_written_leaves_what_was_there():
+    with tempfile.TemporaryDirectory(prefix="iox-check-") as folder:
+        (Path(folder) / "ours.svg").write_bytes(b"mine")
+        stopped = subprocess.run([sys.executable, "-c", STOPS, TOP], cwd=folder, capture_output=True, text=True)
+    expect((stopped.returncode, stopped.stdout, stopped.stderr), (0, "", ""))
 
 
 @case
@@ -116,62 +302,6 @@ def a_script_whose_name_is_no_text_is_drawn():
             ran("-q", odd, f"--{name}").expect(0, REPLIES)
             written = odd.with_suffix(suffix).read_bytes()
             expect((written.startswith(begins), written.count(b"\\xff&lt;b&gt;.iox") > 0), (True, True))
-
-
-@case
-def a_dash_writes_a_picture_or_page_alone_to_standard_output():
-    for name, suffix, begins in WRITING:
-        with own_script() as script:
-            one = ran(f"--{name}", "-", script.name, cwd=script.parent)
-            ran("-q", script.name, f"--{name}", cwd=script.parent).expect(0, REPLIES)
-            expect((one.status, one.out, one.err), (0, script.with_suffix(suffix).read_bytes(), b""))
-            expect(one.out.startswith(begins), True)
-            told = f"--json and --{name} can't both be written to standard output"
-            ran("--json", f"--{name}", "-", script).expect_one_line(64, told)
-            with open(script.with_name("replies"), "wb") as out:
-                other = ran(f"--{name}", "replies", script, cwd=script.parent, stdout=out)
-            expect((other.status, other.err.count(b"where the replies go")), (64, 1))
-            with open(script.with_name("messages"), "wb") as err:
-                other = ran(f"--{name}", "messages", script, cwd=script.parent, stderr=err)
-            expect((other.status, script.with_name("messages").read_bytes().count(b"where the messages go")), (64, 1))
-            if os.path.exists("/dev/full"):
-                with open("/dev/full", "wb") as full:
-                    faulty = ran(f"--{name}", "-", script, stdout=full)
-                expect((faulty.status, faulty.err), (1, b"write fault\n"))
-    ran("--svg", "-", "--html", "-", SCRIPT).expect_one_line(64, "--svg and --html can't both be written to standard output")
-    ran("--svg", "it", "--html", "./it", SCRIPT).expect_one_line(64, "--svg and --html can't both be written to ./it")
-    ran("--svg", "/dev/stdout", SCRIPT).expect_one_line(64, "/dev/stdout is where the replies go: `--svg -` writes")
-
-
-@case
-def an_output_that_cannot_be_written_is_told_before_anything_runs():
-    for name, _, _ in WRITING:
-        with own_script() as script:
-            ran(f"--{name}", script.parent, script).expect_one_line(66, f"{script.parent}: Is a directory")
-            missing = script.parent / "missing" / "out"
-            ran(f"--{name}", missing, script).expect_one_line(66, f"{missing}: No such file or directory")
-            ran(f"--{name}", script / "out", script).expect_one_line(66, f"{script / 'out'}: Not a directory")
-            loop = script.with_name("loop")
-            loop.symlink_to(loop)
-            ran(f"--{name}", loop, script).expect_one_line(66, f"{loop}: Too many levels of symbolic links")
-            loop.unlink()
-            ran(f"--{name}", os.devnull, script).expect(0, REPLIES, b"iox: wrote /dev/null\n")
-            expect((os.listdir(script.parent), Path(os.devnull).is_file()), (["own.iox"], False))
-
-
-@case
-def a_stopped_run_leaves_the_picture_that_was_there():
-    with own_script() as script:
-        ran("-q", script, "--svg")
-        before = script.with_suffix(".svg").read_bytes()
-        how = {"stdin": subprocess.PIPE, "stdout": subprocess.PIPE, "stderr": subprocess.PIPE}
-        with subprocess.Popen([sys.executable, TOP / "iox", "--model", "--svg", script.with_suffix(".svg")], **how) as stopped:
-            stopped.stdin.write(b"node\n")
-            stopped.stdin.flush()
-            expect(stopped.stdout.readline(), b"ok n1\n")
-            stopped.send_signal(signal.SIGTERM)
-            expect((stopped.wait(PATIENCE), stopped.stderr.read()), (143, b""))
-        expect((script.with_suffix(".svg").read_bytes(), sorted(os.listdir(script.parent))), (before, ["own.iox", "own.svg"]))
 
 
 @case
@@ -205,7 +335,9 @@ def replies_are_compared_with_those_that_are_expected():
         wanted.write_bytes(b"ok f1\n")
         one = ran("--expect", "own.replies", given=b"open n1 ps A\n", cwd=script.parent)
         expect_in("n1 doesn't exist", one.err.decode())
-        ran("--expect", "missing", script, cwd=script.parent).expect_one_line(66, "missing: No such file or directory")
+        refused = {"missing": (66, "No such file or directory"), ".": (66, "Is a directory"), "": (64, "the name of a file")}
+        for name, (status, told) in refused.items():
+            ran("--expect", name, "-q", script, cwd=script.parent).expect_one_line(status, told)
 
 
 @case
@@ -219,6 +351,24 @@ def far_differences_of_replies_are_shown_where_they_are():
         expect(one.status, 5)
         for it in (f' 7" is expected ({wanted}, line 6)', f' {values[-1]}"\n'):
             expect_in(it, one.err.decode())
+
+
+# Streams that are closed, and the status, the replies and the messages then.
+CLOSED_STREAMS = {
+    "<&-": (1, b"", b"read fault\n"),
+    f"{SCRIPT} >&-": (1, b"", b"write fault\n"),
+    f"-q {SCRIPT} --svg - >&-": (1, b"", b"write fault\n"),
+    "2>&-": (0, b"err faulty line\n", b""),
+    "-v 2>&-": (0, b"err faulty line\n", b""),
+}
+
+
+@case
+def no_file_is_taken_for_a_stream_that_is_closed():
+    for words, wanted in CLOSED_STREAMS.items():
+        asked = ["sh", "-c", f'exec "$0" "$1" --model {words}', sys.executable, TOP / "iox"]
+        closed = subprocess.run(asked, input=b"nod\n", capture_output=True)
+        expect((words, closed.returncode, closed.stdout, closed.stderr), (words, *wanted))
 
 
 @case_of_program
@@ -296,7 +446,7 @@ def numbers_are_strings_in_json_where_that_is_asked_for():
 def an_error_in_json_has_its_reason_and_advice():
     given = b"node\nopen n1 ps A\ncreate n1 ps A buffer=0\nsubscriber f1 buffer=9\nloan p1 1\n"
     records = [json.loads(it) for it in ran("--json", "-q", given=given).out.splitlines()]
-    from tool.meanings import meaning_of
+    from tool.notes import meaning_of
 
     too_large = "SubscriberCreateError::BufferSizeExceedsMaxSupportedBufferSizeOfService"
     for at, error in ((1, "PublishSubscribeOpenError::DoesNotExist"), (3, too_large)):
@@ -312,17 +462,19 @@ def an_error_in_json_has_its_reason_and_advice():
 def an_older_python_is_told_in_one_line():
     import ast
 
-    text = (TOP / "iox").read_text(encoding="ascii")
-    # What comes before the question has to be read by such a Python.
-    head = text.partition("from pathlib")[0]
-    ast.parse(head, feature_version=(3, 0))
-    asked = f"import sys; sys.version_info = (3, 8, 20, 'final', 0); sys.argv = ['iox']; exec({head!r})"
-    old = subprocess.run([sys.executable, "-c", asked], capture_output=True, text=True)
-    expect((old.returncode, old.stdout, old.stderr), (3, "", "iox: Python 3.9 or later is needed, and this is 3.8\n"))
-    for name in ("python3.8", "python3.7", "python3.6", "python2.7", "python2"):
-        if shutil.which(name) and not subprocess.run([name, "--version"], capture_output=True).returncode:
-            old = subprocess.run([name, TOP / "iox", "--model", SCRIPT], capture_output=True, text=True)
-            expect((old.returncode, old.stdout, old.stderr.count("\n")), (3, "", 1))
+    for script, words in (("iox", ["--model", SCRIPT]), ("vendor", ["--list"])):
+        text = (TOP / script).read_text(encoding="ascii")
+        # Such a Python reads the whole file before it runs a line, so nothing in it may be newer: no annotation, no value within a string.
+        newer = (ast.JoinedStr, ast.AnnAssign, ast.arg, ast.NamedExpr)
+        expect([it for it in ast.walk(ast.parse(text, feature_version=(3, 0))) if isinstance(it, newer)], [])
+        expect("from __future__" in text, False)
+        asked = f"import sys; sys.version_info = (3, 8, 20, 'final', 0); sys.argv = [{script!r}]; exec({text!r})"
+        old = subprocess.run([sys.executable, "-c", asked], capture_output=True, text=True)
+        expect((old.returncode, old.stdout, old.stderr), (3, "", f"{script}: Python 3.9 or later is needed, and this is 3.8\n"))
+        for name in ("python3.8", "python3.7", "python3.6", "python2.7", "python2"):
+            if shutil.which(name) and not subprocess.run([name, "--version"], capture_output=True).returncode:
+                old = subprocess.run([name, TOP / script, *words], capture_output=True, text=True)
+                expect((old.returncode, old.stdout, old.stderr.count("\n")), (3, "", 1))
     expect_in("Python 3.9", (TOP / "README.md").read_text(encoding="utf-8") + (TOP / "docs" / "TOOL.md").read_text(encoding="utf-8"))
 
 

@@ -10,6 +10,8 @@ The clauses are those of `requires` and `ensures`, and the ghost members of trai
 invariants and functions that aren't public don't count. A clause reaches what it names by its `ghost use` lines, and a
 definition what it names by its `use` lines. Both are read as text: a name counts as used wherever it occurs.
 
+The page also lists the types of the code that the counted definitions and these clauses name: a reader needs them, too.
+
 Counted is what a reader of the machine's promises must read: all that is reached by the clauses of the headline, of typed calls,
 and of lanes whose calls don't overlap. Of a typed call and of one of lanes each clause counts, `requires` too. Of `run` and
 `serve` those count that are in the machine's words (`HEADLINE`). Their further clauses speak of the code's own relation, numbers,
@@ -56,6 +58,8 @@ READING = [
 ]
 COUNTED = "## The counted definitions"
 HEADER = "| Definition | In plain words | File |\n|---|---|---|"
+TYPES = "## The types of the code beside them"
+TYPES_HEADER = "| Type | What it is | File |\n|---|---|---|"
 
 
 def without_comments(text, mark):
@@ -86,9 +90,13 @@ class Uses:
     """What the `use` lines of a file bring in: definitions by their names, and modules of definitions by theirs."""
 
     def __init__(self, text):
-        self.names, self.modules = {}, {}
-        for path, names, alias in USE.findall(text):
+        self.names, self.modules, self.types = {}, {}, {}
+        for path, names, alias in USE.findall(re.sub(r"\bas\s+", "as ", text)):
             path = without_way(path)
+            declared = re.fullmatch(r"Rattle\.((?:iox|example)\w*)\.specs\.declared\.(.+?)\.(\w+)(?:\.TheVariants)?", path)
+            if declared:
+                for it in [alias] if alias else names.split(","):
+                    self.types[it.strip().partition(" as ")[2] or it.strip()] = declared.groups()
             module = re.fullmatch(r"Rattle\.((?:iox|example)\w*)\.specs\.(\w+)", path)
             if not module or module[2] == "declared":
                 continue
@@ -97,6 +105,10 @@ class Uses:
             for it in names.split(","):
                 there, _, here = it.strip().partition(" as ")
                 self.names[here or there] = (*module.groups(), there)
+
+    def types_in(self, text):
+        """Returns the types of the code that a text names: crate, module and name of each."""
+        return {self.types[it] for it in names_of(text) if it in self.types}
 
     def reached(self, text, own=()):
         """Returns the definitions that a text names, where the file's own ones are these."""
@@ -305,6 +317,54 @@ def closure(known, asked):
     return found
 
 
+# ---- types of the code
+
+
+def types_named(read):
+    """Returns the types of the code that these definitions name, and those that the counted clauses name."""
+    found = set()
+    for file in CRATES.glob("*/specs/*.antt"):
+        text, crate = file.read_text(), file.parent.parent.name
+        text = MUTUAL.sub(lambda it: "\n".join(re.sub(r"^  pub (?=\S+ :)", "@mutual ", line) for line in it[1].split("\n")), text)
+        starts, uses = list(DEFINITION.finditer(text)), Uses(text)
+        for it, behind in zip(starts, [*(it.start() for it in starts[1:]), len(text)]):
+            if (crate, file.stem, it[1]) in read:
+                found |= uses.types_in(without_comments(text[it.start() : behind], "--"))
+    named = [it for at, names in HEADLINE.items() for it in of_headline(*at, names)]
+    named += [it for at in [*TYPED, *IN_TURN] for it in of_methods(*at)]
+    return found.union(*(uses.types_in(text) for uses, text in named))
+
+
+def source_of(crate, module):
+    """Returns the file of a module, below the folder of crates."""
+    path = CRATES / crate / "src" / module.replace(".", "/")
+    return path.with_suffix(".rt") if path.with_suffix(".rt").exists() else path / "mod.rt"
+
+
+def first_words(text, name):
+    """Returns the first paragraph of the comment above a type, without the marks."""
+    lines = text.splitlines()
+    at = next((number for number, line in enumerate(lines) if re.match(rf"pub (?:struct|enum) {name}\b", line)), 0)
+    while at and not lines[at - 1].startswith("///") and lines[at - 1].strip():
+        at -= 1
+    end = at
+    while at and lines[at - 1].startswith("///"):
+        at -= 1
+    words = [it.removeprefix("///").strip() for it in lines[at:end]]
+    return " ".join(words[: words.index("")] if "" in words else words)
+
+
+def type_rows(types):
+    """Returns the section of the page that has these types, and those that have no comment."""
+    lines, silent = [TYPES, "", TYPES_HEADER], []
+    for crate, module, name in sorted(types):
+        file = source_of(crate, module)
+        words = first_words(file.read_text(), name)
+        silent += [] if words else [f"without a sentence: {name} of {file.relative_to(CRATES)}"]
+        lines.append(f"| `{name}` | {words} | `{file.relative_to(CRATES)}` |")
+    return "\n".join(lines) + "\n", silent
+
+
 # ---- the page
 
 
@@ -313,23 +373,27 @@ def main(words):
         sys.exit(__doc__)
     known = definitions()
     read, counts = counted(known)
-    first = in_reading_order(known, read)
+    types = types_named(read)
+    rows, silent = type_rows(types)
+    first = in_reading_order(known, read) + "\n" + rows
+    counts.append(f"Beside them they name {len(types)} types of the code.")
     if words == ["--counted"]:
         print(first, end="")
         return 0
     wanted = reached(known)
     missing = [it for it in known if it in wanted and not known[it][0]]
+    faults = list(silent)
     for it in missing:
         print(f"without a sentence: {it[2]} of {it[0]}/specs/{it[1]}.antt")
     page = PAGE.read_text()
-    faults = [f"not on {PAGE.name}: {it}" for it in counts if it not in page]
+    faults += [f"not on {PAGE.name}: {it}" for it in counts if it not in page]
     if not page.endswith(f"\n{first}"):
         faults.append(f"{PAGE.name} doesn't end with what --counted prints")
     if len(read) > MOST:
         faults.append(f"{len(read)} definitions are counted, and may be {MOST} at most")
     for it in faults:
         print(it)
-    print(f"{len(wanted)} definitions reached, {len(missing)} of them without a sentence; {len(read)} counted")
+    print(f"{len(wanted)} definitions reached, {len(missing)} of them without a sentence; {len(read)} counted, and {len(types)} types")
     return 1 if missing or faults else 0
 
 

@@ -7,6 +7,7 @@ Usage: docs/memory.py          says which places the page lacks, and which of it
 A place is an `AllocError`, an `OutOfMemory` or the like, made under a condition of the code's own: `if`, an arm, `let .. else`, `ok_or`. It
 has its conditions from the outermost in, what the names in them are, and the constants with their values. `NAME() is SUM` stands for the
 body of a function that the condition calls. An arm that takes an out of memory, as `Err(AllocError) =>`, only hands it on, and is no place.
+A request for memory is a place, too, where it is made under a condition, or its amount is computed by more than sums.
 """
 
 import sys

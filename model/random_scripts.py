@@ -53,6 +53,9 @@ def is_storm(factory):
 class Scenes:
     """Short scenes: each yields lines and is sent the replies. What is alive is read off the model."""
 
+    # The patterns of services, and how often each is agreed on.
+    patterns = [(5, "ps"), (2, "ev"), (2, "rr")]
+
     def __init__(self, dice, machine):
         self.dice, self.machine = dice, machine
         self.storms, self.is_storming, self.is_full = 0, False, False
@@ -69,6 +72,9 @@ class Scenes:
 
     def node(self):
         return self.number("n")
+
+    def any_pattern(self):
+        return self.dice.of([it for _, it in self.patterns])
 
     def phase(self, pattern, name):
         return self.machine.names.phases.get((pattern, name.encode()))
@@ -127,7 +133,7 @@ class Scenes:
 
     def agree(self):
         verb = self.dice.of(["create", "open", "open_or_create", "open_or_create"])
-        pattern = self.dice.weighted([(5, "ps"), (2, "ev"), (2, "rr")])
+        pattern = self.dice.weighted(self.patterns)
         name = self.dice.of(NAMES + ["Z"] * (verb == "open"))
         options = self.asked(pattern, 12 if isinstance(self.phase(pattern, name), Life) else 35)
         lists = self.lists(pattern, self.phase(pattern, name)) if self.dice.chance(15) else []
@@ -135,7 +141,7 @@ class Scenes:
 
     def ask_too_much(self):
         """One setting that what is there doesn't meet."""
-        pattern = self.dice.of(list(PATTERNS))
+        pattern = self.any_pattern()
         name = self.dice.of(NAMES)
         life = self.phase(pattern, name)
         if not isinstance(life, Life):
@@ -154,7 +160,7 @@ class Scenes:
 
     def crowd(self):
         """Several nodes come into one service that has room for fewer."""
-        pattern = self.dice.of(list(PATTERNS))
+        pattern = self.any_pattern()
         made = [(yield f"open_or_create n1 {pattern} N nodes={1 + self.dice.below(2)}")]
         for node in range(2, 5):
             made.append((yield f"{self.dice.of(['open', 'open_or_create'])} n{node} {pattern} N"))
@@ -163,7 +169,7 @@ class Scenes:
                 yield f"close {reply[3:]}"
 
     def past_limits(self):
-        pattern, verb = self.dice.of(list(PATTERNS)), self.dice.of(["create", "open_or_create"])
+        pattern, verb = self.any_pattern(), self.dice.of(["create", "open_or_create"])
         name = self.dice.of(NAMES + [f"E{self.dice.below(9)}"])
         option = "nodes=16777216"
         if pattern == "ps":
@@ -190,7 +196,7 @@ class Scenes:
 
     def rounds(self):
         """Others come between the accesses of a call on a name of its own."""
-        pattern, name = self.dice.of(list(PATTERNS)), f"Q{self.dice.below(4)}"
+        pattern, name = self.any_pattern(), f"Q{self.dice.below(4)}"
         phase = self.phase(pattern, name)
         node = self.node()
         if phase is None and self.dice.chance(30):
@@ -471,10 +477,10 @@ def kind_of(line, reply):
     return f"{line.split(' ')[0]}: {words[0]}{rest[0]}"
 
 
-def random_script(seed, length):
+def random_script(seed, length, scenes_of=Scenes):
     """The lines and the replies to them."""
     dice, machine = Dice(seed), Machine()
-    scenes = Scenes(dice, machine)
+    scenes = scenes_of(dice, machine)
     lines, replies = [], []
     # Scenes under way, each with the line that it wants next.
     running = []

@@ -6,10 +6,9 @@ that isn't told. Of the first reply that isn't allowed the shortest script is lo
 from __future__ import annotations
 
 import contextlib
-import os
 import re
-import select
 import shlex
+import signal
 import subprocess
 import sys
 import time
@@ -26,10 +25,10 @@ from script_model import lines_of
 
 from tool.converse import Line
 from tool.draw import svg
-from tool.progress import MISUSED, NO_INPUT, Progress, say, stop
+from tool.outputs import put
+from tool.progress import DIFFERS, MISUSED, NO_INPUT, Progress, say, stop
 from tool.trace import Trace
 
-DIFFERS = 5  # the status where a reply isn't allowed
 # In seconds: how long a reply may take, and the end of the program behind its last line.
 PATIENCE, ENDING = 20.0, 10.0
 # In bytes: what is read of a reply before its end.
@@ -40,26 +39,32 @@ TIMES, MOST_PAIRED = 3, 30
 Source = Generator[str, Any, None]
 
 
+def is_late(*_):
+    raise TimeoutError
+
+
 class Side:
     """The other program."""
 
     def __init__(self, command: str):
         self.child: Any = None
         try:
-            self.words, self.rest = shlex.split(command), b""
+            self.words = shlex.split(command)
         except ValueError as error:
             stop(MISUSED, f"{command}: {error}")
+        signal.signal(signal.SIGALRM, is_late)
 
     def close(self):
         if self.child is not None:
-            self.child.stdin.close()
+            with contextlib.suppress(BrokenPipeError):
+                self.child.stdin.close()
             try:
                 self.child.wait(ENDING)
             except subprocess.TimeoutExpired:
                 self.child.kill()
                 self.child.wait()
             self.child.stdout.close()
-            self.child, self.rest = None, b""
+            self.child = None
 
     def begin(self):
         """Has nothing made any more; a program that doesn't know `:reset` is started anew."""
@@ -69,32 +74,32 @@ class Side:
         if reply != "ok":
             self.close()
             try:
-                self.child = subprocess.Popen(self.words, stdin=subprocess.PIPE, stdout=subprocess.PIPE, bufsize=0)
+                self.child = subprocess.Popen(self.words, stdin=subprocess.PIPE, stdout=subprocess.PIPE)
             except OSError as error:
                 stop(NO_INPUT, f"{self.words[0]}: {error.strerror}")
 
     def ask(self, line: str) -> str:
         """The reply to a line. One in parentheses says why there is none; then the program is ended."""
-        with contextlib.suppress(BrokenPipeError):
-            self.child.stdin.write(line.encode("latin-1") + b"\n")
-        until = time.monotonic() + PATIENCE
-        while b"\n" not in self.rest:
-            if not select.select([self.child.stdout], [], [], max(0.0, until - time.monotonic()))[0]:
-                self.child.kill()
-                self.close()
-                return f"(no reply in {PATIENCE:.0f} s)"
-            piece = os.read(self.child.stdout.fileno(), LONGEST_REPLY)
-            if len(self.rest) > LONGEST_REPLY:
-                self.child.kill()
-                self.close()
-                return f"(a reply of more than {LONGEST_REPLY} bytes)"
-            if not piece:
-                status = self.child.wait()
-                self.close()
-                return f"(the program ended, status {status})"
-            self.rest += piece
-        reply, _, self.rest = self.rest.partition(b"\n")
-        return reply.decode("latin-1")
+        signal.setitimer(signal.ITIMER_REAL, PATIENCE)
+        try:
+            with contextlib.suppress(BrokenPipeError):
+                self.child.stdin.write(line.encode("latin-1") + b"\n")
+                self.child.stdin.flush()
+            reply = self.child.stdout.readline(LONGEST_REPLY + 1)
+        except TimeoutError:
+            return self.give_up(f"no reply in {PATIENCE:.0f} s")
+        finally:
+            signal.setitimer(signal.ITIMER_REAL, 0)
+        if reply.endswith(b"\n"):
+            return reply[:-1].decode("latin-1")
+        if len(reply) > LONGEST_REPLY:
+            return self.give_up(f"a reply of more than {LONGEST_REPLY} bytes")
+        return self.give_up(f"the program ended, status {self.child.wait()}")
+
+    def give_up(self, why: str) -> str:
+        self.child.kill()
+        self.close()
+        return f"({why})"
 
 
 @dataclass
@@ -251,18 +256,16 @@ def show(side: Side, held: Held, where: str):
     # Nothing that is there already is written.
     files = ((Path(f"against-{at}.iox"), Path(f"against-{at}.svg")) for at in count(1))
     file, drawn = next(it for it in files if not any(map(Path.exists, it)))
-    file.write_text("".join(f"{it}\n" for it in short.lines), encoding="latin-1")
-    drawn.write_text(picture(short, file.name), encoding="utf-8")
+    put(file, "".join(f"{it}\n" for it in short.lines).encode("latin-1"))
+    put(drawn, picture(short, file.name).encode())
     say(f"{runs} of {TIMES} runs of these {len(short.lines)} lines show it: {file}, drawn in {drawn}")
 
 
 def sources(options) -> Iterator[tuple[str, Source]]:
     """What the other side is asked, each with what it is called."""
     if options.random is None:
-        try:
-            text = Path(options.file).read_bytes() if options.file not in (None, "-") else sys.stdin.buffer.read()
-        except OSError as error:
-            stop(NO_INPUT, f"{options.file}: {error.strerror}")
+        with open(options.file or 0, "rb") as given:
+            text = given.read()
         yield options.file or "standard input", (it.decode("latin-1") for it in lines_of(text))
         return
     asked = re.fullmatch(r"([1-9][0-9]*)(?:,([a-z]+))?(?:,([0-9]+))?", options.random)

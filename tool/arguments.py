@@ -2,6 +2,7 @@
 from __future__ import annotations
 
 import argparse
+from importlib import import_module
 
 from tool.progress import MISUSED, stop
 
@@ -10,9 +11,9 @@ Answers FILE, or standard input if FILE is missing or `-`: one command a line,
 one reply a line. It has a prompt on a terminal."""
 STATUSES = """\
 status: 0 end of the input; 1 read or write fault; 2 out of memory; 3 not built
-  or not proved; 4 --strict failed; 5 --expect or --against failed; 64 wrong
-  arguments; 128+N signal N;
-  66 FILE or REPLIES can't be read, OUT can't be written
+  or not proved, or Python is older than 3.9; 4 --strict failed; 5 --expect or
+  --against failed; 64 wrong arguments; 66 FILE or REPLIES can't be read, OUT
+  can't be written, PORT can't be listened on, CMD can't start; 128+N signal N
 `./iox --commands` lists the commands; first script: ./iox examples/first.iox"""
 
 
@@ -28,26 +29,10 @@ def version() -> str:
     return f"Kohepuri {VERSION}\n{toolchain}"
 
 
-def commands() -> str:
-    from tool.grammar import help_on_all
-
-    return help_on_all()
-
-
-class Print(argparse.Action):
-    """Prints what a function returns, and ends."""
-
-    def __init__(self, option_strings, dest, const, help):
-        super().__init__(option_strings, dest, nargs=0, const=const, help=help)
-
-    def __call__(self, made, *_):
-        print(self.const())
-        made.exit()
-
-
 # The options in the order of the help: names, help, and how argparse reads them. Those of an inner list exclude each other.
 FLAG: dict = {"action": "store_true"}
 OUT: dict = {"metavar": "OUT", "nargs": "?", "const": ""}
+PRINT: dict = {"action": "store_const", "dest": "prints"}
 OPTIONS: list = [
     [
         (["--proved"], "use the proved program; prove it first if needed", FLAG),
@@ -74,8 +59,8 @@ OPTIONS: list = [
         (["-v", "--verbose"], "also explain each err, and what to do", FLAG),
     ],
     (["--path"], "print the program's path; build it first if needed", FLAG),
-    (["--commands"], "list the commands of a script", {"action": Print, "const": commands}),
-    (["--version"], "print the versions of Kohepuri and the toolchain", {"action": Print, "const": version}),
+    (["--commands"], "list the commands of a script", {**PRINT, "const": lambda: import_module("tool.grammar").help_on_all()}),
+    (["--version"], "print the versions of Kohepuri and the toolchain", {**PRINT, "const": version}),
     (["-h", "--help"], "print this", {"action": "help"}),
 ]
 # What an option can't be given with, beside those that argparse excludes.
@@ -112,8 +97,13 @@ def read_arguments() -> argparse.Namespace:
     """Returns the options, with None for a FILE that is standard input, and whether FILE or `-` was named."""
     made = parser()
     options = made.parse_args()
+    if options.prints:
+        print(options.prints())
+        made.exit()
     options.names_script = options.file is not None
     options.file = None if options.file == "-" else options.file
+    if options.expect == "":
+        made.error("--expect needs the name of a file")
     for name, others in APART.items():
         found = [it for it in others if getattr(options, it) not in (None, False)]
         if getattr(options, name) not in (None, False) and found:

@@ -12,7 +12,7 @@ from pathlib import Path
 
 from tool import TOP
 from tool.progress import NOT_BUILT, Progress, say, stop
-from tool.sources import OUT, Wanted, can_make, crates_of_program, sources
+from tool.sources import OUT, Wanted, can_make, sources
 
 # How many lines of code, definitions and proofs the toolchain checks in a minute, as measured on four cores with other work.
 LINES_A_MINUTE = 1200
@@ -53,13 +53,8 @@ def is_old(crate):
     """Returns whether a file of the crate is newer than its library. That is for the forecast: rt decides by the files' sums."""
     with contextlib.suppress(FileNotFoundError):
         made = (TOP / "crates" / crate / "out" / "rlib" / "stamp").stat().st_mtime
-        return any(it.stat().st_mtime > made for it in sources(crate))
+        return any(os.path.getmtime(it) > made for it in sources(crate))
     return True
-
-
-def count_lines(entry):
-    with open(entry.path, "rb") as it:
-        return it.read().count(b"\n")
 
 
 def forecast(wanted):
@@ -67,7 +62,8 @@ def forecast(wanted):
     for crate in wanted.crates:
         if is_old(crate) or any(it in old for it in wanted.libraries[crate]):
             old.append(crate)
-    minutes = max(1, round(sum(count_lines(it) for crate in old for it in sources(crate)) / LINES_A_MINUTE))
+    lines = sum(Path(it).read_bytes().count(b"\n") for crate in old for it in sources(crate))
+    minutes = max(1, round(lines / LINES_A_MINUTE))
     say(
         f"proving and building the program: {len(old)} of {len(wanted.crates)} crates, about {minutes} min on four idle cores"
         " (`./iox FILE` answers within two minutes, unproved)"
@@ -80,9 +76,9 @@ def how_many_at_once():
     return max(1, min(len(os.sched_getaffinity(0)), memory // A_CHECK))
 
 
-def prove_side_by_side(crates, progress, log):
-    """Proves the crates that don't need each other beside each other, as far as memory allows; rt names each at its end."""
-    ended = set()
+def prove(crates, progress, log):
+    """Proves the crates that don't need each other beside each other, as far as memory allows, and builds the program."""
+    ended, jobs = set(), str(how_many_at_once())
     progress.tell(f"crate 1 of {len(crates)}", is_new=True)
 
     def tell(line):
@@ -91,45 +87,20 @@ def prove_side_by_side(crates, progress, log):
             ended.add(crate[1])
             progress.tell(f"{len(ended)} of {len(crates)} crates done, last {crate[1]}", is_new=True)
 
-    return run_rt(["all", "check", "--jobs", str(how_many_at_once())], "iox", log, tell)
-
-
-def prove_in_turn(crates, first, progress, log):
-    """Proves each library from the given place on, and then builds the program. Returns the status, and the crate that rt was at."""
-    for at, crate in enumerate(crates[first:], first + 1):
-        where = f"crate {at} of {len(crates)}, {crate}"
-        progress.tell(where, is_new=True)
-
-        def tell(line, where=where):
-            done = re.match(r"so far: (\d+ of \d+ functions)", line)
-            if done:
-                progress.tell(f"{where}: {done[1]}")
-
-        status = run_rt(["run" if crate == "iox" else "lib"], crate, log, tell)
-        if status:
-            return status, crate
-    return 0, crates[-1]
+    return run_rt(["all", "check", "--jobs", jobs], "iox", log, tell) or run_rt(["run"], "iox", log, tell)
 
 
 def build(wanted):
     """Proves the crates without their tests, and again only what changed, and builds the program into out/iox."""
     forecast(wanted)
-    crates = wanted.crates
-    below = {it: crates_of_program(wanted.libraries, it) for it in crates}
-    is_chain = all(low in below[high] for low, high in zip(crates, crates[1:]))
-    progress, started = Progress(), time.monotonic()
-    status, first, at = 0, 0, "a crate of the program"
+    progress, started, log = Progress(), time.monotonic(), OUT / "build.log"
     try:
-        with open(OUT / "build.log", "w", encoding="utf-8") as log:
-            if not is_chain:
-                status, first = prove_side_by_side(crates, progress, log), len(crates) - 1
-            if not status:
-                status, at = prove_in_turn(crates, first, progress, log)
+        with open(log, "w", encoding="utf-8") as file:
+            status = prove(wanted.crates, progress, file)
     finally:
         progress.end()
     if status:
-        log = OUT / "build.log"
-        stop(NOT_BUILT, f"{at} is not proved or not built: {first_error(log)} ({log} has all of it)")
+        stop(NOT_BUILT, f"the program is not proved or not built: {first_error(log)} ({log} has all of it)")
     say(f"proved and built in {round(time.monotonic() - started)} s")
 
 

@@ -6,8 +6,10 @@ import os
 import subprocess
 import sys
 import time
+from argparse import Namespace
 from collections import namedtuple
-from collections.abc import Iterator
+from collections.abc import Callable, Iterator
+from itertools import chain, islice
 from pathlib import Path
 
 from script_model import LONGEST_LINE, Machine
@@ -31,14 +33,13 @@ class Lines:
         return line
 
     def cut(self, piece: bytes) -> list[Line]:
+        """The lines that a piece of input ends. No piece is the end of the input, which ends the last line if it isn't empty."""
+        if not piece:
+            return [self.next(b"")] if self.size else []
         *whole, rest = piece.split(b"\n")
         lines = [self.next(it) for it in whole]
         self.rest, self.size = (self.rest + rest)[: LONGEST_LINE + 1], self.size + len(rest)
         return lines
-
-    def last(self) -> list[Line]:
-        """The line that the end of the input ends, if it isn't empty."""
-        return [self.next(b"")] if self.size else []
 
 
 def is_comment(line: Line) -> bool:
@@ -47,31 +48,36 @@ def is_comment(line: Line) -> bool:
 
 def lines_of(pieces: Iterator[bytes], skips_comments: bool = False) -> Iterator[list[Line]]:
     """Yields the lines that each piece of input ends, and at last the one that the end of the input ends."""
-    cut = Lines()
-    for piece in pieces:
-        yield [it for it in cut.cut(piece) if not (skips_comments and is_comment(it))]
-    yield [it for it in cut.last() if not (skips_comments and is_comment(it))]
-
-
-def whole(lines: list[Line]) -> bytes:
-    return b"".join(it.text + b"\n" for it in lines)
+    cut = Lines().cut
+    for piece in chain(pieces, [b""]):
+        yield [it for it in cut(piece) if not (skips_comments and is_comment(it))]
 
 
 class Model:
     """The Python model as who answers."""
 
+    status = 0
+
     def __init__(self):
-        self.machine, self.status = Machine(), 0
+        self.machine = Machine()
 
     def replies(self, lines: list[Line]) -> Iterator[bytes]:
-        for it in lines:
-            yield self.machine.answer(it.text).encode("latin-1") + b"\n"
+        return (self.machine.answer(it.text).encode("latin-1") + b"\n" for it in lines)
 
     def end(self):
         pass
 
-    def close(self):
-        pass
+    close = end
+
+
+class Said(Model):
+    """Replies of a run that is over."""
+
+    def __init__(self, status: int, replies: bytes):
+        self.status, self.left = status, iter(replies.splitlines(True))
+
+    def replies(self, lines: list[Line]) -> Iterator[bytes]:
+        return islice(self.left, len(lines))
 
 
 class Program:
@@ -88,13 +94,9 @@ class Program:
 
     def replies(self, lines: list[Line]) -> Iterator[bytes]:
         with contextlib.suppress(BrokenPipeError):
-            self.given.write(whole(lines))
+            self.given.write(b"".join(it.text + b"\n" for it in lines))
             self.given.flush()
-        for _ in lines:
-            reply = self.taken.readline()
-            if not reply:
-                return
-            yield reply
+        yield from islice(iter(self.taken.readline, b""), len(lines))
 
     def end(self):
         with contextlib.suppress(BrokenPipeError):
@@ -114,62 +116,20 @@ class Program:
         return code if code >= 0 else 128 - code
 
 
-class Said:
-    """Replies of a run that is over."""
-
-    def __init__(self, status: int, replies: bytes):
-        self.status, self.left = status, replies.splitlines(True)
-
-    def replies(self, lines: list[Line]) -> Iterator[bytes]:
-        now, self.left = self.left[: len(lines)], self.left[len(lines) :]
-        return iter(now)
-
-    def end(self):
-        pass
-
-    def close(self):
-        pass
+class Fault(Exception):
+    """Standard input can't be read, or standard output takes nothing more."""
 
 
-class ReadFault(Exception):
-    """Standard input can't be read."""
-
-    def __str__(self):
-        return "read fault"
-
-
-class WriteFault(Exception):
-    """Standard output takes nothing more."""
-
-    def __str__(self):
-        return "write fault"
-
-
-def pieces_of_input() -> Iterator[bytes]:
-    """Yields what standard input gives, as it comes."""
-    while True:
-        try:
-            piece = os.read(0, PIECE)
-        except OSError:
-            raise ReadFault from None
-        if not piece:
-            return
-        yield piece
+def read_piece() -> bytes:
+    """What standard input gives, as it comes."""
+    try:
+        return os.read(0, PIECE)
+    except OSError:
+        raise Fault("read fault") from None
 
 
 def pieces_of(script: bytes) -> Iterator[bytes]:
     return (script[at : at + PIECE] for at in range(0, len(script), PIECE))
-
-
-def write_all(text: bytearray):
-    """Writes to standard output, and takes from the text what was written."""
-    while text:
-        try:
-            del text[: os.write(1, text)]
-        except BrokenPipeError:
-            raise
-        except OSError:
-            raise WriteFault from None
 
 
 class Output:
@@ -182,26 +142,30 @@ class Output:
         self.held += text
 
     def flush(self):
-        write_all(self.held)
+        while self.held:
+            try:
+                del self.held[: os.write(1, self.held)]
+            except BrokenPipeError:
+                raise
+            except OSError:
+                raise Fault("write fault") from None
 
 
-class Plain:
-    """Writes each reply as it came."""
+def writer_of(options: Namespace, out: Output, follower) -> Callable[[Line, bytes], None]:
+    """What writes each reply: as it came, or as a record."""
+    if not options.json:
+        return lambda _, reply: out.write(reply)
+    from tool.records import record_of
 
-    def __init__(self, out: Output):
-        self.out = out
-
-    def take(self, _line: Line, reply: bytes):
-        self.out.write(reply)
+    return lambda line, reply: out.write(record_of(line, reply, follower, options.json == "strings"))
 
 
 def tell(asked: list[Line], replies: Iterator[bytes], takers: list) -> bool:
     """Hands each line with its reply to who takes them. Returns whether each line got one."""
     count = 0
-    for line, reply in zip(asked, replies):
-        count += 1
-        for it in takers:
-            it.take(line, reply)
+    for count, (line, reply) in enumerate(zip(asked, replies), 1):
+        for take in takers:
+            take(line, reply)
     return count == len(asked)
 
 
@@ -215,7 +179,7 @@ def converse(answers, asked: Iterator[list[Line]], takers: list, out: Output) ->
                 return answers.status
         answers.end()
         return answers.status
-    except (ReadFault, WriteFault) as fault:
+    except Fault as fault:
         print(fault, file=sys.stderr)
         return 1
     finally:

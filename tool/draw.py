@@ -1,9 +1,16 @@
-"""A conversation as one picture: a row a line, lifelines of what was made, an arrow for each message from its send to who received it."""
+"""A conversation as one picture: a row a line, lifelines of what was made, an arrow for each message from its send to who received it.
+
+And as a page that plays it step by step, whole in one file: it asks nothing of any network.
+"""
 from __future__ import annotations
 
+import json
+import re
 from collections import namedtuple
 from collections.abc import Iterator
+from dataclasses import asdict
 from itertools import product
+from pathlib import Path
 from xml.sax.saxutils import escape
 
 from tool import outputs
@@ -15,6 +22,7 @@ ROW, COLUMN, LETTER, MARGIN, TOP = 24, 64, 7.9, 16, 64
 # A letter of a label, and how far a label reaches above and below its base line.
 SMALL_LETTER, RISES, FALLS = 6.7, 9, 3
 LONGEST_SHOWN = 48
+PAGE = Path(__file__).resolve().parent / "page.html"
 STYLE = """\
 text{font:13px monospace;fill:#222}.title{font:bold 16px sans-serif}.sub,.legend{font:12px sans-serif;fill:#555}
 .number{fill:#737373}.ok{fill:#595959}.bad{fill:#b3261e}.wait{fill:#9a5b00}.band{fill:#f6f7f9}.life{stroke:#c4c8ce;stroke-width:1.5}
@@ -87,13 +95,10 @@ class Sheet:
 
     def label(self, text: str, name: str, side: int, places: Iterator[tuple[float, float]]):
         """Writes a label at the first of some places where it covers no other."""
-        x, y = next(places)
-        box = box_of(x, y, text, side)
-        for place in places:
+        for x, y in places:
+            box = box_of(x, y, text, side)
             if box.left >= self.lives_at - COLUMN // 2 and not any(overlaps(box, it) for it in self.taken):
                 break
-            x, y = place
-            box = box_of(x, y, text, side)
         self.taken.append(box)
         anchor = "start" if side > 0 else "end"
         self.text(round(x), round(y), escape(text), f"value{name}", f' text-anchor="{anchor}"')
@@ -105,29 +110,22 @@ class Sheet:
         self.parts.append(f'<path class="{name}" d="M{x1} {y1}L{x2} {y2}"/>')
 
 
-def class_of(reply: str) -> str:
-    if reply.startswith(("err", "skip")):
-        return "bad"
-    return "wait" if reply in ("blocked", "none") else "ok"
-
-
 def draw_rows(sheet: Sheet):
-    for at, row in enumerate(sheet.told.rows):
-        if at % 2 == 0:
-            sheet.parts.append(f'<rect class="band" x="0" y="{TOP + ROW * at}" width="100%" height="{ROW}"/>')
+    for at in range(0, len(sheet.told.rows), 2):
+        sheet.parts.append(f'<rect class="band" x="0" y="{TOP + ROW * at}" width="100%" height="{ROW}"/>')
     for at, row in enumerate(sheet.told.rows):
         y = sheet.y(at) + 4
         sheet.text(sheet.line_at - 10, y, str(row.number), "number", ' text-anchor="end"')
         sheet.text(sheet.line_at, y, shown(row.line), "line")
         why = "; ".join(filter(None, (row.note, row.missed)))
         hint = f"<title>{escape(why)}</title>" if why else ""
-        sheet.text(sheet.reply_at, y, shown(row.reply) + hint, class_of(row.reply))
+        kind = "bad" if row.reply.startswith(("err", "skip")) else "wait" if row.reply in ("blocked", "none") else "ok"
+        sheet.text(sheet.reply_at, y, shown(row.reply) + hint, kind)
 
 
 def draw_lives(sheet: Sheet):
     for life in sheet.told.lifelines:
-        last = sheet.end if life.last is None else life.last
-        foot = sheet.bottom - 8 if life.last is None else sheet.y(last)
+        foot = sheet.bottom - 8 if life.last is None else sheet.y(life.last)
         sheet.stroke("life", sheet.x[life.name], sheet.y(life.first), sheet.x[life.name], foot)
 
 
@@ -152,13 +150,6 @@ def offsets(deliveries: list[Delivery], end: int) -> dict[int, int]:
         lanes[lane : lane + 1] = [end + 1 if it.released is None else it.released]
         found[at] = 10 * lane
     return found
-
-
-def fate(it: Delivery, end: int) -> tuple[str, int]:
-    """What became of a message in a mailbox, and in which row."""
-    if it.received is not None:
-        return "message", it.received
-    return ("waits", end) if it.lost is None else ("lost", it.lost)
 
 
 def cross(x: int, y: int) -> str:
@@ -192,7 +183,8 @@ def draw_delivery(sheet: Sheet, it: Delivery, aside: int):
     if it.received is not None:
         foot = sheet.y(sheet.end) + 8 if it.released is None else sheet.y(it.released)
         sheet.stroke("held", x2, sheet.y(it.received), x2, foot)
-    name, row = fate(it, sheet.end)
+    end = ("waits", sheet.end) if it.lost is None else ("lost", it.lost)
+    name, row = end if it.received is None else ("message", it.received)
     x3, y3 = x2 + side * (4 if name == "message" else 14), sheet.y(row)
     sheet.stroke(name, x1, y1, x3, y3 + (8 if name == "waits" else 0))
     if it.missing:
@@ -254,3 +246,12 @@ def svg(told: Conversation, title: str) -> str:
     head = [f'<svg xmlns="http://www.w3.org/2000/svg" {size} role="img">', outputs.KINDS["svg"][1], f"<title>{escape(title)}</title>"]
     head += [f"<style>{STYLE}</style>"]
     return "\n".join([*head, MARKERS, '<rect width="100%" height="100%" fill="#fff"/>', *sheet.parts, "</svg>"]) + "\n"
+
+
+def html(told: Conversation, title: str) -> str:
+    """The page, with what it plays and the whole picture in it."""
+    told_of = {"rows": [asdict(it) for it in told.rows], "states": told.states, "top": TOP, "row": ROW}
+    # No text of a script ends the element that it lies in.
+    data = json.dumps(told_of, separators=(",", ":")).replace("<", "\\u003c")
+    parts = {"@MARK@": outputs.KINDS["html"][1], "@TITLE@": escape(title), "@PICTURE@": svg(told, title), "@TOLD@": data}
+    return re.sub("|".join(parts), lambda it: parts[it[0]], PAGE.read_text(encoding="utf-8"))

@@ -5,24 +5,11 @@ import difflib
 import re
 from dataclasses import dataclass
 
-from script_lines import LARGEST, PATTERNS, PERHAPS, SWITCH
+from script_lines import LARGEST, NUMBER, PATTERNS, PERHAPS, SWITCH
 from script_model import LONGEST_LINE
 
-from tool.grammar import (
-    LETTERS,
-    NUMBERS,
-    PORT_OPTIONS,
-    PUBLISHING,
-    REPEATED,
-    STEP_VERBS,
-    VERBS,
-    Kind,
-    Verb,
-    kind_in_words,
-    least_of,
-    options_of,
-    settings_of,
-)
+from tool.grammar import PORT_OPTIONS, PUBLISHING, STEP_VERBS, VERBS, Kind, Verb, kind_in_words, least_of, options_of, settings_of
+from tool.notes import readable
 
 BOM = b"\xef\xbb\xbf"
 SHOWN = 40
@@ -37,6 +24,11 @@ class Fault(Exception):
     text: str
 
 
+def refuse(holds, column: int, text: str):
+    if holds:
+        raise Fault(column, text)
+
+
 @dataclass
 class Word:
     text: bytes
@@ -45,8 +37,7 @@ class Word:
     @property
     def shown(self) -> str:
         """The word as text that is safe to print, cut where it is long."""
-        text = self.text[:SHOWN].decode("latin-1")
-        return "".join(it if " " <= it <= "~" else f"\\x{ord(it):02x}" for it in text) + ".." * (len(self.text) > SHOWN)
+        return readable(self.text, SHOWN)
 
     def after(self, count: int) -> Word:
         """What stands behind so many bytes of the word."""
@@ -54,11 +45,8 @@ class Word:
 
     def parts(self, mark: bytes) -> list[Word]:
         """The word's parts between marks of one byte."""
-        found, at = [], 0
-        for it in self.text.split(mark):
-            found.append(Word(it, self.column + at))
-            at += len(it) + 1
-        return found
+        parts = re.finditer(rb"(?:^|(?<=%b))[^%b]*" % (mark, mark), self.text)
+        return [Word(it[0], self.column + it.start()) for it in parts]
 
 
 def meant(word: bytes, known) -> str:
@@ -69,38 +57,30 @@ def meant(word: bytes, known) -> str:
 
 def check_number(word: Word):
     if re.fullmatch(rb"0|[1-9][0-9]*", word.text):
-        if int(word.text[:40]) > LARGEST:
-            raise Fault(word.column, f"{word.shown} is above {LARGEST}, the largest number")
+        refuse(int(word.text[:40]) > LARGEST, word.column, f"{word.shown} is above {LARGEST}, the largest number")
         return
-    if re.fullmatch(rb"0[0-9]+", word.text):
-        raise Fault(word.column, f"{word.shown} has a leading zero")
-    if not word.text:
-        raise Fault(word.column, "a number is missing")
+    refuse(re.fullmatch(rb"0[0-9]+", word.text), word.column, f"{word.shown} has a leading zero")
+    refuse(not word.text, word.column, "a number is missing")
     why = ": numbers are decimal, with no sign and no point" if re.match(rb"[-+.0-9]", word.text) else ""
     raise Fault(word.column, f'"{word.shown}" isn\'t a number{why}')
 
 
 def check_made(kind: Kind, word: Word):
     letter = word.text[:1].decode("latin-1")
-    if not letter or letter not in LETTERS[kind] or not word.text[1:2].isdigit():
+    if not letter or letter not in kind.letters or not word.text[1:2].isdigit():
         raise Fault(word.column, f'expected {kind.words} such as {kind.example}, not "{word.shown}"')
     check_number(word.after(1))
 
 
-def invisible(word: Word) -> int | None:
-    """The place of the first byte that isn't visible."""
-    return next((at for at, it in enumerate(word.text) if not 0x21 <= it <= 0x7E), None)
-
-
 def check_visible(word: Word, what: str):
-    at = invisible(word)
-    if at is not None:
-        raise Fault(word.column + at, f"{what} has the byte {word.text[at]:#04x}; it may have 0x21 to 0x7e, which is ASCII without space")
+    hidden = re.search(rb"[^!-~]", word.text)
+    if hidden:
+        byte = f"{what} has the byte {hidden[0][0]:#04x}; it may have 0x21 to 0x7e, which is ASCII without space"
+        raise Fault(word.column + hidden.start(), byte)
 
 
 def check_name(word: Word):
-    if not word.text:
-        raise Fault(word.column, "the name is empty")
+    refuse(not word.text, word.column, "the name is empty")
     if len(word.text) > LONGEST_NAME:
         raise Fault(word.column + LONGEST_NAME, f"the name has {len(word.text)} bytes, and {LONGEST_NAME} are the most")
     check_visible(word, "the name")
@@ -113,15 +93,12 @@ def check_pattern(word: Word):
 
 def check_value(key: str, kind, word: Word):
     value = word.text.decode("latin-1")
-    if not value:
-        raise Fault(word.column, f"{key}= needs {kind_in_words(kind)}")
-    if kind == SWITCH and value not in ("0", "1"):
-        raise Fault(word.column, f'{key} is 0 or 1, and "{word.shown}" is neither')
+    refuse(not value, word.column, f"{key}= needs {kind_in_words(kind)}")
+    refuse(kind == SWITCH and value not in ("0", "1"), word.column, f'{key} is 0 or 1, and "{word.shown}" is neither')
     if isinstance(kind, tuple) and value not in kind:
         raise Fault(word.column, f'{key} is {kind_in_words(kind)}, not "{word.shown}"{meant(word.text, kind)}')
-    if kind == SWITCH or isinstance(kind, tuple) or (kind == PERHAPS and value == "off"):
-        return
-    check_number(word)
+    if kind == NUMBER or (kind == PERHAPS and value != "off"):
+        check_number(word)
 
 
 def elsewhere(key: str) -> str:
@@ -139,8 +116,7 @@ def check_options(words: list[Word], kinds: dict, of: str):
         if not equals:
             hint = f"; did you mean {name}=..?" if name in kinds else meant(key, kinds)
             raise Fault(word.column, f'expected an option KEY=VALUE of {of}, not "{word.shown}"{hint}')
-        if name not in kinds:
-            raise Fault(word.column, f'"{Word(key, 0).shown}" isn\'t an option of {of}{elsewhere(name) or meant(key, kinds)}')
+        refuse(name not in kinds, word.column, f'"{Word(key, 0).shown}" isn\'t an option of {of}{elsewhere(name) or meant(key, kinds)}')
         if name in seen:
             is_same = sum(it.text == word.text for it in words) > 1
             raise Fault(word.column, f"{word.shown if is_same else f'{name}='} is given twice")
@@ -150,8 +126,7 @@ def check_options(words: list[Word], kinds: dict, of: str):
 
 def check_attribute(verb: str, word: Word):
     key, equals, value = word.text[1:].partition(b"=")
-    if not key:
-        raise Fault(word.column + 1, "the key of an attribute is empty")
+    refuse(not key, word.column + 1, "the key of an attribute is empty")
     if len(key) > LONGEST_KEY:
         raise Fault(word.column + 1 + LONGEST_KEY, f"the key of an attribute has {len(key)} bytes, and {LONGEST_KEY} are the most")
     if len(value) > LONGEST_VALUE:
@@ -171,28 +146,24 @@ def check_attributes(verb: str, words: list[Word]):
         check_attribute(verb, word)
         is_pair = b"=" in word.text
         counts[is_pair] += 1
-        if counts[is_pair] > MOST_ATTRIBUTES:
-            raise Fault(word.column, f"a ninth attribute {'@KEY=VALUE' if is_pair else '@KEY'}: {MOST_ATTRIBUTES} are the most")
+        told = f"a ninth attribute {'@KEY=VALUE' if is_pair else '@KEY'}: {MOST_ATTRIBUTES} are the most"
+        refuse(counts[is_pair] > MOST_ATTRIBUTES, word.column, told)
 
 
 def check_step(pattern: str, word: Word):
     what, *parts = word.parts(b":")
     if what.text.decode("latin-1") not in STEP_VERBS:
-        known = f"{', '.join(STEP_VERBS[:-1])} or {STEP_VERBS[-1]}"
-        raise Fault(word.column, f'"{what.shown}" isn\'t a step: {known}{meant(what.text, STEP_VERBS)}')
+        raise Fault(word.column, f'"{what.shown}" isn\'t a step: {kind_in_words(STEP_VERBS)}{meant(what.text, STEP_VERBS)}')
     verb = what.text.decode()
-    if not parts:
-        raise Fault(word.column + len(word.text), f"the step needs a foreign node: {verb}:x1")
-    if len(parts) > (2 if verb in PUBLISHING else 1):
-        raise Fault(parts[-1].column, f"one colon too many in the step {verb}")
+    refuse(not parts, word.column + len(word.text), f"the step needs a foreign node: {verb}:x1")
+    refuse(len(parts) > (2 if verb in PUBLISHING else 1), parts[-1].column, f"one colon too many in the step {verb}")
     node = parts[0]
-    if node.text[:1] != b"x" or not node.text[1:2].isdigit():
-        raise Fault(node.column, f'expected a foreign node such as x1, not "{node.shown}"')
+    refuse(node.text[:1] != b"x" or not node.text[1:2].isdigit(), node.column, f'expected a foreign node such as x1, not "{node.shown}"')
     check_number(node.after(1))
     if len(parts) == 2:
         options = parts[1].parts(b",")
-        if b"" in [it.text for it in options]:
-            empty = next(it for it in options if not it.text)
+        empty = next((it for it in options if not it.text), None)
+        if empty:
             raise Fault(empty.column, f"an option is missing: {verb}:x1:KEY=VALUE,..")
         check_options(options, settings_of(pattern), f"{pattern} services")
 
@@ -205,13 +176,11 @@ def check_lists(pattern: str, words: list[Word]):
             empty = None
             continue
         if empty:
-            raise Fault(empty.column, f"the list {empty.shown} has no step")
+            break
         check_number(word.after(1))
         at = int(word.text[1:])
-        if at == 0:
-            raise Fault(word.column, "accesses are counted from 1, not from 0")
-        if at <= last:
-            raise Fault(word.column, f"the list |{at} comes after |{last}: lists are in rising order")
+        refuse(at == 0, word.column, "storage operations are counted from 1, not from 0")
+        refuse(at <= last, word.column, f"the list |{at} comes after |{last}: lists are in rising order")
         last, empty = at, word
     if empty:
         raise Fault(empty.column, f"the list {empty.shown} has no step")
@@ -226,40 +195,26 @@ def check_service(verb: str, pattern: str, words: list[Word]):
     check_lists(pattern, words[first_list:])
 
 
-def check_repeated(verb: Verb, kind: Kind, pattern: str, words: list[Word], end: int):
-    if kind is Kind.VALUES:
-        for it in words:
-            check_number(it)
-    elif kind is Kind.STEPS:
-        if not words:
-            raise Fault(end, f"{kind.words} such as {kind.example} is missing: {verb.form}")
-        for it in words:
-            check_step(pattern, it)
-    elif kind is Kind.SETTINGS:
-        check_service(verb.name, pattern, words)
-    else:
-        check_options(words, options_of(verb.name, None), f"a {verb.name}")
-
-
-CHECKS = {Kind.PATTERN: check_pattern, Kind.NAME: check_name}
-
-
 def check_operands(verb: Verb, words: list[Word], end: int):
     pattern = ""
     for at, kind in enumerate(verb.operands):
-        if kind in REPEATED:
-            check_repeated(verb, kind, pattern, words[at:], end)
-            return
-        if at == len(words):
-            raise Fault(end, f"{kind.words} such as {kind.example} is missing: {verb.form}")
-        if kind in LETTERS:
+        rest = words[at:]
+        if kind is Kind.SETTINGS:
+            return check_service(verb.name, pattern, rest)
+        if verb.name in PORT_OPTIONS and at:
+            return check_options(rest, options_of(verb.name, None), f"a {verb.name}")
+        refuse(not rest and kind is not Kind.VALUES, end, f"{kind.words} such as {kind.example} is missing: {verb.form}")
+        if kind is Kind.VALUES or kind is Kind.STEPS:
+            for it in rest:
+                check_number(it) if kind is Kind.VALUES else check_step(pattern, it)
+            return None
+        if kind.letters:
             check_made(kind, words[at])
-        elif kind in NUMBERS:
-            check_number(words[at])
-        else:
-            CHECKS[kind](words[at])
-        if kind is Kind.PATTERN:
+        elif kind is Kind.PATTERN:
+            check_pattern(words[at])
             pattern = words[at].text.decode()
+        else:
+            (check_name if kind is Kind.NAME else check_number)(words[at])
     if len(words) > len(verb.operands):
         extra = words[len(verb.operands)]
         hint = ": a comment has a line of its own" if extra.text[:1] in (b"#", b"/") else f": {verb.form}"
@@ -271,36 +226,30 @@ def check_spaces(line: bytes, number: int):
     if line.startswith(BOM):
         where = "the file begins with" if number == 1 else "the line begins with"
         raise Fault(1, f"{where} a byte order mark (EF BB BF): save it as UTF-8 without BOM")
+    refuse(line.startswith((b"\xff\xfe", b"\xfe\xff")), 1, "the file is in UTF-16: save it as UTF-8 without BOM")
     if line.endswith(b"\r"):
         hint = "the file has Windows line ends (CRLF); `sed 's/\\r$//' FILE` makes them plain"
         raise Fault(len(line), f"a carriage return ends the line: {hint}")
-    if not line:
-        raise Fault(1, "the line is empty (`--comments` ignores such lines)")
-    if b"\t" in line:
-        raise Fault(line.index(b"\t") + 1, "a tab: words are separated by one space")
-    if line.startswith((b"#", b"//")):
-        raise Fault(1, "scripts have no comments (`--comments` ignores lines that begin with #)")
-    if line.startswith(b" "):
-        raise Fault(1, "a space before the first word")
-    if b"  " in line:
-        raise Fault(line.index(b"  ") + 2, "two spaces: words are separated by one")
-    if line.endswith(b" "):
-        raise Fault(len(line), "a space after the last word")
+    refuse(not line, 1, "the line is empty (`--comments` ignores such lines)")
+    refuse(b"\t" in line, line.find(b"\t") + 1, "a tab: words are separated by one space")
+    refuse(line.startswith((b"#", b"//")), 1, "scripts have no comments (`--comments` ignores lines that begin with #)")
+    refuse(line.startswith(b" "), 1, "a space before the first word")
+    refuse(b"  " in line, line.find(b"  ") + 2, "two spaces: words are separated by one")
+    refuse(line.endswith(b" "), len(line), "a space after the last word")
 
 
 def check_line(line: bytes, size: int, number: int):
-    if size > LONGEST_LINE:
-        raise Fault(LONGEST_LINE + 1, f"the line has {size} bytes, and {LONGEST_LINE} are the most")
+    """A longer line may be handed in cut, with its size."""
+    refuse(size > LONGEST_LINE, LONGEST_LINE + 1, f"the line has {size} bytes, and {LONGEST_LINE} are the most")
     check_spaces(line, number)
     verb, *words = Word(line, 1).parts(b" ")
     name = verb.text.decode("latin-1")
-    if name not in VERBS:
-        raise Fault(1, f'"{verb.shown}" isn\'t a command{meant(verb.text, VERBS)}')
+    refuse(name not in VERBS, 1, f'"{verb.shown}" isn\'t a command{meant(verb.text, VERBS)}')
     check_operands(VERBS[name], words, len(line) + 1)
 
 
 def fault_of(line: bytes, size: int | None = None, number: int = 1) -> Fault | None:
-    """What is wrong with a line, or None where it spells a command. A longer line may be handed in cut, with its size."""
+    """What is wrong with a line, or None where it spells a command."""
     try:
         check_line(line, len(line) if size is None else size, number)
     except Fault as fault:

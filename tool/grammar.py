@@ -11,15 +11,15 @@ from script_lines import NUMBER, PATTERNS, PERHAPS, PUBLISHER_OPTIONS, SETTINGS,
 
 
 class Kind(Enum):
-    """What a word of a line is: how it is shown, what it is in words, and an example."""
+    """What a word of a line is: how it is shown, what it is in words, an example, and the letters that its numbers follow."""
 
-    NODE = "nK", "a node", "n1"
-    FACTORY = "fK", "a factory", "f1"
-    PUBLISHER = "pK", "a publisher", "p1"
-    SUBSCRIBER = "sK", "a subscriber", "s1"
-    PORT = "pK or sK", "a publisher or subscriber", "p1 or s1"
-    LOAN = "lK", "a loan", "l1"
-    SAMPLE = "mK", "a sample", "m1"
+    NODE = "nK", "a node", "n1", "n"
+    FACTORY = "fK", "a factory", "f1", "f"
+    PUBLISHER = "pK", "a publisher", "p1", "p"
+    SUBSCRIBER = "sK", "a subscriber", "s1", "s"
+    PORT = "pK or sK", "a publisher or subscriber", "p1 or s1", "ps"
+    LOAN = "lK", "a loan", "l1", "l"
+    SAMPLE = "mK", "a sample", "m1", "m"
     PATTERN = "PAT", "a pattern (ps, ev or rr)", "ps"
     NAME = "NAME", "a name of 1 to 255 visible bytes", "A"
     COUNT = "N", "a number", "1"
@@ -31,32 +31,8 @@ class Kind(Enum):
     PUBLISHER_OPTIONS = "[KEY=V ..]", "options of a publisher", "loans=1"
     SUBSCRIBER_OPTIONS = "[KEY=V ..]", "options of a subscriber", "buffer=3"
 
-    @property
-    def shown(self) -> str:
-        return self.value[0]
-
-    @property
-    def words(self) -> str:
-        return self.value[1]
-
-    @property
-    def example(self) -> str:
-        return self.value[2]
-
-
-# The letters that the numbers of such a word follow.
-LETTERS = {
-    Kind.NODE: "n",
-    Kind.FACTORY: "f",
-    Kind.PUBLISHER: "p",
-    Kind.SUBSCRIBER: "s",
-    Kind.PORT: "ps",
-    Kind.LOAN: "l",
-    Kind.SAMPLE: "m",
-}
-NUMBERS = (Kind.COUNT, Kind.PLACE, Kind.VALUE)
-# What takes as many words as come.
-REPEATED = (Kind.VALUES, Kind.STEPS, Kind.SETTINGS, Kind.PUBLISHER_OPTIONS, Kind.SUBSCRIBER_OPTIONS)
+    def __init__(self, shown: str, words: str, example: str, letters: str = ""):
+        self.shown, self.words, self.example, self.letters = shown, words, example, letters
 
 
 @dataclass(frozen=True)
@@ -171,8 +147,7 @@ def meaning_in(pattern: str, key: str) -> str:
 
 def least_of(pattern: str, key: str) -> int | None:
     """What a smaller number counts as, if it counts as another one."""
-    found = [least for name, _, _, least, _, _ in SETTINGS[pattern] if name == key]
-    return found[0] if found else None
+    return next((least for name, _, _, least, _, _ in SETTINGS[pattern] if name == key), None)
 
 
 def options_of(verb: str, pattern: str | None) -> dict:
@@ -199,10 +174,8 @@ def kind_in_words(kind) -> str:
     return f"{', '.join(kind[:-1])} or {kind[-1]}"
 
 
-def default_in_words(default) -> str:
-    if default is None:
-        return "off"
-    return str(int(default))
+def setting_in_words(value) -> str:
+    return "off" if value is None else str(int(value))
 
 
 def help_on_verb(verb: Verb) -> str:
@@ -221,7 +194,7 @@ def help_on_verb(verb: Verb) -> str:
         for pattern in PATTERNS:
             told.append(f"  options of {pattern} services, with their defaults")
             for key, kind, default, *_ in SETTINGS[pattern]:
-                told.append(f"    {f'{key}={default_in_words(default)}':<24} {meaning_in(pattern, key)}")
+                told.append(f"    {f'{key}={setting_in_words(default)}':<24} {meaning_in(pattern, key)}")
     return "\n".join(told)
 
 
@@ -231,7 +204,7 @@ def help_on_option(key: str) -> str | None:
     for pattern in PATTERNS:
         for name, kind, default, *_ in SETTINGS[pattern]:
             if name == key:
-                what = f"{kind_in_words(kind)}, default {default_in_words(default)}"
+                what = f"{kind_in_words(kind)}, default {setting_in_words(default)}"
                 told.append(f"  of {pattern} services (create, open, open_or_create): {meaning_in(pattern, key)}; {what}")
     for verb, kinds in PORT_OPTIONS.items():
         if key in kinds:

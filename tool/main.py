@@ -1,6 +1,7 @@
 """The launcher: finds who answers, hands the script over, and says what is to be said beside the replies."""
 from __future__ import annotations
 
+import errno
 import os
 import signal
 import sys
@@ -8,29 +9,21 @@ import time
 from argparse import Namespace
 from importlib import import_module
 from pathlib import Path
+from typing import Any
 
 from tool.arguments import read_arguments
-from tool.converse import WriteFault
+from tool.converse import Fault
 from tool.progress import NO_INPUT, NOT_BUILT, UNPROVED, say, stop
 
 # The options that have a way of their own to run: the module with its `run(options)`, which returns the status.
 OWN_WAYS = {"listen": "tool.listen", "against": "tool.against", "random": "tool.against"}
 
 
-def is_terminal(number: int) -> bool:
-    try:
-        return os.isatty(number)
-    except OSError:
-        return False
-
-
 def open_file(file: str):
     """Makes a file standard input."""
-    try:
-        given = os.open(file, os.O_RDONLY)
-        os.read(given, 0)
-    except OSError as error:
-        stop(NO_INPUT, f"{file}: {error.strerror}")
+    given = os.open(file, os.O_RDONLY)
+    if os.path.isdir(file):
+        raise IsADirectoryError(errno.EISDIR, os.strerror(errno.EISDIR), file)
     os.dup2(given, 0)
 
 
@@ -47,7 +40,7 @@ def find_program(options: Namespace) -> Path | None:
 
         return proved_program(wanted)
     if not wanted.toolchain and not options.quiet and (wanted.proved.exists() or wanted.unproved.exists()):
-        say("there is no rt on the path: what answers was built from these sources, by a toolchain that can't be checked")
+        say("there is no rt on the path: the program that answers was built from these sources; which toolchain built it can't be checked")
     if wanted.proved.exists() and not options.unproved:
         return wanted.proved
     from tool.unproved import unproved_program
@@ -58,98 +51,61 @@ def find_program(options: Namespace) -> Path | None:
     return program
 
 
-def run_alone(program: Path):
-    """Becomes the program. Python ignores this signal, and the program gets it as the shell hands it on."""
-    signal.signal(signal.SIGPIPE, signal.SIG_DFL)
-    os.execv(program, ["iox"])
-
-
 def who_answers(options: Namespace):
     """Returns who answers, and the whole script if the program can't be kept."""
     from tool.converse import Model, Program, Said
 
-    if options.model:
-        return Model(), None
-    program = find_program(options)
-    if program is not None:
-        return Program(program), None
-    from tool.unproved import read_whole_script, replies_of_one_run
+    program = None if options.model else find_program(options)
+    if program or options.model:
+        return (Program(program) if program else Model()), None
+    from tool.unproved import one_run
 
-    script = read_whole_script()
-    return Said(*replies_of_one_run(script)), script
+    status, replies, script = one_run()
+    return Said(status, replies), script
 
 
 def needs_no_pairs(options: Namespace, prompts: bool) -> bool:
     """Whether nothing is made of a line and its reply except handing both on."""
-    asks = (options.json, options.svg, options.html, options.expect, options.strict, options.comments)
-    return options.quiet and not prompts and not any((*asks, options.time, options.numbers, options.verbose, options.model))
-
-
-def writers_of(options: Namespace, out, follower) -> list:
-    """Who writes the replies to standard output: nobody if a picture goes there."""
-    if "-" in (options.svg, options.html):
-        return []
-    if options.json:
-        from tool.records import Json
-
-        return [Json(out, follower, options.json == "strings")]
-    from tool.converse import Plain
-
-    return [Plain(out)]
-
-
-def verdicts_of(options: Namespace, follower) -> list:
-    """What the replies are held against."""
-    if not options.expect and not options.strict:
-        return []
-    from tool.verdicts import Expect, Strict
-
-    return ([Expect(options.expect, follower)] if options.expect else []) + [Strict()] * options.strict
-
-
-def traces_of(options: Namespace) -> list:
-    """What a picture is drawn of."""
-    if not options.svg and not options.html:
-        return []
-    from tool.trace import Trace
-
-    return [Trace()]
+    asks = ("json", "svg", "html", "expect", "strict", "comments", "time", "numbers", "verbose", "model")
+    return options.quiet and not prompts and not any(getattr(options, it) for it in asks)
 
 
 def serve(options: Namespace, begun: float) -> int:
     """Hands the script over, and the replies on to who takes them."""
-    prompts = options.file is None and is_terminal(0) and is_terminal(2)
+    prompts = options.file is None and os.isatty(0) and os.isatty(2)
     program = find_program(options) if needs_no_pairs(options, prompts) else None
     if program:
-        run_alone(program)
-    from tool.converse import Clock, Output, converse, lines_of, pieces_of, pieces_of_input
+        # Becomes the program. Python ignores this signal, and the program gets it as the shell hands it on.
+        signal.signal(signal.SIGPIPE, signal.SIG_DFL)
+        os.execv(program, ["iox"])
+    from tool.converse import Clock, Output, converse, lines_of, pieces_of, read_piece, writer_of
     from tool.notes import Follower, Notes
 
     out, follower, clock = Output(), Follower(), Clock(begun)
-    notes = Notes(out, follower, options, prompts)
-    verdicts, traces = verdicts_of(options, follower), traces_of(options)
-    takers = [follower, *writers_of(options, out, follower), notes, clock, *verdicts, *traces]
+    notes, held = Notes(out, follower, options, prompts), list[Any]()
+    if options.expect or options.strict:
+        from tool.verdicts import Expect, Strict
+
+        held = ([Expect(options.expect, follower)] if options.expect else []) + [Strict()] * options.strict
+    if options.svg or options.html:
+        from tool.trace import Trace
+
+        held.insert(0, Trace(options))
+    # No reply is written if a picture goes to standard output.
+    written = [] if "-" in (options.svg, options.html) else [writer_of(options, out, follower)]
     answers, script = who_answers(options)
-    pieces = pieces_of_input() if script is None else pieces_of(script)
+    pieces = iter(read_piece, b"") if script is None else pieces_of(script)
     if prompts and script is None:
         from tool.prompt import Prompt
 
         pieces = Prompt(follower, notes).lines()
-    status = converse(answers, lines_of(pieces, options.comments), takers, out)
+    takes = [follower.take, *written, notes.take, clock.take, *(it.take for it in held)]
+    status = converse(answers, lines_of(pieces, options.comments), takes, out)
     if options.time:
         clock.tell()
-    for it in traces:
-        it.write(options)
-    for it in verdicts:
+    for it in held:
         it.end()
-    return status or next((it.status for it in verdicts if it.failed), 0)
-
-
-def print_path(options: Namespace):
-    program = None if options.model else find_program(options)
-    if program is None:
-        stop(NOT_BUILT, "the Python model is model/script_model.py" if options.model else "the program couldn't be kept")
-    print(program)
+    return status or next((it.status for it in held if it.failed), 0)
 
 
 def main() -> int:
@@ -165,13 +121,23 @@ def main() -> int:
 
         choose_outputs(options)
     if options.path:
-        print_path(options)
+        program = None if options.model else find_program(options)
+        if program is None:
+            stop(NOT_BUILT, "the Python model is model/script_model.py" if options.model else "the program couldn't be kept")
+        print(program)
         return 0
     return serve(options, begun)
 
 
 def run() -> int:
-    signal.signal(signal.SIGTERM, lambda *_: sys.exit(128 + signal.SIGTERM))
+    # Where a stream is closed another file would get its number: what can't be read or can't be written stands there instead.
+    for number, how in enumerate((os.O_WRONLY, os.O_RDONLY, os.O_WRONLY)):
+        if not os.path.exists(f"/dev/fd/{number}"):
+            os.open(os.devnull, how)
+    sys.stderr = sys.stderr or open(os.devnull, "w")
+    for it in (signal.SIGTERM, signal.SIGHUP):
+        if signal.getsignal(it) == signal.SIG_DFL:
+            signal.signal(it, lambda number, _: sys.exit(128 + number))
     try:
         return main()
     except KeyboardInterrupt:
@@ -180,9 +146,12 @@ def run() -> int:
         # Nobody reads the replies any more.
         os.dup2(os.open(os.devnull, os.O_WRONLY), 1)
         return 1
-    except WriteFault as fault:
+    except Fault as fault:
         print(fault, file=sys.stderr)
         return 1
     except OSError as error:
-        # The folder of what is built can't be written, most likely.
-        stop(NOT_BUILT, f"{error.filename}: {error.strerror}")
+        # The folder of what is built can't be written, or a file of the user's can't be read or written.
+        from tool.sources import OUT, cache
+
+        is_built = str(error.filename).startswith((str(OUT), str(cache())))
+        stop(NOT_BUILT if is_built else NO_INPUT, f"{error.filename}: {error.strerror}")

@@ -10,9 +10,8 @@ sys.path.insert(0, str(Path(__file__).resolve().parent.parent))
 from tool import TOP, VERSION  # first, since it says where the model's modules are
 from script_lines import SETTINGS
 from tool.arguments import ABOUT, STATUSES, parser
-from tool.grammar import MEANINGS, PORT_OPTIONS, VERBS, default_in_words
+from tool.grammar import MEANINGS, PORT_OPTIONS, VERBS, setting_in_words
 
-WITHOUT_PROOFS = "a build of the same sources without proofs, which is made once and kept"
 PAGE, COMPLETION = TOP / "docs" / "iox.1", TOP / "tool" / "completion"
 
 
@@ -33,17 +32,19 @@ def roff(text):
 def manual():
     lines = [f'.TH IOX 1 "" "Kohepuri {VERSION}" "User commands"', ".SH NAME", "iox \\- publish\\-subscribe conversations by lines"]
     lines += [".SH SYNOPSIS", ".B ./iox", "[OPTION ..] [FILE]", ".SH DESCRIPTION", roff(plain(ABOUT))]
-    lines += [roff(f"The proved program answers if it is built, and otherwise {WITHOUT_PROOFS}.")]
+    built = "a build of the same sources without proofs, which is made once and kept"
+    lines += [roff(f"The proved program answers if it is built, and otherwise {built}.")]
     lines += [".SH OPTIONS"]
     for it in options():
-        names = ", ".join(it.option_strings) + (f" {it.metavar}" if it.metavar else "")
+        operand = f"[{it.metavar}]" if it.nargs == "?" else it.metavar
+        names = ", ".join(it.option_strings) + (f" {operand}" if operand else "")
         lines += [".TP", f".B {roff(names)}", roff(it.help)]
     lines += [".SH COMMANDS OF A SCRIPT"]
     for verb in VERBS.values():
         lines += [".TP", f".B {roff(verb.form)}", roff(f"{verb.meaning}: {verb.reply}. {verb.details}".strip())]
     lines += [".SH OPTIONS OF COMMANDS"]
     for pattern, settings in SETTINGS.items():
-        told = ", ".join(f"{key}={default_in_words(default)}" for key, _, default, *_ in settings)
+        told = ", ".join(f"{key}={setting_in_words(default)}" for key, _, default, *_ in settings)
         lines += [".TP", f".B create, open, open_or_create {pattern}", roff(f"options with their defaults: {told}")]
     for verb, kinds in PORT_OPTIONS.items():
         told = "; ".join(f"{key}: {MEANINGS[key]}" for key in kinds)
@@ -56,8 +57,7 @@ def manual():
 
 def excluded(option):
     """The names of the options of an option's group, of which there may be one at most; none where it is in no group."""
-    groups = [it._group_actions for it in parser()._mutually_exclusive_groups]
-    names = [[name for action in group for name in action.option_strings] for group in groups]
+    names = [[name for it in group._group_actions for name in it.option_strings] for group in parser()._mutually_exclusive_groups]
     return next((it for it in names if option.option_strings[0] in it), [])
 
 
@@ -128,11 +128,11 @@ def main():
     differs = False
     written = [(PAGE, manual())] + [(COMPLETION.with_suffix(f".{shell}"), of()) for shell, of in SHELLS.items()]
     for file, text in written:
-        if is_check and (not file.exists() or file.read_text(encoding="utf-8") != text):
-            print(f"{file.relative_to(TOP)} isn't what tool/manual.py writes", file=sys.stderr)
-            differs = True
         if not is_check:
             file.write_text(text, encoding="utf-8")
+        elif not file.exists() or file.read_text(encoding="utf-8") != text:
+            print(f"{file.relative_to(TOP)} isn't what tool/manual.py writes", file=sys.stderr)
+            differs = True
     return int(differs)
 
 

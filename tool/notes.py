@@ -1,23 +1,31 @@
 """What is said of a line on standard error, beside its reply: where it is faulty, why it was skipped, what still uses a factory."""
 from __future__ import annotations
 
+import re
 import sys
 from argparse import Namespace
 from collections import namedtuple
+from functools import cache
 
+from tool import TOP
 from tool.converse import Line, Output
 
 # What is kept of a line to show it: longer lines are faulty anyway.
 SHOWN = 80
 # After so many lines the reason why a line was skipped isn't looked up any more.
 FOLLOWED = 200_000
+# An error's meaning, and what to do, is read from the page of errors, so that both say the same.
+PAGE = TOP / "docs" / "ERRORS.md"
+# The headings under which the errors of builders are, by how the name of their type ends; the longest first.
+HEADINGS = (("OpenOrCreateError", "Opening or creating"), ("CreateError", "Creating"), ("OpenError", "Opening:"))
+Meaning = namedtuple("Meaning", "heading errors when what_to_do")
 
 
-def readable(text: bytes) -> str:
-    """Returns a line as text that is safe to print, cut where it is long."""
-    shown = text[:SHOWN].decode(errors="backslashreplace")
+def readable(text: bytes, most: int = SHOWN) -> str:
+    """Returns a line or a word as text that is safe to print, cut where it is long."""
+    shown = text[:most].decode(errors="backslashreplace")
     shown = "".join(it if it.isprintable() else repr(it)[1:-1] for it in shown)
-    return shown + " .." * (len(text) > SHOWN)
+    return shown + " .." * (len(text) > most)
 
 
 # What is said of a line: the column or the word after its number, the text, and the column if the line is faulty there.
@@ -40,19 +48,58 @@ def about(line: Line, reply: bytes, follower: Follower | None) -> list[Told]:
     return told + ([Told(f", {'skip' if reply.startswith(b'skip') else 'StillInUse'}", why, None)] if why else [])
 
 
+@cache
+def meanings() -> list[Meaning]:
+    """The rows of the page. Where a table has a column for the pattern, it says what the service has in the place of when."""
+    heading, found = "", []
+    for line in PAGE.read_text(encoding="utf-8").splitlines():
+        cells = [it.strip() for it in line.strip("|").split("|")]
+        if line.startswith("#"):
+            heading = line.lstrip("# ")
+        elif line.startswith("| ") and len(cells) == 3 and heading == "Opening: what was asked for and isn't met":
+            wanted = "the same" if cells[2].startswith("another") else "less"
+            found.append(Meaning(heading, cells[1], f"the service has {cells[2]}", f"ask for {wanted}, or open another service"))
+        elif line.startswith("| ") and len(cells) == 3:
+            found.append(Meaning(heading, *cells))
+    return found
+
+
+def fits(it: Meaning, error: str) -> list[bool]:
+    """How well a row fits an error: by its whole name, by the type and the word inside, by the word under the heading of the type."""
+    *outer, word = re.findall(r"\w+", error)
+    kind = outer[-1] if outer else ""
+    heading = next((heading for end, heading in HEADINGS if kind.endswith(end)), None)
+    has_word = re.search(rf"\b{word}`", it.errors) is not None
+    is_below = heading is not None and it.heading.startswith(heading)
+    return [f"`err {error}`" in it.errors, f"{kind}::{word}`" in it.errors, has_word and is_below, has_word]
+
+
+def plain(text: str) -> str:
+    """The text without marks of code and links."""
+    return re.sub(r"\[([^]]*)\]\([^)]*\)", r"\1", text).replace("`", "")
+
+
+def meaning_of(reply: str) -> Meaning | None:
+    """When the error of a reply comes and what to do, by the row that fits it best."""
+    error = reply.partition(" ")[2]
+    best = max(meanings(), key=lambda it: fits(it, error))
+    if not any(fits(best, error)):
+        return None
+    return best._replace(when=plain(best.when), what_to_do=plain(best.what_to_do))
+
+
 def meaning_behind(reply: bytes, told: list[Told]):
     """The row of the page of errors for an error, unless its line is faulty."""
     if not reply.startswith(b"err ") or any(it.column for it in told):
         return None
-    from tool.meanings import meaning_of
-
     return meaning_of(reply.decode("latin-1").rstrip("\n"))
 
 
-def reasons(told: list[Told], meaning) -> list[str]:
-    """What is said of a line, and when its error comes, unless a reason of its own is known."""
-    is_open = meaning and not any(it.where for it in told)
-    return [it.text for it in told] + ([meaning.when] if is_open else [])
+def known(line: Line, reply: bytes, follower: Follower | None):
+    """What is said of a line, the row of its error, and both in words: when the error comes, unless a reason of its own is known."""
+    told = about(line, reply, follower)
+    meaning = meaning_behind(reply, told)
+    return told, meaning, [it.text for it in told] + ([meaning.when] if meaning and not any(it.where for it in told) else [])
 
 
 class Follower:
@@ -106,24 +153,18 @@ class Notes:
         self.hints.update({hint} - {""})
         return text
 
-    def shown(self, line: Line, reply: bytes) -> list[str]:
+    def take(self, line: Line, reply: bytes):
+        if not self.is_asked:
+            return
         told, at = about(line, reply, self.follower), f"{self.who}line {line.number}"
         shown = [f"{at}{it.where}: {self.without_known_hint(it.text)}" for it in told]
         if self.shows_lines and reply.startswith((b"err", b"skip")):
             shown.insert(0, f"{at}: {readable(line.text)}")
-        return shown + (self.meaning(at, reply, told) if self.is_verbose else [])
-
-    def meaning(self, at: str, reply: bytes, told: list[Told]) -> list[str]:
-        """When the error comes, and what to do."""
-        meaning = meaning_behind(reply, told)
-        return [f"{at}: {': '.join(filter(None, (meaning.when, meaning.what_to_do)))}"] if meaning else []
-
-    def take(self, line: Line, reply: bytes):
-        shown = self.shown(line, reply) if self.is_asked else []
-        if self.prompts and not shown:
-            self.last = "\n".join(self.meaning(f"line {line.number}", reply, [])) or self.last
-        if shown:
-            self.last = "\n".join(shown)
-            if not self.is_silent:
-                self.out.flush()
-                print(self.last, file=sys.stderr, flush=True)
+        is_open = self.prompts and not shown
+        meaning = meaning_behind(reply, told) if self.is_verbose or is_open else None
+        means = [f"{at}: {': '.join(filter(None, (meaning.when, meaning.what_to_do)))}"] if meaning else []
+        shown += means * self.is_verbose
+        self.last = "\n".join(shown or means) or self.last
+        if shown and not self.is_silent:
+            self.out.flush()
+            print("\n".join(shown), file=sys.stderr, flush=True)

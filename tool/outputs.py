@@ -1,52 +1,44 @@
 """The files that the launcher writes, so that no other file of the user's is lost by them."""
 from __future__ import annotations
 
+import contextlib
 import os
+import re
 import stat
 import tempfile
 from argparse import Namespace
 from pathlib import Path
 
-from tool.converse import write_all
+from tool.converse import Output
 from tool.progress import MISUSED, NO_INPUT, say, stop
 
-# The options that write a file, with the suffix of its name if none is given, and by what such a file is known.
-KINDS = {"svg": (".svg", "<metadata>Kohepuri ./iox --svg</metadata>"), "html": (".html", 'content="Kohepuri ./iox --html"')}
-MARKS = [mark.encode() for _, mark in KINDS.values()]
-# Within so many bytes a mark is looked for.
+# The options that write a file, with the suffix of its name if none is given, and the line that marks such a file.
+KINDS = {
+    "svg": (".svg", "<metadata>Kohepuri ./iox --svg</metadata>"),
+    "html": (".html", '<meta name="generator" content="Kohepuri ./iox --html">'),
+}
+# How such a file begins. A mark elsewhere says nothing: a file of the user's may quote it, or have a picture in it.
+PICTURE, PAGE = (re.escape(mark) for _, mark in KINDS.values())
+OURS = re.compile(rf'<svg [^>\n]*>\n{PICTURE}\n|<!DOCTYPE html>\n<html lang="en">\n<head>\n(<meta [^>\n]*>\n)*{PAGE}\n'.encode())
+# The beginning has at most so many bytes.
 BEGINNING = 4096
 STANDARD_OUTPUT = "-"
 
 
-def look_at(path: str) -> os.stat_result | None:
-    try:
-        return os.stat(path)
-    except FileNotFoundError:
-        return None
-    except OSError as error:
-        stop(NO_INPUT, f"{path}: {error.strerror}")
-
-
-def is_file_at(number: int, found: os.stat_result) -> bool:
-    return stat.S_ISREG(found.st_mode) and os.path.samestat(found, os.fstat(number))
-
-
-def is_where_replies_go(out: str, found: os.stat_result) -> bool:
-    return os.path.samestat(found, os.fstat(1)) and os.path.realpath(out) != os.devnull
-
-
-def is_replies_file(options: Namespace, found: os.stat_result) -> bool:
-    """Whether it is the file that `--expect` compares with, which is missing perhaps."""
-    return bool(options.expect) and os.path.exists(options.expect) and os.path.samestat(found, os.stat(options.expect))
+def is_at(number: int, found: os.stat_result) -> bool:
+    """Whether a stream of the launcher is this file; a closed one is none."""
+    with contextlib.suppress(OSError):
+        return os.path.samestat(found, os.fstat(number))
+    return False
 
 
 def is_ours(path: str, found: os.stat_result) -> bool:
     """Whether nothing is lost with this file: it is empty, no file on a disk, or a picture or page that was written here."""
     if not stat.S_ISREG(found.st_mode) or not found.st_size:
         return True
-    with open(path, "rb") as file:
-        beginning = file.read(BEGINNING)
-    return any(it in beginning for it in MARKS)
+    with contextlib.suppress(PermissionError), open(path, "rb") as file:
+        return bool(OURS.match(file.read(BEGINNING)))
+    return False
 
 
 def refuse_loss(name: str, out: str, options: Namespace):
@@ -55,29 +47,29 @@ def refuse_loss(name: str, out: str, options: Namespace):
         if it.lower().endswith(".iox"):
             meant = f"`./iox {it} --{name}` writes {Path(it).with_suffix(KINDS[name][0])}"
             stop(MISUSED, f"{out} is a script, so nothing is written there: {meant}")
-    found = look_at(out)
-    if found is None:
+    try:
+        found = os.stat(out)
+    except FileNotFoundError:
         return
-    if is_file_at(0, found):
-        stop(MISUSED, f"{out} is the script itself, so nothing is written there")
-    if is_replies_file(options, found):
-        stop(MISUSED, f"{out} has the expected replies, so nothing is written there")
-    if is_where_replies_go(out, found):
-        stop(MISUSED, f"{out} is where the replies go: `--{name} -` writes to standard output")
-    if is_file_at(2, found):
-        stop(MISUSED, f"{out} is where the messages go, so nothing is written there")
-    if is_ours(out, found):
-        return
-    if not options.names_script:
+    is_plain, replies = stat.S_ISREG(found.st_mode), options.expect
+    # (The file that `--expect` compares with is missing perhaps.)
+    has_replies = bool(replies) and os.path.exists(replies) and os.path.samestat(found, os.stat(replies))
+    for holds, why in (
+        (is_plain and is_at(0, found), "is the script itself, so nothing is written there"),
+        (has_replies, "has the expected replies, so nothing is written there"),
+        (is_at(1, found) and os.path.realpath(out) != os.devnull, f"is where the replies go: `--{name} -` writes to standard output"),
+        (is_plain and is_at(2, found), "is where the messages go, so nothing is written there"),
+    ):
+        if holds:
+            stop(MISUSED, f"{out} {why}")
+    if not is_ours(out, found) and not (options.force and options.names_script):
         meant = f"`./iox {out} --{name}` draws it if it is a script, `./iox - --{name} {out} --force` replaces it"
-        stop(MISUSED, f"{out} exists, and ./iox didn't write it: {meant}")
-    if not options.force:
-        stop(MISUSED, f"{out} exists, and ./iox didn't write it: --force replaces it")
+        stop(MISUSED, f"{out} exists, and ./iox didn't write it: {'--force replaces it' if options.names_script else meant}")
 
 
 def refuse_unwritable(out: str):
     folder = os.path.dirname(os.path.realpath(out))
-    if os.path.isdir(out):
+    if os.path.isdir(out) or out.endswith("/"):
         stop(NO_INPUT, f"{out}: Is a directory")
     if not os.path.isdir(folder):
         stop(NO_INPUT, f"{out}: No such file or directory")
@@ -104,42 +96,42 @@ def choose_outputs(options: Namespace):
         if out != STANDARD_OUTPUT:
             refuse_loss(name, out, options)
             refuse_unwritable(out)
-        place = out if out == STANDARD_OUTPUT else os.path.realpath(out)
+        place, shown = (out, "standard output") if out == STANDARD_OUTPUT else (os.path.realpath(out), out)
         if place in chosen:
-            shown = "standard output" if out == STANDARD_OUTPUT else out
             stop(MISUSED, f"{chosen[place]} and --{name} can't both be written to {shown}")
         chosen[place] = f"--{name}"
 
 
-def put(target: Path, text: str):
-    """Writes a new file beside the target, and gives it the target's name."""
-    with tempfile.NamedTemporaryFile("w", encoding="utf-8", prefix=".iox-", dir=target.parent, delete=False) as fresh:
-        try:
-            fresh.write(text)
-            fresh.close()
-            mask = os.umask(0)
-            os.umask(mask)
-            os.chmod(fresh.name, stat.S_IMODE(target.stat().st_mode) if target.exists() else 0o666 & ~mask)
-            os.replace(fresh.name, target)
-        except BaseException:
-            os.unlink(fresh.name)
-            raise
+def put(target: Path, text: bytes, out: str = ""):
+    """Writes a new file beside the target, and gives it the target's name. A failure names it, or OUT."""
+    fresh = None
+    try:
+        if target.exists() and not target.is_file():
+            target.write_bytes(text)
+            return
+        number, fresh = tempfile.mkstemp(prefix=".iox-", dir=target.parent)
+        with open(number, "wb") as file:
+            file.write(text)
+        mask = os.umask(0)
+        os.umask(mask)
+        os.chmod(fresh, stat.S_IMODE(target.stat().st_mode) if target.exists() else 0o666 & ~mask)
+        os.replace(fresh, target)
+        fresh = None
+    except OSError as error:
+        raise OSError(error.errno, error.strerror, out or str(target)) from None
+    finally:
+        if fresh:
+            os.unlink(fresh)
 
 
 def write_output(name: str, text: str, options: Namespace):
     """Writes what an option asks for. OUT is looked at again, since it may have been made meanwhile."""
     out = getattr(options, name)
     if out == STANDARD_OUTPUT:
-        write_all(bytearray(text.encode()))
-        return
+        output = Output()
+        output.write(text.encode())
+        return output.flush()
     refuse_loss(name, out, options)
-    target = Path(os.path.realpath(out))
-    try:
-        if target.exists() and not target.is_file():
-            target.write_text(text, encoding="utf-8")
-        else:
-            put(target, text)
-    except OSError as error:
-        stop(NO_INPUT, f"{out}: {error.strerror}")
+    put(Path(os.path.realpath(out)), text.encode(), out)
     if not options.quiet:
         say(f"wrote {out}")

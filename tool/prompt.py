@@ -10,21 +10,10 @@ from pathlib import Path
 from script_lines import PATTERNS
 
 from tool import VERSION
+from tool.converse import Fault
 from tool.explain import meant
-from tool.grammar import (
-    LETTERS,
-    PORT_OPTIONS,
-    SERVICE,
-    STEP_VERBS,
-    VERBS,
-    Kind,
-    help_on_all,
-    help_on_option,
-    help_on_verb,
-    options_of,
-    settings_of,
-    values_of,
-)
+from tool.grammar import PORT_OPTIONS, SERVICE, STEP_VERBS, VERBS, Kind, options_of, settings_of, values_of
+from tool.grammar import help_on_all, help_on_option, help_on_verb
 
 PROMPT = "iox> "
 KEPT_LINES = 1000
@@ -68,17 +57,15 @@ class Completion:
         """The names of the services that exist."""
         return sorted({name.decode("latin-1") for _, name in self.follower.catch_up().machine.names.phases})
 
-    def of_options(self, verb: str, pattern: str | None, words: list[str], begun: str) -> list[str]:
-        kinds = options_of(verb, pattern)
+    def of_options(self, kinds: dict, words: list[str], begun: str) -> list[str]:
         key, equals, _ = begun.partition("=")
         if equals and key in kinds:
             return [f"{key}={it}" for it in values_of(kinds[key])]
-        given = {it.partition("=")[0] for it in words}
-        return [f"{it}=" for it in kinds if it not in given]
+        return [f"{it}=" for it in kinds if it not in {word.partition("=")[0] for word in words}]
 
     def of_kind(self, kind: Kind, verb: str, words: list[str], begun: str) -> list[str]:
-        if kind in LETTERS:
-            return self.living(LETTERS[kind])
+        if kind.letters:
+            return self.living(kind.letters)
         if kind is Kind.PATTERN:
             return list(PATTERNS)
         if kind is Kind.NAME:
@@ -86,7 +73,7 @@ class Completion:
         if kind is Kind.STEPS:
             return [f"{it}:x" for it in STEP_VERBS]
         pattern = words[2] if VERBS[verb].operands == SERVICE and len(words) > 2 else None
-        return self.of_options(verb, pattern, words, begun)
+        return self.of_options(options_of(verb, pattern), words, begun)
 
     def candidates(self, line: str) -> list[str]:
         """What the last word of a line may become."""
@@ -113,9 +100,6 @@ class Prompt:
 
     def tell(self, text: str):
         print(text, file=sys.stderr, flush=True)
-
-    def greet(self):
-        self.tell(f"Kohepuri {VERSION}: one command a line; `help` lists them, Tab completes, Ctrl-D ends")
 
     def begin(self):
         """Uses readline, if both ends are a terminal and Python has it."""
@@ -148,11 +132,16 @@ class Prompt:
 
     def read(self) -> bytes | None:
         """The next line with its newline, or what there is of it at the end of the input; None at the end."""
-        if self.readline:
-            # A word that was completed has a space after it, which would make the line faulty.
-            return os.fsencode(input(PROMPT).strip(" ")) + b"\n"
-        print(PROMPT, end="", file=sys.stderr, flush=True)
-        return sys.stdin.buffer.readline() or None
+        try:
+            if self.readline:
+                # A word that was completed has a space after it, which would make the line faulty.
+                return os.fsencode(input(PROMPT).strip(" ")) + b"\n"
+            print(PROMPT, end="", file=sys.stderr, flush=True)
+            return sys.stdin.buffer.readline() or None
+        except EOFError:
+            return None
+        except OSError:
+            raise Fault("read fault") from None
 
     def answer(self, line: str) -> bool:
         """Answers a line that is the prompt's own, and returns whether it was."""
@@ -177,26 +166,19 @@ class Prompt:
         return True
 
     def lines(self) -> Iterator[bytes]:
-        self.greet()
+        self.tell(f"Kohepuri {VERSION}: one command a line; `help` lists them, Tab completes, Ctrl-D ends")
         self.begin()
         try:
             while True:
                 try:
                     line = self.read()
-                except EOFError:
-                    line = None
                 except KeyboardInterrupt:
                     self.tell("" if self.readline else "^C")
                     continue
-                except OSError:
-                    from tool.converse import ReadFault
-
-                    raise ReadFault from None
+                text = (line or b"").decode(errors="replace").strip()
                 if line is None:
                     self.tell("")
-                    return
-                text = line.decode(errors="replace").strip()
-                if text in ("exit", "quit"):
+                if line is None or text in ("exit", "quit"):
                     return
                 if not self.answer(text):
                     yield line

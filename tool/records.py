@@ -3,8 +3,8 @@ from __future__ import annotations
 
 import json
 
-from tool.converse import Line, Output
-from tool.notes import Follower, about, meaning_behind, reasons
+from tool.converse import Line
+from tool.notes import Follower, known
 
 MADE = "nfpslm"
 
@@ -32,28 +32,14 @@ def said(command: str, reply: str) -> dict:
     return {"kind": kind, "took": int(words[0])} if words else {"kind": kind}
 
 
-def in_strings(record: dict) -> dict:
-    """The record with the numbers of messages as strings, since many readers have no integers above 2^53."""
-    changed = dict(record)
-    if record.get("values") is not None:
-        changed["values"] = [str(it) for it in record["values"]]
-    if record.get("sequence") is not None:
-        changed["sequence"] = str(record["sequence"])
-    return changed
-
-
-class Json:
-    """Writes a line of JSON in the place of each reply."""
-
-    def __init__(self, out: Output, follower: Follower, has_strings: bool):
-        self.out, self.follower, self.has_strings = out, follower, has_strings
-
-    def take(self, line: Line, reply: bytes):
-        command, text = line.text.decode(errors="backslashreplace"), reply.decode("latin-1").rstrip("\n")
-        record = {"line": line.number, "command": command, "reply": text, **said(command, text)}
-        told = about(line, reply, self.follower)
-        meaning = meaning_behind(reply, told)
-        parts = {"column": next((it.column for it in told), None), "why": reasons(told, meaning)}
-        parts["advice"] = meaning.what_to_do if meaning else None
-        record.update({key: it for key, it in parts.items() if it})
-        self.out.write(json.dumps(in_strings(record) if self.has_strings else record).encode() + b"\n")
+def record_of(line: Line, reply: bytes, follower: Follower, has_strings: bool) -> bytes:
+    """The line of JSON in the place of a reply. Numbers of messages are strings if asked for: many readers have no integers above 2^53."""
+    command, text = line.text.decode(errors="backslashreplace"), reply.decode("latin-1").rstrip("\n")
+    record = {"line": line.number, "command": command, "reply": text, **said(command, text)}
+    if has_strings and record.get("values") is not None:
+        record["values"] = [str(it) for it in record["values"]]
+    if has_strings and record.get("sequence") is not None:
+        record["sequence"] = str(record["sequence"])
+    told, meaning, why = known(line, reply, follower)
+    parts = {"column": next((it.column for it in told), None), "why": why, "advice": meaning.what_to_do if meaning else None}
+    return json.dumps({**record, **{key: it for key, it in parts.items() if it}}).encode() + b"\n"

@@ -56,21 +56,11 @@ def crates_of_program(libraries, name="iox"):
     return list(found)
 
 
-def files_below(folder):
-    """Yields the entries of all files below a folder, which may be missing."""
-    with contextlib.suppress(FileNotFoundError), os.scandir(folder) as entries:
-        for entry in entries:
-            if entry.is_dir(follow_symlinks=False):
-                yield from files_below(entry.path)
-            else:
-                yield entry
-
-
-def sources(crate):
-    """Returns the files that the crate is proved and built from, as entries of their folders. Tests lie in files named `tests.rt`."""
-    found = [it for part in ("src", "specs", "proofs") for it in files_below(f"{TOP}/crates/{crate}/{part}")]
-    found = [it for it in found if it.name.endswith((".rt", ".antt")) and it.name != "tests.rt"]
-    return sorted(found, key=lambda it: it.path)
+def sources(crate) -> list[str]:
+    """Returns the paths of the files that the crate is proved and built from. Tests lie in files named `tests.rt`."""
+    walked = (it for part in ("src", "specs", "proofs") for it in os.walk(f"{TOP}/crates/{crate}/{part}"))
+    found = (f"{folder}/{name}" for folder, _, names in walked for name in names if name != "tests.rt")
+    return sorted(it for it in found if it.endswith((".rt", ".antt")))
 
 
 def toolchain() -> str | None:
@@ -84,23 +74,19 @@ def toolchain() -> str | None:
     return made_of.hexdigest()[:8]
 
 
-def look_of(path: str, it: os.stat_result) -> str:
-    return f"{path} {it.st_size} {it.st_mtime_ns} {it.st_ctime_ns} {it.st_ino}"
-
-
 def looks(crates, found) -> tuple[str, int]:
     """Returns how all files look from outside, in one sum, and when the last of them changed."""
-    files = [(it.path, it.stat()) for crate in crates for it in found[crate]]
-    with contextlib.suppress(OSError):
-        files.append((str(TOP / "crates.txt"), (TOP / "crates.txt").stat()))
-    seen = "\n".join(look_of(*it) for it in files)
-    return hashlib.sha256(seen.encode(errors="surrogateescape")).hexdigest(), max(max(it.st_mtime_ns, it.st_ctime_ns) for _, it in files)
+    paths = [*(path for crate in crates for path in found[crate]), str(TOP / "crates.txt")]
+    seen = [(path, os.stat(path)) for path in paths if os.path.exists(path)]
+    shown = [f"{path} {it.st_size} {it.st_mtime_ns} {it.st_ctime_ns} {it.st_ino}" for path, it in seen]
+    changed = max(max(it.st_mtime_ns, it.st_ctime_ns) for _, it in seen)
+    return hashlib.sha256("\n".join(shown).encode(errors="surrogateescape")).hexdigest(), changed
 
 
 def sum_of_texts(crates, found, lines) -> str:
     """Returns a sum of all sources: those of the program's crates, and their lines of crates.txt."""
     made_of = hashlib.sha256()
-    for file in [Path(it.path) for crate in crates for it in found[crate]]:
+    for file in [Path(it) for crate in crates for it in found[crate]]:
         with contextlib.suppress(FileNotFoundError):
             made_of.update(f"{file.name} {hashlib.sha256(file.read_bytes()).hexdigest()}\n".encode())
     made_of.update(repr([lines[it] for it in crates]).encode())

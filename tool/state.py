@@ -6,6 +6,8 @@ from typing import Any
 from script_lines import SETTINGS
 from script_model import Life, Machine
 
+from tool.grammar import setting_in_words
+
 KINDS = {"n": "node", "f": "factory", "p": "publisher", "s": "subscriber", "l": "loan", "m": "sample"}
 
 
@@ -45,10 +47,6 @@ def service_name(factory) -> str:
     return f"{factory.service[0]} {text_of(factory.service[1])}"
 
 
-def setting(value) -> str:
-    return "off" if value is None else str(int(value))
-
-
 def services(watched: Watched) -> list[dict]:
     """Each service with its settings, its nodes, and the factories by which the script has it open."""
     factories = watched.living("f")
@@ -57,7 +55,7 @@ def services(watched: Watched) -> list[dict]:
         told: dict = {"pattern": pattern, "name": text_of(name)}
         if isinstance(phase, Life):
             told["phase"] = f"emptied by {node_name(phase.emptied_by)}" if phase.emptied_by else "open"
-            told["settings"] = {key: setting(phase.agreed[key]) for key, *_ in SETTINGS[pattern]}
+            told["settings"] = {key: setting_in_words(phase.agreed[key]) for key, *_ in SETTINGS[pattern]}
             told["attributes"] = [f"{text_of(key)}={text_of(value)}" for key, value in phase.attributes]
             told["nodes"] = [node_name(it) for it, _ in phase.nodes]
             told["factories"] = [own for own, it in factories if it.life is phase]
@@ -67,24 +65,18 @@ def services(watched: Watched) -> list[dict]:
     return found
 
 
-def publishers(watched: Watched) -> list[dict]:
-    found = []
-    for name, it in watched.living("p"):
-        waits_for = watched.name(it.blocked.left[0].subscriber) if it.blocked and it.blocked.left else None
-        found.append(
-            {
-                "name": name,
-                "factory": watched.name(it.factory),
-                "service": service_name(it.factory),
-                "slots": it.slots,
-                "used": len(it.in_use()),
-                "last_sequence": it.last_sequence,
-                "history": [list(message.values) for message in it.history],
-                "loans": [watched.name(loan) for loan in it.loans if id(loan) in watched.names],
-                "blocked": waits_for,
-            }
-        )
-    return found
+def publisher(watched: Watched, name: str, it) -> dict:
+    return {
+        "name": name,
+        "factory": watched.name(it.factory),
+        "service": service_name(it.factory),
+        "slots": it.slots,
+        "used": len(it.in_use()),
+        "last_sequence": it.last_sequence,
+        "history": [list(message.values) for message in it.history],
+        "loans": [watched.name(loan) for loan in it.loans if id(loan) in watched.names],
+        "blocked": watched.name(it.blocked.left[0].subscriber) if it.blocked and it.blocked.left else None,
+    }
 
 
 def mailboxes(watched: Watched, subscriber) -> list[dict]:
@@ -96,7 +88,6 @@ def mailboxes(watched: Watched, subscriber) -> list[dict]:
         {
             "publisher": watched.name(it.publisher),
             "left": it.publisher.has_left,
-            "attached": it.is_attached,
             "waiting": [list(message.values) for message in it.waiting],
             "held": [held.get(id(message), "m?") for message in it.borrowed],
         }
@@ -104,47 +95,29 @@ def mailboxes(watched: Watched, subscriber) -> list[dict]:
     ]
 
 
-def subscribers(watched: Watched) -> list[dict]:
-    return [
-        {
-            "name": name,
-            "factory": watched.name(it.factory),
-            "service": service_name(it.factory),
-            "buffer": it.buffer,
-            "borrowed": it.most_borrowed,
-            "mailboxes": mailboxes(watched, it),
-        }
-        for name, it in watched.living("s")
-    ]
+def subscriber(watched: Watched, name: str, it) -> dict:
+    of = {"factory": watched.name(it.factory), "service": service_name(it.factory)}
+    return {"name": name, **of, "buffer": it.buffer, "borrowed": it.most_borrowed, "mailboxes": mailboxes(watched, it)}
+
+
+def loan(watched: Watched, name: str, it) -> dict:
+    values = None if it.message.values is None else list(it.message.values)
+    return {"name": name, "publisher": watched.name(it.message.publisher), "values": values}
+
+
+def sample(watched: Watched, name: str, it) -> dict:
+    ends = {"subscriber": watched.name(it.connection.subscriber), "publisher": watched.name(it.message.publisher)}
+    return {"name": name, **ends, "sequence": it.message.sequence, "values": list(it.message.values)}
 
 
 def snapshot(watched: Watched) -> dict:
     """All that lives, as plain values."""
+    told = {"publishers": publisher, "subscribers": subscriber, "loans": loan, "samples": sample}
     return {
         "nodes": [name for name, _ in watched.living("n")],
         "services": services(watched),
         "factories": [{"name": name, "node": node_name(it.node), "service": service_name(it)} for name, it in watched.living("f")],
-        "publishers": publishers(watched),
-        "subscribers": subscribers(watched),
-        "loans": [
-            {
-                "name": name,
-                "publisher": watched.name(it.message.publisher),
-                "length": it.length,
-                "values": None if it.message.values is None else list(it.message.values),
-            }
-            for name, it in watched.living("l")
-        ],
-        "samples": [
-            {
-                "name": name,
-                "subscriber": watched.name(it.connection.subscriber),
-                "publisher": watched.name(it.message.publisher),
-                "sequence": it.message.sequence,
-                "values": list(it.message.values),
-            }
-            for name, it in watched.living("m")
-        ],
+        **{kind: [of(watched, *it) for it in watched.living(kind[0] if kind != "samples" else "m")] for kind, of in told.items()},
     }
 
 
@@ -177,14 +150,10 @@ def service_told(it: dict) -> list[str]:
 
 def publisher_told(it: dict) -> str:
     parts = [f"{it['name']} of {it['factory']}, {it['service']}: {it['used']} of {it['slots']} slots in use"]
-    if it["last_sequence"] is not None:
-        parts.append(f"last number {it['last_sequence']}")
-    if it["history"]:
-        parts.append(f"history {' '.join(map(values_shown, it['history']))}")
-    if it["loans"]:
-        parts.append(f"loans {' '.join(it['loans'])}")
-    if it["blocked"]:
-        parts.append(f"waits at the full mailbox of {it['blocked']}")
+    parts += [f"last number {it['last_sequence']}"] * (it["last_sequence"] is not None)
+    parts += [f"history {' '.join(map(values_shown, it['history']))}"] * bool(it["history"])
+    parts += [f"loans {' '.join(it['loans'])}"] * bool(it["loans"])
+    parts += [f"waits at the full mailbox of {it['blocked']}"] * bool(it["blocked"])
     return "; ".join(parts)
 
 

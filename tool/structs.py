@@ -8,6 +8,8 @@ import re
 from dataclasses import dataclass
 from pathlib import Path
 
+from tool.outputs import put
+
 # The first words of each file that this writes: no other file is written over.
 WRITTEN = "//! Written by `vendor --struct`"
 PRELUDE = "Rattle.std.specs.Prelude"
@@ -32,6 +34,11 @@ IMPORTS = {
 
 class NotTaken(Exception):
     """Why a file isn't taken, with the number of its line."""
+
+
+def refuse(holds, why: str):
+    if holds:
+        raise NotTaken(why)
 
 
 @dataclass(frozen=True)
@@ -190,8 +197,7 @@ def read_fields(inside: str, line: int) -> tuple[Field, ...]:
         if not found:
             raise NotTaken(f"line {at}: expected a field such as `pub x: f64`, not `{part.strip()}`")
         name, kind = found[2], found[3].strip()
-        if not found[1]:
-            raise NotTaken(f"line {at}: {name} is private; write `pub(crate) {name}`, as what is written is another module")
+        refuse(not found[1], f"line {at}: {name} is private; write `pub(crate) {name}`, as what is written is another module")
         array = re.fullmatch(r"\[\s*(\w+)\s*;\s*([1-9]\d*)\s*\]", kind)
         element, count = (array[1], int(array[2])) if array else (kind, None)
         if element not in KINDS or (count or 0) > MOST:
@@ -207,19 +213,14 @@ def read_structs(text: str) -> list[Struct]:
     for it in STRUCT.finditer(plain):
         attributes, name, opening = it.groups()
         line = plain[: it.start(2)].count("\n") + 1
-        if opening != "{":
-            raise NotTaken(f"line {line}: {name} has no named fields, or it has type parameters")
+        refuse(opening != "{", f"line {line}: {name} has no named fields, or it has type parameters")
         inside, brace, _ = plain[it.end() :].partition("}")
-        if not brace:
-            raise NotTaken(f"line {line}: {name} has no closing brace")
+        refuse(not brace, f"line {line}: {name} has no closing brace")
         fields = read_fields(inside, plain[: it.end()].count("\n") + 1)
-        if not fields:
-            raise NotTaken(f"line {line}: {name} has no fields")
-        if not re.search(r"\bCopy\b", attributes):
-            raise NotTaken(f"line {line}: {name} isn't `Copy`; write `#[derive(Clone, Copy)]` above it")
+        refuse(not fields, f"line {line}: {name} has no fields")
+        refuse(not re.search(r"\bCopy\b", attributes), f"line {line}: {name} isn't `Copy`; write `#[derive(Clone, Copy)]` above it")
         structs.append(Struct(name, fields))
-    if not structs:
-        raise NotTaken("it has no struct with named fields")
+    refuse(not structs, "it has no struct with named fields")
     return structs
 
 
@@ -329,15 +330,9 @@ def written(module: str, structs: list[Struct]) -> str:
 
 def write_for(source: Path) -> Path:
     """Writes what the structs of a file need into a file beside it, and returns that file."""
-    made = source.with_name(f"{source.stem}_words.rt")
     text = written(source.stem, read_structs(source.read_text(encoding="utf-8")))
+    made = source.with_name(f"{source.stem}_words.rt")
     if made.exists() and not made.read_text(encoding="utf-8").startswith(WRITTEN):
         raise NotTaken(f"{made} exists and wasn't written by `vendor --struct`: move it away")
-    # Written beside it first, so that a full disk leaves the old one.
-    beside = made.with_name(f".vendor-{made.name}")
-    try:
-        beside.write_text(text, encoding="utf-8")
-        beside.replace(made)
-    finally:
-        beside.unlink(missing_ok=True)
+    put(made, text.encode())
     return made

@@ -2,13 +2,15 @@
 from __future__ import annotations
 
 import os
-from argparse import Namespace
 from dataclasses import dataclass, field
+from importlib import import_module
 from pathlib import Path
 
 from script_model import Life
 
 from tool.converse import Line
+from tool.notes import known, readable
+from tool.outputs import write_output
 from tool.progress import say
 from tool.state import Watched, snapshot
 
@@ -75,18 +77,17 @@ class Conversation:
 
 def missed(it: Delivery) -> str:
     """Which messages are missing before one that was received, in words."""
-    if not it.missing:
-        return ""
-    if it.missing == 1:
-        return f"1 message of {it.publisher} is missing before this one"
-    return f"{it.missing} messages of {it.publisher} are missing before this one"
+    how = f"{it.missing} messages of {it.publisher} are" if it.missing > 1 else f"1 message of {it.publisher} is"
+    return f"{how} missing before this one" if it.missing else ""
 
 
 class Trace:
     """Follows a conversation line by line: the replies are those that came, what became of messages is the model's."""
 
-    def __init__(self):
-        self.watched, self.told, self.lines = Watched(), Conversation(), []
+    failed = False
+
+    def __init__(self, options=None):
+        self.options, self.watched, self.told, self.lines = options, Watched(), Conversation(), []
         # By the number of the object: each message that was sent with its row, each connection with what waits or is held there.
         self.sent, self.links = {}, {}
         # By the connection: the number of the message that was received there last.
@@ -94,8 +95,6 @@ class Trace:
         self.living, self.under_way = {}, {}
 
     def take(self, line: Line, reply: bytes):
-        from tool.notes import readable
-
         if len(self.told.rows) == MOST_ROWS:
             self.told.is_cut = True
             return
@@ -109,24 +108,19 @@ class Trace:
 
     def note(self, line: Line, reply: bytes) -> str:
         """Has the model answer the line, and returns what is said of it."""
-        from tool.notes import about, meaning_behind, reasons
-
         model = self.watched.answer(line.text)
         if model.encode("latin-1") != reply.rstrip(b"\n"):
             return f"the Python model answers {model!r}"
-        told, reason = about(line, reply, None), self.watched.machine.reason
-        return "; ".join([reason] if reason else reasons(told, meaning_behind(reply, told)))
+        return self.watched.machine.reason or "; ".join(known(line, reply, None)[2])
 
     def follow_lives(self, row: int):
-        for letter in "nfpsl":
-            now = dict(self.watched.living(letter))
-            for name in now:
-                if name not in self.living:
-                    self.living[name] = Lifeline(name, row)
-                    self.told.lifelines.append(self.living[name])
-            for name, life in self.living.items():
-                if name[0] == letter and name not in now and life.last is None:
-                    life.last = row
+        now = {name for letter in "nfpsl" for name, _ in self.watched.living(letter)}
+        for name in sorted(now - self.living.keys()):
+            self.living[name] = Lifeline(name, row)
+            self.told.lifelines.append(self.living[name])
+        for name, life in self.living.items():
+            if life.last is None and name not in now:
+                life.last = row
 
     def connections(self):
         """All connections that there are: those of services, of ports, and of samples that are held."""
@@ -166,10 +160,9 @@ class Trace:
 
     def delivery(self, link, message, row: int) -> Delivery:
         origin = self.sent.setdefault(id(message), (row, message))[0]
-        made = Delivery(list(message.values), origin, self.watched.name(link.publisher), self.watched.name(link.subscriber), row)
-        made.sequence = message.sequence
-        self.told.deliveries.append(made)
-        return made
+        ends = self.watched.name(link.publisher), self.watched.name(link.subscriber)
+        self.told.deliveries.append(Delivery(list(message.values), origin, *ends, row, sequence=message.sequence))
+        return self.told.deliveries[-1]
 
     def follow(self, it: Delivery, is_waiting: bool, is_held: bool, sample: str, row: int):
         if it.received is None and is_held:
@@ -182,7 +175,8 @@ class Trace:
     def sender(self, line: str):
         """The publisher of a line that sends, goes on or gives up."""
         name = line.split(" ")[1]
-        return self.watched.all["p"][int(name[1:]) - 1] if name[0] == "p" else self.watched.all["l"][int(name[1:]) - 1].message.publisher
+        named = self.watched.all[name[0]][int(name[1:]) - 1]
+        return named if name[0] == "p" else named.message.publisher
 
     def note_origin(self, row: int, line: str):
         """Keeps the row of what was just sent, where it is in a mailbox, in the history, or waits."""
@@ -204,19 +198,13 @@ class Trace:
         values = [int(it) for it in words[2:]] if words[0] == "put" else list(self.watched.all["l"][int(words[1][1:]) - 1].message.values)
         self.told.untaken.append(Untaken(values, origin, self.watched.name(publisher), publisher.last_sequence))
 
-    def write(self, options: Namespace):
+    def end(self):
         """Writes the picture and the page that are asked for, and says if the conversation was too long for all of it."""
-        from tool.notes import readable
-        from tool.outputs import write_output
-
+        options = self.options
         title = readable(os.fsencode(Path(options.file).name)) if options.file else "standard input"
         if self.told.is_cut:
             say(f"the picture has the first {MOST_ROWS} lines")
-        if options.svg:
-            from tool.draw import svg
-
-            write_output("svg", svg(self.told, title), options)
-        if options.html:
-            from tool.page import html
-
-            write_output("html", html(self.told, title), options)
+        drawn = import_module("tool.draw")
+        for name in ("svg", "html"):
+            if getattr(options, name):
+                write_output(name, getattr(drawn, name)(self.told, title), options)

@@ -28,9 +28,8 @@ A_LOOK = 0.02
 # The status of `rt try` if the toolchain refuses a crate.
 REFUSED = 1
 LOG = "unproved.log"
-# What `rt try` does, in this order.
-STAGES = ("reading its crates", "compiling", "linking")
-READING, COMPILING, LINKING = range(3)
+# What `rt try` does, in this order, with the files that it has then.
+STAGES: tuple = (("reading its crates", set()), ("compiling", {"module"}), ("linking", {"program", "input"}))
 
 
 def case_to_try(folder: str) -> Path:
@@ -50,9 +49,9 @@ def programs_at_work(folder: str) -> list[Path]:
 def stage(folder: str) -> int:
     """Returns how far `rt try` is, by the files that it has at the moment."""
     with contextlib.suppress(OSError):
-        names = {it.name.partition("-")[0].partition(".")[0] for it in Path(folder).glob("*/*/*")}
-        return LINKING if names & {"program", "input"} else COMPILING if "module" in names else READING
-    return READING
+        names = {re.split("[-.]", it.name)[0] for it in Path(folder).glob("*/*/*")}
+        return max(at for at, (_, files) in enumerate(STAGES) if not at or names & files)
+    return 0
 
 
 def difference_at_first(program: Path) -> str | None:
@@ -104,7 +103,7 @@ def try_once(folder: str, log_file: Path) -> tuple[Path | None, int | None]:
                     return caught, 0
                 now = max(stage(folder), last[0]), round(time.monotonic() - started)
                 if now != last:
-                    progress.tell(f"one build without proofs: {STAGES[now[0]]}, {now[1]} s", is_new=now[0] != last[0])
+                    progress.tell(f"one build without proofs: {STAGES[now[0]][0]}, {now[1]} s", is_new=now[0] != last[0])
                     last = now
                 time.sleep(A_LOOK)
         finally:
@@ -113,20 +112,14 @@ def try_once(folder: str, log_file: Path) -> tuple[Path | None, int | None]:
     return None, tried.returncode
 
 
-@contextlib.contextmanager
-def a_folder(out: Path):
-    """A folder for a build; those that a build left when it was killed are removed, too."""
-    for old in out.glob("trying-*"):
-        shutil.rmtree(old, ignore_errors=True)
-    with tempfile.TemporaryDirectory(prefix="trying-", dir=out) as folder:
-        yield folder
-
-
 def build_and_keep(wanted: Wanted) -> bool:
     """Builds the unproved program and keeps it. Returns whether there was one to keep."""
     started, log = time.monotonic(), wanted.unproved.with_name(LOG)
     say("the program isn't built yet: one build without proofs takes a minute on idle cores, and is kept (`./iox --model` answers at once)")
-    with a_folder(wanted.unproved.parent) as folder:
+    # Those that a build left when it was killed go, too.
+    for old in wanted.unproved.parent.glob("trying-*"):
+        shutil.rmtree(old, ignore_errors=True)
+    with tempfile.TemporaryDirectory(prefix="trying-", dir=wanted.unproved.parent) as folder:
         caught, status = try_once(folder, log)
         if caught is None and status == REFUSED:
             stop(NOT_BUILT, f"the program can't be built: {first_error(log)} ({log} has all of it)")
@@ -156,18 +149,15 @@ def unproved_program(wanted: Wanted) -> Path | None:
     return wanted.unproved
 
 
-def replies_of_one_run(script: bytes) -> tuple[int, bytes]:
-    """Answers a script by a run of `rt try` of its own. Returns the program's status and the replies."""
+def one_run() -> tuple[int, bytes, bytes]:
+    """Answers the whole of standard input by a run of `rt try` of its own. Returns the program's status, the replies and the script."""
+    if os.isatty(0):
+        say("type the script, then Ctrl-D")
+    script = sys.stdin.buffer.read()
     ran = subprocess.run(["rt", "try", "--steps", "1"], cwd=TOP / "crates" / "iox", input=script, capture_output=True)
     ended = re.search(rb"^run=ended status=(\d+) ", ran.stderr, re.M)
     if not ended:
         log = (place() or OUT) / LOG
         log.write_bytes(ran.stderr)
         stop(NOT_BUILT, f"the unproved run came to no end: {first_error(log)} ({log} has all of it)")
-    return int(ended[1]), ran.stdout
-
-
-def read_whole_script() -> bytes:
-    if os.isatty(0):
-        say("type the script, then Ctrl-D")
-    return sys.stdin.buffer.read()
+    return int(ended[1]), ran.stdout, script

@@ -1,26 +1,17 @@
-//! The queues of `iox_queues` beside the same rings in Rust, in one run.
-//!
-//! `queues` times one thread; `queues PATH` also times numbers one way between two threads, taking turns with the
-//! program `PATH`, which is `threads_bench`.
+//! Rings in Rust, beside which the queues of `iox_queues` are counted: `queues count ROW ROUNDS` makes so many rounds of a row, and prints
+//! its name and the sum of what came out. `queues PATH` times numbers one way between two threads, taking turns with the program `PATH`,
+//! which is `threads_bench`.
 use std::hint::{black_box, spin_loop};
 use std::process::Command;
 use std::sync::Arc;
 use std::time::Instant;
 
-unsafe extern "C" {
-    fn plain_rounds(rounds: u64) -> u64;
-    fn plain_overflows(rounds: u64) -> u64;
-    fn shared_rounds(rounds: u64) -> u64;
-    fn shared_over_rounds(rounds: u64) -> u64;
-    fn shared_overflows(rounds: u64) -> u64;
-}
-
-#[path = "../host.rs"]
-mod host;
+#[path = "../counted.rs"]
+mod counted;
 #[path = "../ring.rs"]
 mod ring;
 
-use ring::SharedRing;
+use ring::{AcquireRelease, Order, SequentiallyConsistent, SharedRing};
 
 /// A ring in a `Vec`, for one thread.
 struct Ring {
@@ -96,8 +87,8 @@ fn ring_overflows(rounds: u64) -> u64 {
 }
 
 #[inline(never)]
-fn shared_ring_rounds(rounds: u64) -> u64 {
-    let ring = Arc::new(SharedRing::new(64, 64));
+fn shared_ring_rounds<O: Order>(rounds: u64) -> u64 {
+    let ring = Arc::new(SharedRing::<O>::new(64, 64));
     black_box(&ring);
     for i in 0..32 {
         ring.push(i);
@@ -113,8 +104,8 @@ fn shared_ring_rounds(rounds: u64) -> u64 {
 }
 
 #[inline(never)]
-fn shared_ring_over_rounds(rounds: u64) -> u64 {
-    let ring = Arc::new(SharedRing::new(65, 64));
+fn shared_ring_over_rounds<O: Order>(rounds: u64) -> u64 {
+    let ring = Arc::new(SharedRing::<O>::new(65, 64));
     black_box(&ring);
     for i in 0..32 {
         ring.push_over(i);
@@ -130,8 +121,8 @@ fn shared_ring_over_rounds(rounds: u64) -> u64 {
 }
 
 #[inline(never)]
-fn shared_ring_overflows(rounds: u64) -> u64 {
-    let ring = Arc::new(SharedRing::new(65, 64));
+fn shared_ring_overflows<O: Order>(rounds: u64) -> u64 {
+    let ring = Arc::new(SharedRing::<O>::new(65, 64));
     black_box(&ring);
     let mut sum = 0u64;
     for i in 0..rounds {
@@ -142,34 +133,12 @@ fn shared_ring_overflows(rounds: u64) -> u64 {
     sum
 }
 
-/// Nanoseconds of one round, and the sum that it gave.
-fn time(run: impl FnOnce() -> u64, rounds: u64) -> (f64, u64) {
-    let start = Instant::now();
-    let sum = black_box(run());
-    (start.elapsed().as_nanos() as f64 / rounds as f64, sum)
-}
-
-const TURNS: usize = 31;
-const ROUNDS: u64 = 1_000_000;
-
-/// Both sides in turn, the best of each.
-fn compare((name, ours, theirs): Sides) {
-    let (mut best_ours, mut best_theirs) = (f64::MAX, f64::MAX);
-    for _ in 0..TURNS {
-        let (ours, our_sum) = time(|| unsafe { ours(black_box(ROUNDS)) }, ROUNDS);
-        let (theirs, their_sum) = time(|| theirs(black_box(ROUNDS)), ROUNDS);
-        assert_eq!(our_sum, their_sum, "{name}");
-        best_ours = best_ours.min(ours);
-        best_theirs = best_theirs.min(theirs);
-    }
-    println!("{name:44} {best_ours:6.2} ns  {best_theirs:6.2} ns  {:.2}", best_ours / best_theirs);
-}
-
 const COUNT: u64 = 5_000_000;
+const TURNS: usize = 31;
 
 /// Numbers one way between two threads of this program.
-fn two_threads() -> (u64, f64) {
-    let ring = Arc::new(SharedRing::new(64, 64));
+fn two_threads<O: Order + 'static>() -> (u64, f64) {
+    let ring = Arc::new(SharedRing::<O>::new(64, 64));
     let theirs = Arc::clone(&ring);
     let start = Instant::now();
     let producer = std::thread::spawn(move || {
@@ -211,39 +180,44 @@ fn median(times: &mut [f64]) -> f64 {
     times[times.len() / 2]
 }
 
-/// What is compared: its name, ours and theirs.
-type Sides = (&'static str, unsafe extern "C" fn(u64) -> u64, fn(u64) -> u64);
+const ROWS: [(&str, fn(u64) -> u64); 8] = [
+    ("plain: pop and push: ring in a Vec", ring_rounds),
+    ("plain: push into a full queue: ring in a Vec", ring_overflows),
+    ("shared: pop and push: ring, sequentially consistent", shared_ring_rounds::<SequentiallyConsistent>),
+    ("shared: pop and push: ring, acquire and release", shared_ring_rounds::<AcquireRelease>),
+    ("shared, overflowing: pop and push: ring, sequentially consistent", shared_ring_over_rounds::<SequentiallyConsistent>),
+    ("shared, overflowing: pop and push: ring, acquire and release", shared_ring_over_rounds::<AcquireRelease>),
+    ("shared, overflowing: push into a full queue: ring, sequentially consistent", shared_ring_overflows::<SequentiallyConsistent>),
+    ("shared, overflowing: push into a full queue: ring, acquire and release", shared_ring_overflows::<AcquireRelease>),
+];
+
+/// Prints the quotients of numbers between two threads: of the best of all turns, and of the middle ones.
+fn time(path: &str) {
+    let rings: [(&str, fn() -> (u64, f64)); 2] = [
+        ("ring, sequentially consistent", two_threads::<SequentiallyConsistent>),
+        ("ring, acquire and release", two_threads::<AcquireRelease>),
+    ];
+    let (mut ours, mut theirs) = (Vec::new(), [Vec::new(), Vec::new()]);
+    for _ in 0..TURNS {
+        let (our_sum, our_time) = rattle_threads(path);
+        ours.push(our_time);
+        for (times, (_, ring)) in theirs.iter_mut().zip(rings) {
+            let (their_sum, their_time) = ring();
+            assert_eq!(our_sum, their_sum);
+            times.push(their_time);
+        }
+    }
+    let middle_ours = median(&mut ours);
+    for (mut times, (ring, _)) in theirs.into_iter().zip(rings) {
+        let middle = median(&mut times);
+        println!("two threads, one way, beside {ring}, best: {:.0} ns over {:.0} ns: {:.2}", ours[0], times[0], ours[0] / times[0]);
+        println!("two threads, one way, beside {ring}, middle: {middle_ours:.0} ns over {middle:.0} ns: {:.2}", middle_ours / middle);
+    }
+}
 
 fn main() {
-    let sides: [Sides; 5] = [
-        ("plain: pop and push", plain_rounds, ring_rounds),
-        ("plain: push into a full queue, overflowing", plain_overflows, ring_overflows),
-        ("shared: pop and push", shared_rounds, shared_ring_rounds),
-        ("shared, overflowing: pop and push", shared_over_rounds, shared_ring_over_rounds),
-        ("shared: push into a full queue, overflowing", shared_overflows, shared_ring_overflows),
-    ];
-    let counted = |(name, ours, theirs): Sides| {
-        [host::row(format!("{name}: ours"), move |n| unsafe { ours(n) }), host::row(format!("{name}: Rust"), theirs)]
-    };
-    if host::is_counted(sides.into_iter().flat_map(counted)) {
+    if counted::row(ROWS.len(), |row, rounds| (ROWS[row].0.to_string(), ROWS[row].1(rounds))) {
         return;
     }
-    println!("{:44} {:>9}  {:>9}  quotient", "", "Rattle", "Rust");
-    sides.into_iter().for_each(compare);
-    let Some(path) = std::env::args().nth(1) else {
-        return;
-    };
-    let (mut ours, mut theirs) = (Vec::new(), Vec::new());
-    for _ in 0..TURNS {
-        let (our_sum, our_time) = rattle_threads(&path);
-        let (their_sum, their_time) = two_threads();
-        assert_eq!(our_sum, their_sum);
-        ours.push(our_time);
-        theirs.push(their_time);
-    }
-    let (middle_ours, middle_theirs) = (median(&mut ours), median(&mut theirs));
-    let name = "two threads, one way: best";
-    println!("{name:44} {:6.2} ns  {:6.2} ns  {:.2}", ours[0], theirs[0], ours[0] / theirs[0]);
-    let name = "two threads, one way: middle";
-    println!("{name:44} {middle_ours:6.2} ns  {middle_theirs:6.2} ns  {:.2}", middle_ours / middle_theirs);
+    time(&std::env::args().nth(1).expect("the path of threads_bench"));
 }

@@ -14,8 +14,8 @@ from cases.kit import COMMANDS, Differs, case, case_of_program, expect
 
 # Lines that take more instructions are counted only after the least number of times and the most.
 FEW = 20_000
-# So much more than its first figure may a line take that has no reason to; and than its figure in the table. Those figures are of a
-# build without proofs that is near to the proved one.
+# So much more than its first figure may a line take that has no reason to; and than its figure in the table, which is of the
+# proved program.
 GROWTH, MARGIN = 1.15, 1.15
 # What is known to grow is mended once it grows by less than this.
 GONE = 1.05
@@ -23,6 +23,21 @@ GONE = 1.05
 KEPT = 16_384
 # How many places a set, a ring or a container has.
 CAPACITIES = (10, 10_000)
+# A domain that is taken out of its hub and put back after so many messages, of which some wait and one is held.
+PUT_BACK = """\
+a domain that is put back
+hub
+node
+create n1 ps A
+publisher f1
+subscriber f1
+{n} times put p1 3; receive s1; release m#
+put p1 4
+receive s1
+put p1 5
+measure take 1
+measure put
+"""
 # What two sensors and two displays ask for in all, and the most bytes in use.
 IN_THREADS = counting.Counted(steps=0, requests=83, in_use=0, most=15_400)
 
@@ -194,6 +209,14 @@ def a_call_takes_no_more_at_a_larger_capacity():
     wrong = judge_capacity(few, many)
     if wrong or not few:
         raise Differs("; ".join(wrong) or "no line is measured")
+
+
+@case
+def a_domain_is_taken_out_and_put_back_without_a_request_for_memory():
+    for times in (10, 10_000):
+        for (line, counted), said in zip(measured("memory", PUT_BACK.replace("{n}", str(times))), ("take 1", "put"), strict=True):
+            note(f"{line}: {counted.requests:,} requests for memory after {times:,} messages")
+            expect((line, counted.requests), (f"measure {said} -> true", 0))
 
 
 # ---- threads

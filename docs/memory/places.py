@@ -1,4 +1,5 @@
-"""The places where a library's source makes an out of memory that no callee has answered, each with what it is made under."""
+"""The places where a library's source makes an out of memory that no callee has answered, each with what it is made under; and those where
+it asks for an amount of memory that isn't plainly what is there."""
 
 import re
 from dataclasses import dataclass
@@ -9,6 +10,14 @@ from memory.tokens import leaves, shown, tree
 WORDS = {"AllocError", "OutOfMemory", "NoMemory", "AllocFailed", "NoRoom", "RanOut"}
 CONSTANT = re.compile(r"\b[A-Z][A-Z0-9_]+\b")
 LOCAL = re.compile(r"(?<![.:\w])[a-z_]\w*\b(?![(!:])")
+# What asks an allocator for an amount, by its name; what an amount has that isn't plainly what is there; and how much is a few.
+REQUESTS = {"with_capacity", "reserve", "reserve_exact", "resize", "vec!"}
+COMPUTED, FEW = re.compile(r"\b(?:if|match)\b|MAX\b|<<|(?<=[\w)\]]) \* |\bpow\b"), 64
+# The calls that an amount may have: their contracts say what they answer.
+AMOUNTS = set("acts allocator as_slice capacity checked_add checked_mul clone ended_pops ended_pushes ends idle len ok_or".split())
+AMOUNTS |= set("publishers resting room saturating_sub subscribers value_of words words_ending".split())
+CALL = re.compile(r"\b[a-z_]\w*(?=\()")
+NUMBER = re.compile(r"(?<![\w.])0x[\da-f_]+|(?<![\w.])\d[\d_]*")
 # What goes on with a statement behind a block of it, and what says that braces are a pattern's.
 GOES_ON = set("else . ? , ; ) => as && || == != = | + - in".split())
 IN_PATTERN = {"=", "|", "in"}
@@ -49,9 +58,10 @@ def upto(nodes, at, signs):
 class Body:
     """The body of a function, gone over from its first statement to its last."""
 
-    def __init__(self, text, makers=()):
-        # What stands for out of memory here, and what does so where it is called.
-        self.words, self.makers, self.found, self.lets = {*WORDS}, makers, [], {}
+    def __init__(self, text, makers=(), words=frozenset()):
+        # What means out of memory, what stands for it here, and what does so where it is called.
+        self.meanings, self.words, self.makers = WORDS | words, WORDS | words, makers
+        self.found, self.asked, self.lets = [], [], {}
         self.block(tree(text).inside, ())
 
     def block(self, nodes, under, ends=(";",)):
@@ -122,6 +132,7 @@ class Body:
     def group(self, nodes, at, under):
         """Goes over what stands in brackets, and returns whether out of memory is made there, outside of braces."""
         inside = nodes[at].inside
+        self.request(nodes, at, under)
         if at and nodes[at - 1].text == "matches!":
             inside = inside[: upto(inside, 0, (",",))]
         before, self.found = self.found, []
@@ -130,6 +141,12 @@ class Body:
         # What stands in braces has its own conditions; the rest is the statement's.
         self.found += [it for it in inner if it.under != under]
         return any(it.under == under for it in inner)
+
+    def request(self, nodes, at, under):
+        """Notes a call that asks for an amount of memory, or that hands one on beside the allocator."""
+        name = nodes[at - 1].text if at else ""
+        if name in REQUESTS or re.match(r"\w", name) and any(it.text == "alloc" for it in nodes[at].inside):
+            self.asked.append(Place(shown(nodes[at - 1 : at + 1]), under))
 
     def is_made(self, nodes, at):
         """Whether a node is an out of memory as a value: no type's argument, and not what is compared with."""
@@ -147,10 +164,10 @@ class Body:
         """Whether all that a pattern takes is an out of memory that was answered."""
         texts = list(leaves(pattern))
         texts = texts[: texts.index("if")] if "if" in texts else texts
-        return "|" not in texts and not WORDS.isdisjoint(texts)
+        return "|" not in texts and not self.meanings.isdisjoint(texts)
 
     def note(self, statement, makes):
-        """Notes what a `let` or an assignment says of a name. A name of out of memory as a value stands for it from here on."""
+        """Notes what a `let`, an assignment or a constant says of a name. A name of out of memory as a value stands for it from here on."""
         texts = [it.text for it in statement[:2]]
         if texts[:1] == ["let"]:
             equal = upto(statement, 0, ("=",))
@@ -158,19 +175,37 @@ class Body:
                 self.lets.setdefault(it, []).append(shown(statement))
                 if makes and statement[-1].text != "?" and LOCAL.fullmatch(it):
                     self.words.add(it)
+        elif texts[:1] in (["const"], ["static"], ["use"]):
+            for it in {*filter(CONSTANT.fullmatch, leaves(statement))}:
+                self.lets.setdefault(it, []).append(shown(statement))
         elif texts[1:] in (["="], ["|="], ["+="]) and LOCAL.fullmatch(texts[0]):
             self.lets.setdefault(texts[0], []).append(shown(statement))
 
     def places(self, constants):
         """The places with what the names of their conditions are: those of locals, and those of constants with what these name."""
-        return [Place(it.made, it.under, self.names(it, constants)) for it in self.found]
+        made = [Place(it.made, it.under, self.names(it, constants)) for it in self.found]
+        return made + [Place(it.made, it.under, self.names(it, constants)) for it in self.asked if not self.is_plain(it)]
+
+    def is_plain(self, place):
+        """Whether a request is made on each way through the function, for no more than what is there, or a few."""
+        lines, names = [place.made], LOCAL.findall(place.made)
+        is_by_name = re.match(r"[\w!]+", place.made)[0] in REQUESTS
+        while names and is_by_name:
+            more = [it for it in self.lets.get(names.pop(0), []) if it not in lines]
+            lines += more
+            names += [name for it in more for name in LOCAL.findall(it)]
+        if is_by_name and (any(re.match("if|match", it) for it in place.under) or {*CALL.findall(" ".join(lines))} - AMOUNTS - REQUESTS):
+            return False
+        return not any(COMPUTED.search(it) or any(int(number, 0) > FEW for number in NUMBER.findall(it)) for it in lines)
 
     def names(self, place, constants):
-        text = " ".join([*place.under, place.made * (not place.under and place.made.endswith("?"))])
+        is_told = place in self.asked or not place.under and place.made.endswith("?")
+        text = " ".join([*place.under, place.made * is_told])
         lines = [line for name in LOCAL.findall(text) for line in self.lets.get(name, []) if line.partition(" else {")[0] not in text]
         asked = CONSTANT.findall(" ".join([text, *lines]))
         while asked:
-            for line in constants.get(asked.pop(0), []):
+            name = asked.pop(0)
+            for line in [*constants.get(name, []), *self.lets.get(name, [])]:
                 if line not in lines:
                     lines.append(line)
                     asked += CONSTANT.findall(line.partition("=")[2])

@@ -12,11 +12,15 @@ from memory.tokens import leaves, tree
 
 TOP = Path(__file__).resolve().parent.parent.parent
 MACRO = re.compile(r"(?ms)^macro_rules! (\w+) \{\n(.*?)^\}\n")
+# What an out of memory is called in a file that brings it in under another name.
+OTHER_NAME = re.compile(rf"\b(?:{'|'.join(sorted(WORDS))})\s+as\s+(\w+)")
 CALL = re.compile(r"\b([a-z_]\w*)(?=\()")
 # So many functions of a name at most are told by a sum: a name that more of them have says nothing.
 MOST_ALIKE = 3
 # Functions that answer out of memory whatever they are asked: who calls one makes it.
 MAKERS = {"create_lacking", "open_lacking", "either_lacking", "lacking", "lacking_create", "lacking_either", "lack"}
+# A parameter that carries the errors of out of memory.
+CARRIER = re.compile(r"(\w+): Lacking<")
 # What a call answers that found no memory, where that is no error: an error type of its own, and what it was given.
 IS_ERROR = re.compile(r"(Error|Failure|Refusal|Fail)\b|^(u64|usize|E|AttributeKey)$")
 OTHER_ANSWERS = {"Attempt", "NotClosed", "DomainIsForeign", "PortCommand", "BlockedSend", "Named", "SampleMut", "StillLanes", "Refused"}
@@ -39,7 +43,7 @@ def functions(items, owner=""):
 def constants(items):
     """The constants of items, as (NAME, `NAME = VALUE`)."""
     for it in items:
-        if it.kind == "const":
+        if it.kind in ("const", "static"):
             yield it.name, f"{it.name} = {' '.join(it.head.partition('=')[2].split()).rstrip(';')}"
         yield from constants(it.members)
 
@@ -72,13 +76,19 @@ class Crate:
     """The files of a crate: their functions, macros and constants."""
 
     def __init__(self, texts):
-        self.functions, self.macros, self.constants = {}, {}, defaultdict(list)
+        self.functions, self.macros, self.constants, self.words = {}, {}, defaultdict(list), {}
         for file, text in texts.items():
+            self.words[file] = {*OTHER_NAME.findall(text)}
             items = read_items(MACRO.sub("", text).splitlines())
             self.functions[file] = [*functions(items)]
             self.macros[file] = MACRO.findall(text)
             for name, line in constants(items):
                 self.constants[name].append(line)
+
+    @functools.cached_property
+    def lacking(self):
+        """The constants that have an out of memory."""
+        return {name for name, lines in self.constants.items() if not WORDS.isdisjoint(re.findall(r"\w+", " ".join(lines)))}
 
     @functools.cached_property
     def deciding(self):
@@ -105,10 +115,11 @@ class Crate:
             if re.search(r"::from$", name) and "AllocError" in it.head:
                 continue
             makers = MAKERS | {"Err"} if gives_back(it.head) else MAKERS
-            for place in Body("\n".join(it.inside), makers).places(self.constants):
+            words = self.lacking | self.words[file] | {*CARRIER.findall(it.head)}
+            for place in Body("\n".join(it.inside), makers, words).places(self.constants):
                 yield name, Place(place.made, place.under, (*place.names, *self.decided(place)))
         for name, text in self.macros[file]:
-            for place in Body(text).places(self.constants):
+            for place in Body(text, words=self.lacking | self.words[file]).places(self.constants):
                 yield f"{name}!", place
 
 

@@ -55,7 +55,7 @@ def lines_by_crate(rows: dict[str, Row]) -> list[str]:
 def written() -> str:
     """The page as the table has it."""
     rows, text = table.read(), PAGE.read_text(encoding="utf-8")
-    lines = ["## Tried in each gate", "", *lines_of_gate(rows), "", "## By crate", "", *lines_by_crate(rows), ""]
+    lines = ["## Listed for each gate", "", *lines_of_gate(rows), "", "## By crate", "", *lines_by_crate(rows), ""]
     through = sorted(row.key for row in rows.values() if row.how not in table.HELD)
     if through:
         lines += ["## Held by nothing", "", *(f"- `{key}`: {fallen(rows[key])}" for key in through), ""]

@@ -1,10 +1,10 @@
 -- What a node hears, compared with what was sent.
-use Rattle.std.specs.Prelude.{ℕ, ◌≡◌, Bool, List, Option, None, Some, option_map}
+use Rattle.std.specs.Prelude.{ℕ, ◌≡◌, List, Option, None, Some, option_map}
 use Rattle.iox_hub.specs.Domain.declared.domain_id.DomainId.{DomainId}
 use Rattle.iox_hub.specs.Domain.declared.ports.service_ports.ServicePorts.{ServicePorts}
 use Rattle.iox_hub.specs.DomainPorts.Messages.{Message}
 use Rattle.iox_hub.specs.Delivery.Holding.{message_found}
-use Rattle.iox_hub.specs.Delivery.Subscribing.{DropsSample}
+use Rattle.iox_hub.specs.Delivery.Subscribing.{ReleasesSample}
 use Rattle.iox_hub.specs.Delivery.declared.sample.Sample.{Sample}
 use Rattle.example_bus.specs.declared.bus.Heard.{Heard}
 
@@ -25,5 +25,4 @@ as_received (Some sample) ports = option_map as_sent (message_found sample.taken
 abbrev pub LetsGo : {K H : Type 0} → (DomainId → H → Option (ServicePorts ℕ ℕ)) → (DomainId → ServicePorts ℕ ℕ → H → H)
     → Option (Sample ℕ ℕ K) → H → H → Type 0
 LetsGo ports_of with_ports None old new = new ≡ old
-LetsGo ports_of with_ports (Some sample) old new = (released : Bool)
-    × DropsSample ports_of with_ports sample.port sample.taken old released new
+LetsGo ports_of with_ports (Some sample) old new = ReleasesSample ports_of with_ports sample.port sample.taken old new

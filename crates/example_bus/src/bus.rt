@@ -24,7 +24,7 @@ pub struct Heard {
     pub values: Vec<u64>,
 }
 
-/// A node opens the service of a name, or creates it: four messages wait at most, and a late joiner gets the last two.
+/// A node opens the service of a name, or creates it: at most four messages wait for a subscriber, and a late subscriber gets the last two.
 fn join<T: Words + ZeroCopySend>(
     alloc: Global,
     bus: &mut Bus<T>,
@@ -41,7 +41,7 @@ fn join<T: Words + ZeroCopySend>(
     Ok(asked.open_or_create_in(alloc, bus, Vec::new(alloc))?)
 }
 
-/// Creates a publisher of messages of at most so many values.
+/// Creates a publisher of messages of at most this many values.
 pub fn advertise<T: Words + ZeroCopySend>(
     alloc: Global,
     bus: &mut Bus<T>,
@@ -132,12 +132,17 @@ fn send<T: Copy, H: Home<T, u64>>(
     sample: slice::SampleMut<T, u64>,
 ) -> Result<usize> {
     if !sample.holds(home) || sample.is_blocked(home) {
-        sample.drop_with(home);
+        if let Err(kept) = sample.drop_with(home) {
+            let _ = kept.into_slot();
+        }
         bail!("no loan");
     }
     match sample.send(alloc, home)? {
         Sent::Delivered(subscribers) => Ok(subscribers),
-        Sent::Blocked(waiting) => waiting.drop_with(home).context("no send"),
+        Sent::Blocked(waiting) => match waiting.drop_with(home) {
+            Ok(subscribers) => Ok(subscribers),
+            Err(kept) => bail!("port {} sends nothing", kept.into_port().number),
+        },
     }
 }
 
@@ -189,10 +194,10 @@ pub fn hear<H: Home<u64, u64>>(alloc: Global, home: &mut H, port: PortId) -> Res
         return Ok(None);
     };
     if !sample.holds(home) {
-        sample.drop_with(home);
+        let _ = sample.into_taken();
         bail!("no sample");
     }
     let heard = read(alloc, home, &sample);
-    sample.drop_with(home);
+    sample.release(home);
     Ok(Some(heard?))
 }

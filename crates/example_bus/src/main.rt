@@ -44,7 +44,7 @@ fn lidar(alloc: Global, bus: &mut Bus, scanner: &NodeHandle, pilot: &NodeHandle)
     Ok(echoes)
 }
 
-/// Orders of the pilot. The wheels come late, and get the last two at this port.
+/// Orders of the pilot. The wheels subscribe late, and get the last two orders at this port.
 fn commands(
     alloc: Global,
     bus: &mut Bus,

@@ -85,10 +85,10 @@ pub fn hear_pose<H: Home<Pose, u64>>(
         return Ok(None);
     };
     if !sample.holds(poses) {
-        sample.drop_with(poses);
+        let _ = sample.into_taken();
         bail!("no sample");
     }
     let pose = sample.payload(poses).first().copied();
-    sample.drop_with(poses);
+    sample.release(poses);
     Ok(pose)
 }

@@ -9,7 +9,7 @@ ghost use Rattle.std.specs.Prelude.{◌≡◌, ◌≤◌, IfSome};
 
 use iox_lanes::{
     LaneMachine, LanePublisher, LaneSizes, LaneSubscriber, LaneThreads, LoanAnswer, Receipt,
-    RingKind, end, open_threads,
+    RingKind, are_all, open_threads,
 };
 use std::alloc::{AllocError, Global};
 use std::sync::Wait;
@@ -72,7 +72,7 @@ struct Shown {
     of_second: u64,
 }
 
-// What a display shows after a message; None if its two numbers differ, or are below the one before.
+// What a display shows after a message; None if the two numbers of the message differ, or are smaller than the number before.
 fn after(before: &Shown, reading: &Reading) -> Option<Shown>
     ensures { IfSome result (λ next. (before.now.of_first ≤ next.of_first) × (before.now.of_second ≤ next.of_second)) }
 {
@@ -149,16 +149,16 @@ fn lines(
     alloc: Global,
     sent: Option<(u64, u64)>,
     seen: Option<(Shown, Shown)>,
-    ended: bool,
+    back: bool,
 ) -> Result<String, AllocError> {
     let ((first, second), (here, there)) = sent.zip(seen).ok_or(AllocError)?;
     let (here, there) = (is_last(&here), is_last(&there));
     format!(in alloc;
-        "sensors sent {first} and {second}\ndisplays ended with both last numbers: {here} and {there}\nall ports ended: {ended}\n",
+        "sensors sent {first} and {second}\ndisplays ended with both last numbers: {here} and {there}\nall ports are back: {back}\n",
     )
 }
 
-// Runs all four at once, and then ends their ports.
+// Runs all four at once, and then looks whether all ports came back.
 fn run<R: Threads + Wait + Sync>(
     rt: &R,
     alloc: Global,
@@ -174,8 +174,8 @@ fn run<R: Threads + Wait + Sync>(
         || sense(rt, &mut publishers),
         || show(rt, &mut subscribers),
     );
-    let ended = end(board, publishers, subscribers).is_ok();
-    lines(alloc, sent, seen, ended)
+    let back = are_all(&board, &publishers, &subscribers);
+    lines(alloc, sent, seen, back)
 }
 
 fn report<R: Threads + Wait + Sync>(rt: &R, alloc: Global) -> Result<String, AllocError> {

@@ -9,7 +9,7 @@ use Rattle.example_tracer.specs.Drawing.{escaped, opens_nothing}
 pub renamed : {T E : Type 0} (r : Result T E) (old new a b : List ℕ) → OnOk r (new ≡ old ++ a) → a ≡ b → OnOk r (new ≡ old ++ b)
 renamed r old new a b wrote same = subst (λ text. OnOk r (new ≡ old ++ text)) same wrote
 
--- three writes, one behind the other
+-- three writes, one after the other
 pub three : {T E : Type 0} (r : Result T E) (old first second new a b c : List ℕ) → first ≡ old ++ a → second ≡ first ++ b
     → OnOk r (new ≡ second ++ c) → OnOk r (new ≡ old ++ (a ++ b ++ c))
 three r old first second new a b c begun went wrote =

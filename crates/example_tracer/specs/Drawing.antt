@@ -9,7 +9,7 @@ use Rattle.example_tracer.specs.declared.drawing.Shape.TheVariants as shape
 abbrev pub pixels : ℕ → ℕ
 pixels n = min n 18446744073709551615
 
--- How many pixels below the top the middle of a row is.
+-- The distance in pixels of the middle of a row from the top.
 abbrev pub middle_of : ℕ → ℕ
 middle_of row = pixels (pixels (row * 24) + 28)
 

@@ -66,7 +66,7 @@ abbrev pub IsOnly : (ℕ → Bool) → ℕ → Option ℕ → Type 0
 IsOnly test n None = NoneOrTwo test n
 IsOnly test n (Some k) = (k < n) × (test k ≡ true) × ((j : ℕ) → j < n → test j ≡ true → j ≡ k)
 
--- The arrow of what a line received, after the arrows before it.
+-- The arrow of what a line received, if `arrows` are those of the lines before it.
 pub record IsArrow (conversation : List Exchange) (arrows : List Arrow) (line : ℕ) (received : Seen) (arrow : Arrow) : Type 0 where
   pub receipt : arrow.receipt ≡ line
   pub subscriber : arrow.subscriber.now ≡ received.port

@@ -9,7 +9,7 @@ ghost use Rattle.example_tracer.specs.Trace.{LostForGood, gives_sample, is_lost,
 use crate::exchange::{Exchange, Message, is, received, sent};
 use std::alloc::{AllocError, Global};
 
-/// The way of a message: the line and the port that received it, and the line and the port that sent it, if these are known.
+/// The arrow of a message: the line and the port that received it, and the line and the port that sent it, if these are known.
 #[derive(Clone, Copy)]
 pub struct Arrow<'a> {
     /// The line that received the message.
@@ -36,7 +36,7 @@ fn received_at<'a>(conversation: &[Exchange<'a>], line: usize) -> Option<Message
     received(&conversation[line])
 }
 
-/// Whether the values may be the same: those of a `send` aren't told.
+/// Whether the values may be the same: those of a `send` aren't known.
 fn fits(sent: &Message<'_>, received: &Message<'_>) -> bool
     ensures { result ≡ fits (seen sent.now) (seen received.now) }
 {
@@ -46,7 +46,7 @@ fn fits(sent: &Message<'_>, received: &Message<'_>) -> bool
     }
 }
 
-/// Whether an arrow shows that the subscriber got this line's message of the publisher, or one behind it.
+/// Whether an arrow shows that the subscriber got this line's message of the publisher, or a later one.
 fn passes(arrow: &Arrow<'_>, subscriber: &[u8], publisher: &[u8], line: usize) -> bool
     ensures { result ≡ passes arrow.now subscriber.now publisher.now line }
 {
@@ -69,7 +69,7 @@ fn came(arrows: &[Arrow<'_>], subscriber: &[u8], publisher: &[u8], line: usize) 
     false
 }
 
-/// Whether a line may have sent what was received: its values fit, and neither its message nor one behind it came before.
+/// Whether a line may have sent what was received: its values fit, and the subscriber received neither its message nor a later one before.
 fn may_be(
     conversation: &[Exchange<'_>],
     arrows: &[Arrow<'_>],
@@ -156,7 +156,7 @@ pub fn is_lost(
     }
 }
 
-/// Whether an arrow shows that the subscriber got something behind this line of which the origin can't be told.
+/// Whether an arrow shows that the subscriber received, after this line, a message of unknown origin.
 fn untold(arrow: &Arrow<'_>, subscriber: &[u8], line: usize) -> bool
     ensures { result ≡ untold arrow.now subscriber.now line }
 {
@@ -186,7 +186,7 @@ pub fn trace<'a>(alloc: Global, conversation: &[Exchange<'a>]) -> Result<Vec<Arr
     ensures joins { IfOk result (λ arrows. All (Joins conversation.now) arrows.items) }
     // A subscriber gets the messages of one publisher in the order of sending, each at most once.
     ensures order { IfOk result (λ arrows. AllPairs KeepsOrder arrows.items) }
-    // To a message that an arrow shows as lost to its subscriber no arrow of that subscriber leads, before it or after it.
+    // No arrow of a subscriber, earlier or later, begins at a message that an arrow shows as lost to this subscriber.
     ensures lost { IfOk result (λ arrows. LostForGood conversation.now arrows.items) }
 {
     let mut arrows = Vec::new(alloc);

@@ -17,14 +17,14 @@ pub enum Shape<'a> {
     Text(&'static str, Place, &'a [u8]),
 }
 
-/// How far down the middle of a row is, in pixels.
+/// The distance in pixels of the middle of a row from the top.
 fn middle(row: usize) -> usize
     ensures { result ≡ middle_of row }
 {
     row.saturating_mul(24).saturating_add(28)
 }
 
-/// Writes a byte of a text: what prints as it is, but for the two signs that SVG reads as its own.
+/// Writes a byte of a text: `<` and `&` by their names, other printable bytes as they are, and the rest as a question mark.
 fn push_escaped(out: &mut String, byte: u8) -> Result<(), AllocError>
     ensures { OnOk result (string_bytes out.new ≡ string_bytes out.old ++ escaped byte) }
 {
@@ -60,7 +60,7 @@ fn push_stroke(out: &mut String, class: &str, from: Place, to: Place) -> Result<
     )
 }
 
-/// Writes what stands before a text.
+/// Writes what comes before a text.
 fn push_opening(out: &mut String, class: &str, at: Place) -> Result<(), AllocError>
     ensures { OnOk result (string_bytes out.new ≡ string_bytes out.old ++ opening_of class.now at) }
 {
@@ -87,7 +87,7 @@ fn push_shape(out: &mut String, shape: &Shape<'_>) -> Result<(), AllocError>
     }
 }
 
-/// The drawing of these shapes, the later ones over the earlier ones: so many pixels wide, and so many rows high.
+/// The drawing of these shapes, the later ones over the earlier ones, with this width in pixels and this many rows.
 pub fn drawing(
     alloc: Global,
     style: &str,

@@ -26,7 +26,7 @@ pub struct Message<'a> {
     pub values: Option<&'a [u8]>,
 }
 
-/// The place of the first such byte, or the length of the text.
+/// The place of the first of these bytes, or the length of the text.
 fn place(byte: u8, text: &[u8]) -> usize
     ensures place { result ≡ position_or_len (is_byte byte) text.now }
     ensures within { result ≤ length text.now }
@@ -39,7 +39,7 @@ fn place(byte: u8, text: &[u8]) -> usize
     text.len()
 }
 
-/// What stands before the first such byte, and what stands behind it.
+/// The text before the first of these bytes, and the text after it.
 fn cut(byte: u8, text: &[u8]) -> (&[u8], &[u8])
     ensures before { result.0.now ≡ before_first (is_byte byte) text.now }
     ensures after { result.1.now ≡ after_first (is_byte byte) text.now }
@@ -96,7 +96,7 @@ pub fn sent<'a>(exchange: &Exchange<'a>) -> Option<Message<'a>>
     }
 }
 
-/// Whether a reply to a `put` or a `send` tells that the message is on its way to somebody.
+/// Whether a reply to a `put` or a `send` says that the message is on its way to somebody.
 fn is_sent(reply: &[u8]) -> bool
     ensures { result ≡ is_sent reply.now }
 {

@@ -19,7 +19,7 @@ pub fn push<'a>(shapes: &mut Shapes<'a>, shape: Shape<'a>) -> Result<(), AllocEr
     Ok(())
 }
 
-/// The first row, from this one on, that ended what has this name, or the row after the last.
+/// The first row at or after `from` that ended the thing with this name; otherwise the row after the last one.
 pub fn end(conversation: &[Exchange<'_>], name: &[u8], from: usize) -> usize {
     for (row, it) in conversation.iter().enumerate() {
         if from <= row && ends(it, name) {

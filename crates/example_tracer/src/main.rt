@@ -42,7 +42,7 @@ use std::env;
 use std::io::{self, Read};
 use std::process::ExitCode;
 
-/// The status where nothing can be given.
+/// The exit status if nothing can be printed.
 const FAILED: u8 = 1;
 
 /// The status after an argument that isn't known.
@@ -57,7 +57,7 @@ fn main(rt: HostRuntime) -> io::Result<ExitCode> {
     give(&rt, word.as_deref().unwrap_or("draw"))
 }
 
-/// Gives what an argument asks for.
+/// Prints what an argument asks for.
 fn give(rt: &HostRuntime, word: &str) -> io::Result<ExitCode> {
     match word {
         "draw" | "record" | "replay" | "all" => answer(rt, word, &read(rt)?),
@@ -70,7 +70,7 @@ fn give(rt: &HostRuntime, word: &str) -> io::Result<ExitCode> {
     }
 }
 
-/// Says why nothing is given, and ends with this status.
+/// Says why nothing is printed, and ends with this status.
 fn end(rt: &HostRuntime, status: u8, why: &str) -> io::Result<ExitCode> {
     rt.eprintln(why)?;
     Ok(ExitCode::from(status))
@@ -83,7 +83,7 @@ fn read(rt: &HostRuntime) -> io::Result<Vec<u8>> {
     Ok(text)
 }
 
-/// Gives what an argument asks for of a text.
+/// Prints what an argument asks for, made of a text.
 fn answer(rt: &HostRuntime, word: &str, text: &[u8]) -> io::Result<ExitCode> {
     if word == "replay" {
         return print_made(rt, replay(rt.alloc(), text), NO_TABLE);
@@ -121,7 +121,7 @@ fn carry<R: Read + Drop>(rt: &HostRuntime, replies: R) -> ExitCode {
     ExitCode::from(status(serve(rt.alloc(), Gateway, &mut input, &mut output)))
 }
 
-/// Prints what all other arguments give of a conversation, each below its name.
+/// Prints what all other arguments print of a conversation, each below its name.
 fn print_all(rt: &HostRuntime, conversation: &[Exchange<'_>]) -> io::Result<ExitCode> {
     rt.println("picture:")?;
     let _ = print_picture(rt, conversation)?;

@@ -41,8 +41,8 @@ fn birth(conversation: &[Exchange<'_>], name: &[u8]) -> Option<usize>
     None
 }
 
-/// Adds the way of an arrow, from one lifeline to another: a stroke from the row of its origin to that of its receipt, or a sign
-/// at its receipt where no origin is told.
+/// Adds the way of an arrow, from one lifeline to another: a stroke from the row of its origin to that of its receipt, or a sign at its
+/// receipt if the origin isn't known.
 fn push_way(
     shapes: &mut Shapes<'_>,
     arrow: &Arrow<'_>,
@@ -119,7 +119,7 @@ fn shapes<'a>(
 
 /// The picture of a conversation, as SVG.
 pub fn picture(alloc: Global, conversation: &[Exchange<'_>]) -> Result<String, AllocError>
-    // A drawing in which exactly the ways of the conversation's messages are drawn as ways, and exactly what was lost as lost.
+    // A drawing in which exactly the arrows of the conversation's messages are drawn as ways, and exactly the lost messages as lost.
     ensures { IfOk result (λ text. Pictures conversation.now (string_bytes text)) }
 {
     let arrows = trace(alloc, conversation)?;

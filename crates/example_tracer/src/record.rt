@@ -24,7 +24,7 @@ fn row_text(alloc: Global, fields: &[&[u8]]) -> Result<Vec<u8>, Error>
     }
 }
 
-/// The values that were sent or received, where line and reply tell them.
+/// The values that were sent or received, if line and reply have them.
 fn values<'a>(it: &Exchange<'a>) -> &'a [u8]
     ensures { result.now ≡ values_of it.now }
 {
@@ -41,7 +41,7 @@ fn values<'a>(it: &Exchange<'a>) -> &'a [u8]
     }
 }
 
-/// How many mailboxes took what was sent, where the reply tells it.
+/// How many mailboxes took the message that was sent, if the reply says so.
 fn delivered<'a>(it: &Exchange<'a>) -> &'a [u8]
     ensures { result.now ≡ delivered_of it.now }
 {

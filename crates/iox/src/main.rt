@@ -10,15 +10,16 @@
 use iox_script::{HubConfig, Input, Output, serve, status};
 use std::process::ExitCode;
 
-/// How many connections of closed publishers a subscriber keeps, or as many as samples of one may be borrowed, if that is more.
+/// The maximum number of connections of closed publishers that a subscriber keeps; if a service's borrow limit is larger, the borrow limit
+/// applies instead.
 const EXPIRED_CONNECTION_BUFFER: u32 = 128;
 
-/// How much of the stack is taken, in words: more than the deepest call takes, which is some 140 kB of a proved program and some
-/// 375 kB of one that was built without its proofs.
+/// The part of the stack that is touched, in words: more than the deepest call takes, which is some 140 kB in a proved program and
+/// some 375 kB in one that was built without its proofs.
 const STACK: usize = (512 << 10) / 8;
 
-/// Writes to each word of so much stack, and returns one of them, which is an odd number. No compiler can know which, so none can leave
-/// words out.
+/// Writes to each word of a part of the stack of this size, and returns one of them, which is an odd number. A compiler can't know which
+/// one, so it can't leave words out.
 #[inline(never)]
 fn reached() -> u64 {
     let mut room = [1u64; STACK];

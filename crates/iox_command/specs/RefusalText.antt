@@ -10,7 +10,7 @@ use Rattle.iox_command.specs.declared.refusal.HubError.TheVariants as hub
 use Rattle.iox_command.specs.declared.refusal.Refusal.{Refusal}
 use Rattle.iox_command.specs.declared.refusal.Refusal.TheVariants as refusal
 
--- The type's name, `::` and the variant's name.
+-- The text of a `HubError`: the type's name, `::` and the variant's name.
 abbrev pub hub_text : HubError → List ℕ
 hub_text hub.OutOfMemory = codes "HubError::OutOfMemory"
 

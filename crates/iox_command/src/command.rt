@@ -37,7 +37,7 @@ pub enum Command<'a, T> {
         requirements: AttributeVerifier,
         steps: Steps<StepBefore>,
     },
-    /// Runs steps of foreign processes.
+    /// Does actions of other nodes.
     Foreign {
         pattern: MessagingPattern,
         name: ServiceName,
@@ -91,12 +91,12 @@ pub enum Command<'a, T> {
         publisher: u64,
         values: Values<'a, T>,
     },
-    /// Tries a waiting send once more, this number of nanoseconds after its mailbox was first found full.
+    /// Tries a blocked send once more, this number of nanoseconds after its mailbox was first found full.
     Retry {
         publisher: u64,
         nanoseconds: u64,
     },
-    /// Gives up a waiting send.
+    /// Gives up a blocked send.
     GiveUp {
         publisher: u64,
     },

@@ -7,8 +7,8 @@
 //! | `service` | the options of a service that a command creates or opens, by its pattern |
 //! | `port` | the options of a publisher and of a subscriber |
 //! | `ports` | the commands of existing ports |
-//! | `step` | what a foreign process does between the storage operations of a command |
-//! | `steps` | a list of such steps |
+//! | `step` | the actions of other nodes between the storage operations of a command |
+//! | `steps` | a list of actions of other nodes |
 //! | `values` | the values of a message |
 //! | `reply` | the replies |
 //! | `refusal` | why a command failed |

@@ -14,7 +14,7 @@ use iox_negotiate_base::errors::{
 use std::fmt;
 use thiserror::Error;
 
-/// Why no node could be created, or no foreign step run. Not in `iceoryx2`.
+/// Why no node could be created, or an action of another node couldn't be done. Not in `iceoryx2`.
 #[derive(Clone, Copy, Debug, PartialEq, Eq, Hash, Error)]
 #[error("{}", self.text())]
 pub enum HubError {
@@ -38,7 +38,7 @@ impl HubError {
 /// Not in `iceoryx2`.
 #[derive(Clone, Copy, Debug, PartialEq, Eq, Error)]
 pub enum Refusal {
-    /// The error of creating a node, or of foreign steps.
+    /// The error of creating a node, or of actions of other nodes.
     Hub(HubError),
     /// The error of `create`, for publish-subscribe.
     PublishSubscribeCreate(PublishSubscribeCreateError),

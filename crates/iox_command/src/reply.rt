@@ -20,7 +20,7 @@ pub enum Reply<T> {
     Done,
     /// How many mailboxes took the message.
     Delivered(u64),
-    /// The send waits at a full mailbox.
+    /// The send is blocked at a full mailbox.
     Blocked,
     /// The number of the sample, and its values.
     Received { sample: u64, values: Vec<T> },

@@ -84,7 +84,7 @@ pub struct RequestResponseOptions {
     pub enable_safe_overflow_for_requests: Option<bool>,
     /// Whether a full buffer of responses drops its oldest one.
     pub enable_safe_overflow_for_responses: Option<bool>,
-    /// Whether a request may be sent that nobody waits for.
+    /// Whether a client may send requests and drop their responses.
     pub enable_fire_and_forget_requests: Option<bool>,
 }
 

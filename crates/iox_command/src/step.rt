@@ -1,8 +1,8 @@
-//! What a foreign process does between the storage operations of a command.
+//! Actions of other nodes between the storage operations of a command.
 use crate::service::ServiceOptions;
 
-/// One step of a foreign process, with the number of its node. It acts on the pattern and the name of its command. A step that
-/// doesn't fit changes nothing.
+/// One action of another node, with the number of that node. It acts on the pattern and the name of its command. An action that doesn't fit
+/// changes nothing.
 ///
 /// Not in `iceoryx2`.
 #[derive(Clone, Copy)]
@@ -17,7 +17,7 @@ pub enum ForeignStep {
     /// Like `Publish`, but with the first version of descriptions, which has no setting for sequence numbers; so settings with
     /// sequence numbers don't fit.
     PublishV1(u64, ServiceOptions),
-    /// If a service exists that has room for one more node, and the node isn't registered in it, the node registers.
+    /// If a service exists that has a place for one more node, and the node isn't registered in it, the node registers.
     Register(u64),
     /// If the node is registered, it leaves.
     Leave(u64),
@@ -25,13 +25,13 @@ pub enum ForeignStep {
     Remove(u64),
 }
 
-/// A foreign step, and the storage operation of the command before which it is made; operations are counted from 1.
+/// An action of another node that is done before this storage operation of a command. Operations are counted from 1.
 ///
 /// Not in `iceoryx2`.
 #[derive(Clone, Copy)]
 pub struct StepBefore {
     /// The number of the storage operation.
     pub access: u64,
-    /// The step that is made before it.
+    /// The action that is done before it.
     pub step: ForeignStep,
 }

@@ -1,10 +1,10 @@
-//! A list of steps.
+//! A list of actions of other nodes.
 ghost use Rattle.std.specs.Prelude.{◌≡◌, [], ◌∷◌, ◌++◌, OnOk, OnErr};
 
 use std::alloc::{AllocError, Global};
 use std::marker::Model;
 
-/// Steps of foreign processes, in their order; an empty list allocates nothing. Contracts see them as a list.
+/// Actions of other nodes, in their order; an empty list allocates nothing. Contracts see them as a list.
 ///
 /// Not in `iceoryx2`.
 #[derive(Drop)]
@@ -22,14 +22,14 @@ impl<T: Copy> Model for Steps<T> {
 }
 
 impl<T: Copy> Steps<T> {
-    /// No steps; nothing is allocated.
+    /// No actions; nothing is allocated.
     pub fn new() -> Self
         ensures { result ≡ [] }
     {
         Steps { room: None }
     }
 
-    /// Appends a step. The call fails only if an allocation fails; then nothing has changed.
+    /// Appends an action. The call fails only if an allocation fails; then nothing has changed.
     pub fn push(&mut self, alloc: Global, step: T) -> Result<(), AllocError>
         ensures ok { OnOk result (self.new ≡ self.old ++ step ∷ []) }
         ensures err { OnErr result (self.new ≡ self.old) }
@@ -44,7 +44,7 @@ impl<T: Copy> Steps<T> {
         Ok(())
     }
 
-    /// The steps, in their order.
+    /// The actions, in their order.
     pub fn as_slice(&self) -> &[T]
         ensures { result.now ≡ self.now }
     {

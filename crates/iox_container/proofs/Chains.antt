@@ -45,7 +45,7 @@ Chain-frame n p n' p' at (k ∷ ks) end chain first forth back last = (
   Chain-frame n p n' p' k ks end chain.2 (forth k (inl refl)) (λ j there. forth j (inr there)) (λ j there. back j (inr there)) last,
 )
 
--- what stands before and behind a key of a chain
+-- what stands before and after a key of a chain
 before_key : (n p : List ℕ) (at : ℕ) (ks : List ℕ) (end key : ℕ) → Chain n p at ks end → Among key ks
     → (get_or p key 0 ≡ at) ⊎ Among (get_or p key 0) ks
 before_key n p at [] end key chain there = absurd there

@@ -22,7 +22,7 @@ module _ {V : Type 0} where
   given_exact table (Writes number value ∷ changes) = given_exact (changed table (Writes number value)) changes
   given_exact table (Reserves room ∷ changes) = given_exact (changed table (Reserves room)) changes
 
-  -- and the next number is behind them
+  -- and the next number is after them
   next_after : (table : NumberTable V) (changes : List (Change V))
       → (all_changed table changes).next ≡ table.next + length (given table changes)
   next_after table [] = omega arith

@@ -1,4 +1,4 @@
--- The entries of a table: those that outlived the ring, and behind them those in it.
+-- The entries of a table: those that outlived the ring, and after them those in it.
 use Rattle.std.proofs.Common.{◌≡◌, ℕ, ◌+◌, ◌<◌, ◌≤◌, List, [], ◌∷◌, ◌++◌, append_assoc, length, Option, Some, None, refl, sym, ap, ◌∙◌}
 use Rattle.std.specs.Prelude.{nat_eq}
 use Rattle.std.specs.Map.{lookup, remove_entry, set_value}

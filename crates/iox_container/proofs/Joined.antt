@@ -1,4 +1,4 @@
--- Two lists of entries, one behind the other, of which only one may have a number.
+-- Two lists of entries, one after the other, of which only one may have a number.
 use Rattle.std.proofs.Common.{◌≡◌, ℕ, suc, ◌+◌, Bool, List, [], ◌∷◌, ◌++◌, length, cond, true, false, Option, Some, None, refl, ap, arith}
 use Rattle.std.specs.Prelude.{is_some, if◌then◌else◌}
 use Rattle.std.specs.Map.{lookup, remove_entry, set_value}

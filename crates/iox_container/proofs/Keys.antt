@@ -97,7 +97,7 @@ Distinct-range from (suc count) = (
   Distinct-range (from + 1) count,
 )
 
--- the keys of one list behind another
+-- the keys of one list after another
 pub Among-append : (key : ℕ) (xs ys : List ℕ) → Among key (xs ++ ys) → Among key xs ⊎ Among key ys
 Among-append key [] ys there = inr there
 Among-append key (x ∷ xs) ys there =
@@ -121,7 +121,7 @@ pub Among-right : (key : ℕ) (xs ys : List ℕ) → Among key ys → Among key 
 Among-right key [] ys there = there
 Among-right key (x ∷ xs) ys there = inr (Among-right key xs ys there)
 
--- a further key behind others
+-- a further key after others
 pub Distinct-push : (key : ℕ) (ks : List ℕ) → Distinct ks → (Among key ks → ⊥) → Distinct (ks ++ key ∷ [])
 Distinct-push key [] distinct fresh = (λ there. there, tt)
 Distinct-push key (k ∷ ks) distinct fresh = (
@@ -132,7 +132,7 @@ Distinct-push key (k ∷ ks) distinct fresh = (
   Distinct-push key ks distinct.1 (λ there. fresh (inr there)),
 )
 
--- one list behind another without a key that the second lacks
+-- one list after another without a key that the second lacks
 pub without-append : (key : ℕ) (xs ys : List ℕ) → (Among key ys → ⊥) → without key (xs ++ ys) ≡ without key xs ++ ys
 without-append key [] ys absent = without_absent key ys absent
 without-append key (x ∷ xs) ys absent =

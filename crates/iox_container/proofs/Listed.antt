@@ -1,4 +1,4 @@
--- Places by owner: where one stands, and what comes and goes.
+-- Places by owner: at which position a place is, and what adding or removing a place changes.
 use Rattle.std.proofs.Common.{ℕ, ◌≡◌, ◌≢◌, ◌+◌, ◌-◌, ◌<◌, ◌≤◌, List, length, get_or, arith, sym, ap, subst, ◌∙◌, inl, inr}
 use Rattle.std.specs.List.{Contains, insert, remove}
 use Rattle.std.proofs.lemmas.Bool.{cases_lt}
@@ -11,7 +11,7 @@ use Rattle.iox_container.specs.Owners.{IsBefore, IsBehind, Rises, StandsAt, With
 not_itself : (entry : ℕ × ℕ) → IsBefore entry entry → ⊥
 not_itself entry before = omega (arith, before.place (omega arith))
 
--- nor does one that comes before another stand behind it
+-- nor does one that comes before another stand after it
 apart : (one other : ℕ × ℕ) → IsBefore one other → IsBehind one other → ⊥
 apart one other before behind = omega (arith, before.place behind.owner, behind.place before.owner)
 
@@ -35,7 +35,7 @@ behind-all middle one other first second = record {
       (arith, first.owner, second.owner, first.place (omega (arith, second.owner)), second.place (omega (arith, first.owner)));
 }
 
--- what stands before one in the middle is passed with it, and what stands behind stays behind
+-- what stands before one in the middle is passed with it, and what stands after stays after
 module _ (entries : List (ℕ × ℕ)) (entry : ℕ × ℕ) (middle : ℕ) (any : ℕ × ℕ) (rises : Rises entries) (more : middle < length entries) where
   there : (default : ℕ × ℕ) → get_or entries middle default ≡ get_or entries middle any
   there default = get_or_default entries middle default any more
@@ -160,7 +160,7 @@ module _ (entries : List (ℕ × ℕ)) (entry : ℕ × ℕ) (at : ℕ) (rises : 
         },
       )
 
-  -- what stands behind one that isn't among them comes after it
+  -- what stands after one that isn't among them comes after it
   after_it : (Contains entries entry → ⊥) → (k : ℕ) (default : ℕ × ℕ) → at ≤ k → k < length entries
       → IsBefore entry (get_or entries k default)
   after_it new k default behind within =

@@ -1,4 +1,4 @@
--- Keys with those behind them that aren't made yet.
+-- Keys with those after them that aren't made yet.
 use Rattle.std.proofs.Common.{ℕ, suc, ◌≡◌, inl, inr, ◌+◌, ◌-◌, ◌<◌, ◌≤◌, [], ◌∷◌, ◌++◌, length, arith, sym, ap, ◌∙◌}
 use Rattle.std.proofs.lemmas.Bool.{cases_lt}
 use Rattle.std.proofs.lemmas.List.{append_assoc, length-append}
@@ -21,7 +21,7 @@ length-all_keys of =
     length-append of.keys (range_with_len of.made (of.room - of.made)) ∙ ap (λ n. length of.keys + n)
     (length-range_with_len of.made (of.room - of.made))
 
--- a key that was made is none of those behind
+-- a key that was made is none of those after
 pub made-not_behind : (of : KeysInOrder) (key : ℕ) → key < of.made → Among key (range_with_len of.made (of.room - of.made)) → ⊥
 made-not_behind of key low there =
     let within : (of.made ≤ key) × (key < of.made + (of.room - of.made))

@@ -1,4 +1,4 @@
--- Places with empty ones behind them: what a change of the cells in front comes to, and which is the lowest empty one.
+-- Lists of places that end with empty places: what a change of an earlier cell results in, and which place is the lowest empty one.
 use Rattle.std.proofs.Common.{ℕ, zero, suc, ◌≡◌, ◌+◌, ◌-◌, ◌<◌, ◌≤◌, ◌∷◌, ◌++◌, [], List, Bool, true, false, not, cond, length, replicate}
 use Rattle.std.proofs.Common.{Option, None, Some, is_some, arith, refl, sym, ap, ◌∙◌, nat_lt}
 use Rattle.std.proofs.Math.ListN.{set}
@@ -15,7 +15,7 @@ none-first : (C : Type 0) (n : ℕ) → prefix_len {X = Option C} (λ place. not
 none-first C zero = refl
 none-first C (suc n) = refl
 
--- the index of the first of so many, if that is one of them
+-- the index of the first of n, if that is one of them
 abbrev found : ℕ → ℕ → Option ℕ
 found index count = cond (nat_lt index count) (Some index) None
 
@@ -131,6 +131,6 @@ module _ {C X : Type 0} (asked : ℕ → Option C → Option X) (silent : (index
   asked-append from [] n = none-asked from n
   asked-append from (cell ∷ cells) n = ap (λ (xs : List X). cons_option (asked from cell) xs) (asked-append (from + 1) cells n)
 
-  -- the empty ones behind add nothing
+  -- the empty ones after add nothing
   pub asked-padded : (from count : ℕ) (cells : List (Option C)) → asked_from asked from (padded count cells) ≡ asked_from asked from cells
   asked-padded from count cells = asked-append from cells (count - length cells)

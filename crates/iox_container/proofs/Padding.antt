@@ -1,4 +1,4 @@
--- Places with empty ones behind them: what a change of the cells in front comes to, and what is found.
+-- Lists of places that end with empty places: what a change of an earlier cell results in, and what a search finds.
 use Rattle.std.proofs.Common.{ℕ, zero, suc, ◌≡◌, inl, inr, ◌+◌, ◌-◌, ◌<◌, ◌≤◌, ◌∷◌, ◌++◌, [], List, length, replicate, Option, None, Some}
 use Rattle.std.proofs.Common.{IsSome, arith, refl, sym, ap, ◌∙◌}
 use Rattle.std.proofs.Math.ListN.{set}
@@ -71,7 +71,7 @@ module _ {T : Type 0} where
   pub value_at-padded : (count : ℕ) (cells : List (Option T)) (index : ℕ) → value_at (padded count cells) index ≡ value_at cells index
   value_at-padded count cells index = value_at-append cells (count - length cells) index
 
-  -- behind the cells there is no value
+  -- after the cells there is no value
   pub none-behind : (count : ℕ) (cells values : List (Option T)) (index : ℕ) → padded count cells ≡ values → length cells ≤ index
       → value_at values index ≡ None
   none-behind count cells values index whole past =

@@ -12,7 +12,7 @@ use Rattle.iox_container.proofs.Rising.{Rises-lower, lookup-below}
 use Rattle.iox_container.proofs.Joined.{remove-absent}
 
 module _ {V : Type 0} where
-  -- they rise from the first number on, to behind the last place
+  -- they rise from the first number on, to after the last place
   pub Rises-present : (first next : ℕ) (places : List (Option V)) → next ≡ first + length places → Rises first (present first places) next
   Rises-present first next [] ends = omega arith
   Rises-present first next (None ∷ places) ends

@@ -1,4 +1,4 @@
--- Entries by rising number: what is found among them, and what comes and goes.
+-- Entries in the order of their numbers: what a search finds, and what adding or removing an entry changes.
 use Rattle.std.proofs.Common.{◌≡◌, ◌≢◌, ℕ, zero, suc, ◌+◌, ◌<◌, ◌≤◌, List, [], ◌∷◌, ◌++◌, length, get_or, set, cond, true, false, Some}
 use Rattle.std.proofs.Common.{None, refl, sym, ap, ◌∙◌, arith}
 use Rattle.std.specs.Prelude.{nat_eq}
@@ -23,7 +23,7 @@ module _ {V : Type 0} where
   Rises-le low next [] rises = rises
   Rises-le low next (entry ∷ rest) rises = omega (arith, rises.0, Rises-le (entry.0 + 1) next rest rises.1)
 
-  -- entries that rise, and behind them entries that rise from where they end
+  -- entries that rise, and after them entries that rise from where they end
   pub Rises-append : (low middle next : ℕ) (front back : List (ℕ × V)) → Rises low front middle → Rises middle back next
       → Rises low (front ++ back) next
   Rises-append low middle next [] back front_rises back_rises = Rises-lower low middle next back front_rises back_rises
@@ -102,7 +102,7 @@ module _ {V : Type 0} where
       grind (arith, nat_tests, apart, later)
 
   module _ (number : ℕ) (entry : ℕ × V) (same : entry.0 ≡ number) where
-    -- an entry behind another has a number above that
+    -- an entry after another has a number above that
     later-apart : (first : ℕ × V) (next place : ℕ) (rest : List (ℕ × V)) → Rises (first.0 + 1) rest next → place < length rest
         → entry ≡ get_or rest place entry → first.0 < number
     later-apart first next place rest rises within here =

@@ -191,7 +191,7 @@ held_from_some {T} values key some none =
     let S : Option T → Type 0 = λ o. IsSome o in let bad : false ≡ true = subst S none some in cc
 
 module _ {T : Type 0} where
-  -- what stands in the walk from a key on is held at that key or behind it
+  -- what stands in the walk from a key on is held at that key or after it
   held_from-told : (at : ℕ) (xs : List (Option T)) (key : ℕ) (value : T) → HasItem key value (held_from at xs)
       → (at ≤ key) × (value_at xs (key - at) ≡ Some value)
   held_from-told at [] key value there = absurd there

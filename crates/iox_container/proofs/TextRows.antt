@@ -64,7 +64,7 @@ length-spliced len from to n cells bytes filled ordered within e =
     let front : length (take len cells) ≡ len = length-take-le len cells filled in
     omega (arith, length-range_replaced (take len cells) from to bytes ordered (omega arith))
 
--- past a point behind the text, a row is zeros
+-- past a point after the text, a row is zeros
 drop-row : (capacity len n : ℕ) (cells : List ℕ) → IsTextRow capacity len cells → len ≤ n → drop n cells ≡ replicate (capacity - n) 0
 drop-row capacity len n cells row behind =
     let there : n ≡ len + (n - len) = omega arith in

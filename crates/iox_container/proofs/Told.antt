@@ -1,4 +1,4 @@
--- What is told of a member.
+-- What the queries about a member answer.
 use Rattle.std.proofs.Common.{ℕ, zero, suc, ◌≡◌, ◌∷◌, [], List, length, get_or, Bool, true, false, Option, None, Some, refl, sym, ap, ◌∙◌}
 use Rattle.std.proofs.Common.{if◌then◌else◌}
 use Rattle.std.specs.List.{slice_get}

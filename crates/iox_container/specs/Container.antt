@@ -10,8 +10,8 @@ use Rattle.iox_container.specs.declared.release.ReleaseMode.{ReleaseMode}
 use Rattle.iox_container.specs.Release.{locks}
 use Rattle.iox_container.specs.Recovery.{asked_from, Recovers}
 
--- The state of a container: its id, the member at each index below the capacity (or none), how often the members changed, which numbers
--- them, and whether the container is locked for good.
+-- The state of a container: its id; the member at each index below the capacity, or none; how often the members changed, from which
+-- each new member gets its number; and whether the container is locked for good.
 pub record Contents (T : Type 0) : Type 0 where
   pub id : ℕ
   pub members : List (Option (Member T))

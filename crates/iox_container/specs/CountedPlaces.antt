@@ -1,4 +1,4 @@
--- A row of places, in which those behind the last one ever used are empty.
+-- A row of places: all places after the last one that was ever used are empty.
 use Rattle.std.specs.Prelude.{ℕ, ◌-◌, List, ◌++◌, Option, None, is_some, not, length, replicate}
 use Rattle.std.specs.List.{position, count_by}
 

@@ -9,11 +9,11 @@ pub record OwnersState : Type 0 where
   pub last : List ℕ
   pub room : ℕ
 
--- No place had an owner so far, and there may be `room` places.
+-- A record for at most `room` places, none of which had an owner so far.
 abbrev pub new_owners : ℕ → OwnersState
 new_owners room = record { last = []; room = room }
 
--- `place` is the first place, at or behind `from`, that the owner had last.
+-- `place` is the first place, at or after `from`, that the owner had last.
 pub record IsNext (last : List ℕ) (owner from place : ℕ) : Type 0 where
   pub from_there : from ≤ place
   pub within : place < length last
@@ -75,11 +75,11 @@ pub record AreOwned {C : Type 0} (owner_of : C → ℕ) (places : List (Option C
   pub owned : (place : ℕ) (content : C) → get_or places place None ≡ Some content → slice_get owners.last place ≡ Some (owner_of content)
   pub room : owners.room ≡ length places
 
--- What `asked` selects from the places at or behind `from`, in order.
+-- What `asked` selects from the places at or after `from`, in order.
 abbrev pub rest_from : {C X : Type 0} → (ℕ → Option C → Option X) → List (Option C) → ℕ → List X
 rest_from asked places from = asked_from asked from (drop from places)
 
--- `told` is the first thing that `asked` selects at or behind `from`, and `place` is its place.
+-- `told` is the first thing that `asked` selects at or after `from`, and `place` is its place.
 pub record IsToldNext {C X : Type 0} (asked : ℕ → Option C → Option X) (places : List (Option C)) (from place : ℕ) (told : X) : Type 0 where
   pub from_there : from ≤ place
   pub within : place < length places

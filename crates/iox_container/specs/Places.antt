@@ -1,4 +1,4 @@
--- A row of places, in which those behind the last one ever used are empty.
+-- A row of places: all places after the last one that was ever used are empty.
 use Rattle.std.specs.Prelude.{ℕ, ◌-◌, List, ◌++◌, Option, None, length, replicate}
 
 -- These places, followed by empty ones up to `count` places.

@@ -10,7 +10,7 @@ pub record IsTextRow (capacity len : ℕ) (cells : List ℕ) : Type 0 where
   pub zeros : drop len cells ≡ replicate (capacity - len) 0
   pub valid : IsStringBytes (take len cells)
 
--- The text in such a row has `len` bytes.
+-- The text that a row of cells stores has `len` bytes.
 pub length-text : (capacity len : ℕ) (cells : List ℕ) → IsTextRow capacity len cells → length (take len cells) ≡ len
 length-text capacity len cells row = length-take-le len cells (omega (arith, row.within, row.full))
 

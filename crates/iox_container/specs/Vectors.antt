@@ -22,7 +22,8 @@ pub record AnswersInsertionAt (capacity len index : ℕ) (answer : Result (Unit 
   pub too_long : (answer ≡ Err InsertWouldExceedCapacity) ↔ (capacity < len + 1)
   pub out_of_bounds : (answer ≡ Err OutOfBounds) ↔ ((len < capacity) × (len < index))
 
--- The items are those that were kept, followed by those that the callback made, one a call; `after` is its state after exactly these calls.
+-- The items are those that were kept, followed by those that the callback made, one in each call; `after` is its state after exactly
+-- these calls.
 abbrev pub AppendsMade : {F X : Type 0} → (F → X → F → Type 0) → F → List X → List X → F → Type 0
 AppendsMade {F} {X} step first kept items after = (made : List X) × (items ≡ kept ++ made) × FoldsTo step first made after
 

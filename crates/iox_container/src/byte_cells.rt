@@ -11,7 +11,7 @@
 //! A first call:
 //!
 //! ```
-//! /// `iox_container`: a value that is stored byte by byte, and read back.
+//! /// `iox_container`: stores a value byte by byte, and reads it back.
 //! fn stored(value: u64) -> Option<u64>
 //!     ensures { result ≡ Some value }
 //! {

@@ -54,12 +54,12 @@ impl ContainerHandle {
 
 /// Members at the indices below a capacity, each with its owner. New members get the lowest free index.
 ///
-/// `new` allocates the memory for all members, but touches none of it: a place is touched when it, or one behind it, first gets a member.
+/// `new` allocates the memory for all members, but touches none of it: a place is touched when it, or one after it, first gets a member.
 /// So a container of many places that has few members is small, and it is created and searched quickly.
 ///
 /// `first_of`, `find` and `recover` search a sorted list of owners and places once, in logarithmic time. After that, each place that the
 /// owner has, or was the last to have, costs the same at any size. `remove` costs the same at any size. `add` scans the places below the
-/// one that it fills. If another owner had that place last, `add` also moves the entries of the list that lie behind the old and the new
+/// one that it fills. If another owner had that place last, `add` also moves the entries of the list that lie after the old and the new
 /// position.
 ///
 /// Ported from `iceoryx2_bb_lock_free::mpmc::container::Container`.
@@ -105,7 +105,7 @@ impl<T: Copy> Model for ContainerState<T> {
 }
 
 impl<T: Copy> Container<T> {
-    /// A container without members, which `id` distinguishes from other containers. It fails only where an allocation fails.
+    /// A container without members, which `id` distinguishes from other containers. It fails only if an allocation fails.
     pub fn new(alloc: Global, id: u64, capacity: usize) -> Result<Self, AllocError>
         ensures { IfOk result (λ container. container ≡ empty_container id capacity) }
     {
@@ -237,7 +237,7 @@ impl<T: Copy> Container<T> {
         self.members.get(index)
     }
 
-    /// The places up to the last one that ever had a member. The places behind them, up to the capacity, are empty.
+    /// The places up to the last one that ever had a member. The places after them, up to the capacity, are empty.
     pub fn places(&self) -> &[Option<Member<T>>]
         ensures whole { padded (length self.now.members) result.now ≡ self.now.members }
         ensures bound { length result.now ≤ length self.now.members }
@@ -290,7 +290,7 @@ impl<T: Copy> Container<T> {
         self.settle(mode)
     }
 
-    /// Copies the members as they are. It fails only where an allocation fails.
+    /// Copies the members as they are. It fails only if an allocation fails.
     pub fn get_state(&self, alloc: Global) -> Result<ContainerState<T>, AllocError>
         ensures copied { IfOk result (λ state. state ≡ copy_of self.now) }
     {
@@ -402,7 +402,7 @@ fn told_of<T: Copy>(
     told(id, index, member)
 }
 
-// The handle and the value of the owner's first member at or behind an index. Its place is looked up as `Owners::next` says.
+// The handle and the value of the owner's first member at or after an index. Its place is looked up as `Owners::next` says.
 fn next_told<T: Copy>(
     owner: OwnerId,
     id: u64,

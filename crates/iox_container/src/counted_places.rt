@@ -6,7 +6,7 @@ use std::alloc::{AllocError, Global};
 use std::marker::Model;
 
 /// A row of `count` places, each empty or filled. The memory for all of them is allocated by `new`, but none of it is touched before it is
-/// used: the places behind the last one that was ever filled are empty, and have no cell.
+/// used: the places after the last one that was ever filled are empty, and have no cell.
 #[derive(Drop)]
 pub(crate) struct Places<C: Copy> {
     cells: Vec<Option<C>>,
@@ -29,7 +29,7 @@ impl<C: Copy> Model for Places<C> {
 }
 
 impl<C: Copy> Places<C> {
-    /// `count` empty places. It fails only where an allocation fails.
+    /// `count` empty places. It fails only if an allocation fails.
     pub(crate) fn new(alloc: Global, count: usize) -> Result<Self, AllocError>
         ensures { IfOk result (λ places. places ≡ replicate count None) }
     {
@@ -40,7 +40,7 @@ impl<C: Copy> Places<C> {
         })
     }
 
-    /// A copy of the places, with the same capacity. It fails only where an allocation fails.
+    /// A copy of the places, with the same capacity. It fails only if an allocation fails.
     pub(crate) fn copy(&self, alloc: Global) -> Result<Self, AllocError>
         ensures { IfOk result (λ places. places ≡ self.now) }
     {

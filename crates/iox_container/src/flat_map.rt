@@ -50,7 +50,7 @@ impl<K: Eq, V> Model for FlatMap<K, V> {
 impl<K: Eq, V> FlatMap<K, V> {
     ghost use Rattle.iox_container.specs.FlatMapLends.{LendsOf};
 
-    /// An empty map with this capacity. It fails only where an allocation fails.
+    /// An empty map with this capacity. It fails only if an allocation fails.
     pub fn new(alloc: Global, capacity: usize) -> Result<Self, AllocError>
         ensures empty { IfOk result (λ m. m.values ≡ replicate capacity None) }
         ensures free { IfOk result (λ m. m.free ≡ range_with_len 0 capacity) }

@@ -10,7 +10,7 @@ use std::marker::Model;
 
 /// The free keys of a slot map in the order in which they will be given out.
 ///
-/// Keys that were used before are linked. Behind them come the keys that were never used, in rising order; these need no link.
+/// Keys that were used before are linked. After them come the keys that were never used, in rising order; these need no link.
 #[derive(Drop)]
 pub(crate) struct FreeKeys {
     used: LinkedKeys,
@@ -29,7 +29,7 @@ impl Model for FreeKeys {
 }
 
 impl FreeKeys {
-    /// All keys below the capacity, in rising order. It fails only where an allocation fails.
+    /// All keys below the capacity, in rising order. It fails only if an allocation fails.
     pub(crate) fn new(alloc: Global, capacity: usize) -> Result<Self, AllocError>
         requires { capacity + 1 < 2 ^ 64 }
         ensures keys { IfOk result (λ f. f.keys ≡ range_with_len 0 capacity) }

@@ -27,7 +27,7 @@
 //! First calls, of a queue, a map and a container of members:
 //!
 //! ```
-//! /// `iox_container`: keeps a number as the newest of three; the oldest leaves where there are three already.
+//! /// `iox_container`: keeps a number as the newest of three; if there are three already, the oldest is removed.
 //! fn keep(latest: &mut FixedSizeQueue<u64, 3>, number: u64) -> Option<u64>
 //!     ensures { latest.old ++ number ∷ [] ≡ option_to_list result ++ latest.new }
 //! {
@@ -36,7 +36,7 @@
 //! ```
 //!
 //! ```
-//! /// `iox_container`: takes a value into a slot map; the key under which it is found again, or None where the map is full.
+//! /// `iox_container`: puts a value into a slot map; answers the key under which it is found again, or None if the map is full.
 //! fn filed(map: &mut SlotMap<u64>, value: u64) -> Option<u64>
 //!     ensures found { IfSome result (λ found. found ≡ value) }
 //!     ensures full { IfNone result (map.new ≡ map.old) }
@@ -47,7 +47,7 @@
 //! ```
 //!
 //! ```
-//! /// `iox_container`: adds a member, and returns its index; None where the container is full or locked.
+//! /// `iox_container`: adds a member, and returns its index; None if the container is full or locked.
 //! fn joined(container: &mut Container<u64>, value: u64, owner: OwnerId) -> Option<usize>
 //!     requires { HasRoom container.old }
 //!     ensures added { IfSome result (λ index. container.new

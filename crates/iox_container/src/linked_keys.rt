@@ -35,7 +35,7 @@ impl Model for LinkedKeys {
 }
 
 impl LinkedKeys {
-    /// An empty list that can hold `room` keys. It fails only where an allocation fails.
+    /// An empty list that can hold `room` keys. It fails only if an allocation fails.
     pub(crate) fn new(alloc: Global, room: usize) -> Result<Self, AllocError>
         requires { room + 1 < 2 ^ 64 }
         ensures { IfOk result (λ l. l ≡ record { keys = []; made = 0; room = room }) }

@@ -36,7 +36,7 @@ impl Model for Owners {
 }
 
 impl Owners {
-    /// A record in which no place had an owner so far, for up to `room` places. It fails only where an allocation fails.
+    /// A record for at most `room` places, none of which had an owner so far. It fails only if an allocation fails.
     pub(crate) fn new(alloc: Global, room: usize) -> Result<Self, AllocError>
         ensures { IfOk result (λ owners. owners ≡ new_owners room) }
     {
@@ -67,8 +67,8 @@ impl Owners {
         insert(&mut self.entries, owner, place);
     }
 
-    /// The first place, at or behind `from`, that the owner had last; `None` if there is none. The list is tried at position `near` before
-    /// it is searched. If a place is found, `near` becomes the position behind it.
+    /// The first place, at or after `from`, that the owner had last; `None` if there is none. The list is tried at position `near` before
+    /// it is searched. If a place is found, `near` becomes the position after it.
     pub(crate) fn next(&self, owner: OwnerId, from: usize, near: &mut usize) -> Option<usize>
         ensures some { IfSome result (λ place. IsNext self.now.last owner from place) }
         ensures none { IfNone result ((place : ℕ) → from ≤ place → slice_get self.now.last place ≢ Some owner) }
@@ -77,7 +77,7 @@ impl Owners {
     }
 }
 
-// The first place, at or behind `from`, that is listed with the owner. It is looked up as `Owners::next` says.
+// The first place, at or after `from`, that is listed with the owner. It is looked up as `Owners::next` says.
 fn next_of(entries: &[(u64, usize)], owner: u64, from: usize, near: &mut usize) -> Option<usize>
     requires { Rises entries.now }
     ensures some { IfSome result (λ place. Contains entries.now (owner, place) × (from ≤ place)

@@ -9,7 +9,7 @@ use std::alloc::{AllocError, Global};
 use std::marker::Model;
 
 /// A row of `count` places, each with a value or none. The memory for all of them is allocated by `new`, but none of it is touched before
-/// it is used: the places behind the last one that ever had a value are empty, and have no cell.
+/// it is used: the places after the last one that ever had a value are empty, and have no cell.
 #[derive(Drop)]
 pub(crate) struct Places<T> {
     cells: Vec<Option<T>>,
@@ -31,7 +31,7 @@ impl<T> Model for Places<T> {
 impl<T> Places<T> {
     ghost use Rattle.iox_container.specs.PlacesLends.{LendsPlace};
 
-    /// `count` empty places. It fails only where an allocation fails.
+    /// `count` empty places. It fails only if an allocation fails.
     pub(crate) fn new(alloc: Global, count: usize) -> Result<Self, AllocError>
         ensures { IfOk result (λ places. places ≡ replicate count None) }
     {

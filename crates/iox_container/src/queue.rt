@@ -42,7 +42,7 @@ impl<T> Model for Queue<T> {
 impl<T> Queue<T> {
     ghost use Rattle.iox_container.specs.QueueLends.{LendsOldest};
 
-    /// An empty queue with this capacity. It fails only where an allocation fails, and never at capacity 0.
+    /// An empty queue with this capacity. It fails only if an allocation fails, and never at capacity 0.
     pub fn new(alloc: Global, capacity: usize) -> Result<Self, AllocError>
         ensures empty { IfOk result (λ q. q.items ≡ []) }
         ensures capacity { IfOk result (λ q. q.capacity ≡ capacity) }

@@ -18,7 +18,7 @@ use std::marker::Model;
 ///
 /// `find` and `recover` search a sorted list of owners and indices once, in logarithmic time. After that, each index that the owner holds,
 /// or was the last to hold, costs the same at any size. `release` costs the same at any size. `acquire` scans the indices below the one
-/// that it hands out. If another owner held that index last, `acquire` also moves the entries of the list that lie behind the old and the
+/// that it hands out. If another owner held that index last, `acquire` also moves the entries of the list that lie after the old and the
 /// new position.
 ///
 /// Ported from `iceoryx2_bb_lock_free::mpmc::robust_unique_index_set::RobustUniqueIndexSet`.
@@ -45,7 +45,7 @@ impl Model for RobustUniqueIndexSet {
 }
 
 impl RobustUniqueIndexSet {
-    /// A set of the indices below `capacity`, none of which is held. It fails only where an allocation fails.
+    /// A set of the indices below `capacity`, none of which is held. It fails only if an allocation fails.
     pub fn new(alloc: Global, capacity: usize) -> Result<Self, AllocError>
         ensures { IfOk result (λ set. set ≡ new_robust_set capacity) }
     {
@@ -168,7 +168,7 @@ fn is_of(owner: OwnerId, cell: Option<OwnerId>) -> bool
     }
 }
 
-// The owner's first index at or behind `from`. It is looked up as `Owners::next` says.
+// The owner's first index at or after `from`. It is looked up as `Owners::next` says.
 fn next_held(
     owner: OwnerId,
     owners: &Owners,

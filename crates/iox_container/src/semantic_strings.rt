@@ -11,7 +11,7 @@
 //! A first call:
 //!
 //! ```
-//! /// `iox_container`: a file's name, with a byte more; None where that is none.
+//! /// `iox_container`: a file's name with one more byte; None if that is not a file's name.
 //! fn longer(name: &[u8], byte: u8) -> Option<Semantic<FileName, 32>>
 //!     ensures { IfSome result (λ text. text ≡ name.now ++ byte ∷ []) }
 //! {

@@ -17,7 +17,7 @@ use std::sync::atomic::{AtomicU64, Ordering};
 /// After how many lost exchanges a call gives up.
 const LOST_TURNS: u32 = 1 << 20;
 
-/// The link behind the last free index. It is the largest index that a head can store, so a set of that many indices can't be shared.
+/// The link of the last free index. It is the largest number that a head can store, so no set that can be shared has it as an index.
 const END: u32 = (1 << 24) - 1;
 
 /// A set of fewer than 2^24 indices that threads share.

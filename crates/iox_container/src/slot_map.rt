@@ -53,7 +53,7 @@ impl<T> Model for SlotMap<T> {
 impl<T> SlotMap<T> {
     ghost use Rattle.iox_container.specs.SlotMapLends.{LendsAt, LendsHeld};
 
-    /// An empty map with this capacity. It fails only where an allocation fails.
+    /// An empty map with this capacity. It fails only if an allocation fails.
     pub fn new(alloc: Global, capacity: usize) -> Result<Self, AllocError>
         ensures empty { IfOk result (λ m. m.values ≡ replicate capacity None) }
         ensures free { IfOk result (λ m. m.free ≡ range_with_len 0 capacity) }

@@ -16,7 +16,7 @@
 //! A first call:
 //!
 //! ```
-//! /// `iox_container`: a greeting of at most 32 bytes; None where the name is too long, or has a byte that no string has.
+//! /// `iox_container`: a greeting of at most 32 bytes; None if the name is too long, or has a byte that a string may not have.
 //! fn greeting(name: &[u8]) -> Option<StaticString<32>>
 //!     ensures { IfSome result (λ text. text ≡ codes "hello " ++ name.now) }
 //! {

@@ -36,7 +36,7 @@ impl Model for UniqueIndexSet {
 }
 
 impl UniqueIndexSet {
-    /// A set of the indices below `capacity`, none of which is held. It fails only where an allocation fails.
+    /// A set of the indices below `capacity`, none of which is held. It fails only if an allocation fails.
     pub fn new(alloc: Global, capacity: usize) -> Result<Self, AllocError>
         ensures { IfOk result (λ set. set ≡ new_unique_set capacity) }
     {

@@ -31,7 +31,7 @@ pub Advances-none : {M : Type 0} (answers : M → List ℕ → List ℕ → M �
     → Advances answers used old [] [] old
 Advances-none answers used old = record { done = []; served = (refl, refl); lines = λ rest. refl; counts = omega arith }
 
--- bytes came that belong to the line under way
+-- bytes came that belong to the line in progress
 pub Advances-heard : {M : Type 0} (answers : M → List ℕ → List ℕ → M → Type 0) (used : M → ℕ) (old new : SessionState M) (part : List ℕ)
     → is_unbroken old.line ≡ true → is_unbroken part ≡ true
     → new.machine ≡ old.machine → new.line ≡ take 1025 (old.line ++ part) → Advances answers used old part [] new
@@ -85,7 +85,7 @@ pub length-zero : (xs : List ℕ) → length xs ≡ 0 → xs ≡ []
 length-zero [] h = refl
 length-zero (x ∷ xs) h = absurd (omega (arith, h))
 
--- the input ended, and no line was under way
+-- the input ended, and no line was in progress
 pub Ends-empty : {M : Type 0} (answers : M → List ℕ → List ℕ → M → Type 0) (old : SessionState M) → length old.line ≡ 0
     → Ends answers old [] []
 Ends-empty answers old empty = record { final = old.machine; served = rw (length-zero old.line empty) (refl, refl) }

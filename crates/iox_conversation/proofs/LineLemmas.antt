@@ -73,7 +73,7 @@ pub unbroken-append : (xs ys : List ℕ) → is_unbroken xs ≡ true → is_unbr
 unbroken-append [] ys h k = k
 unbroken-append (x ∷ xs) ys h k = grind (arith, common_steps, unbroken-append xs ys)
 
--- of a line under way no more than its first 1,025 bytes is heard
+-- of a line in progress no more than its first 1,025 bytes is heard
 pub heard-cut : (xs rest : List ℕ) → is_unbroken xs ≡ true → heard (xs ++ rest) ≡ heard (take 1025 xs ++ rest)
 heard-cut [] rest unbroken = refl
 heard-cut (x ∷ xs) rest unbroken =

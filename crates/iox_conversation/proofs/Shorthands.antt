@@ -16,7 +16,7 @@ before_first_of b (piece ∷ pieces) = (b ∷ piece) ∷ pieces
 abbrev pub lines_of : List ℕ → List (List ℕ)
 lines_of input = lines_in true input
 
--- the bytes before each newline, and nothing of what stands behind the last
+-- the bytes before each newline, and nothing of what stands after the last
 abbrev pub ended_lines_of : List ℕ → List (List ℕ)
 ended_lines_of input = lines_in false input
 

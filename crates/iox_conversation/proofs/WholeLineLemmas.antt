@@ -21,7 +21,7 @@ onto-last : (b : ℕ) (lines : List (List ℕ)) (last : List ℕ) → (end : Lis
 onto-last b [] last = (b ∷ last, refl)
 onto-last b (line ∷ lines) last = (last, refl)
 
--- one more byte of what newlines end and of what stands behind it
+-- one more byte of what newlines end and of what stands after it
 onto-more-if : (is_newline : Bool) (b : ℕ) (all ended others : List (List ℕ)) → all ≡ ended ++ others
     → (more : List (List ℕ)) × ((if is_newline then [] ∷ all else onto_first b all)
     ≡ (if is_newline then [] ∷ ended else before_first_of b ended) ++ more)
@@ -81,7 +81,7 @@ init-same (l ∷ []) [] x y same = grind (arith, common_steps)
 init-same (l ∷ m ∷ xs) [] x y same = grind (arith, common_steps)
 init-same (l ∷ xs) (m ∷ ys) x y same = grind (arith, common_steps, init-same xs ys x y)
 
--- lines behind which a line with no newline is under way are those that newlines end
+-- lines after which a line with no newline is in progress are those that newlines end
 pub heard_whole-done : (bytes line : List ℕ) (done : List (List ℕ)) → is_unbroken line ≡ true
     → ((rest : List ℕ) → heard (bytes ++ rest) ≡ done ++ heard (line ++ rest)) → heard_whole false bytes ≡ done
 heard_whole-done bytes line done unbroken lines =

@@ -18,12 +18,12 @@ Served {M} answers old (line ∷ lines) out new =
 abbrev pub IsConversation : {M : Type 0} → (M → List ℕ → List ℕ → M → Type 0) → M → List ℕ → List ℕ → Type 0
 IsConversation {M} answers start input out = (final : M) × Served answers start (heard_whole true input) out final
 
--- A conversation under way: the machine that answers, and what was heard of the line that isn't whole yet.
+-- A conversation in progress: the machine that answers, and what was heard of the line that isn't whole yet.
 pub record SessionState (M : Type 0) : Type 0 where
   pub machine : M
   pub line : List ℕ
 
--- The bytes were read, and the output answers each line that is whole by them, whatever comes next.
+-- The bytes were read, and the output answers each line that they complete, whatever comes next.
 pub record Advances {M : Type 0} (answers : M → List ℕ → List ℕ → M → Type 0) (used : M
     → ℕ) (old : SessionState M) (bytes out : List ℕ) (new : SessionState M) : Type 0 where
   pub done : List (List ℕ)
@@ -31,7 +31,7 @@ pub record Advances {M : Type 0} (answers : M → List ℕ → List ℕ → M �
   pub lines : (rest : List ℕ) → heard_whole true (old.line ++ (bytes ++ rest)) ≡ done ++ heard_whole true (new.line ++ rest)
   pub counts : used new.machine ≤ used old.machine + length bytes
 
--- The output answers each line that is whole by the first of the bytes, and the others end a line.
+-- The output answers each line that the first of the bytes complete, and the remaining bytes end a line.
 pub record StopsShort {M : Type 0} (answers : M → List ℕ → List ℕ → M → Type 0) (used : M
     → ℕ) (old : SessionState M) (bytes out : List ℕ) : Type 0 where
   pub first : List ℕ
@@ -42,13 +42,13 @@ pub record StopsShort {M : Type 0} (answers : M → List ℕ → List ℕ → M 
   pub whole : list_all (λ b. not (b == 10)) mid.line ≡ true
   pub due : list_all (λ b. not (b == 10)) more ≡ false
 
--- The bytes were read last, and the output answers each line.
+-- The bytes are the last that were read, and the output answers each line.
 pub record Ends {M : Type 0} (answers : M → List ℕ → List ℕ → M → Type 0) (old : SessionState M) (bytes out : List ℕ) : Type 0 where
   pub final : M
   pub served : Served answers old.machine (heard_whole true (old.line ++ bytes)) out final
 
--- A conversation from this state to the end of the input: what the reader still had, of at most 2^36 bytes, was read to its end, and what
--- was written answers it.
+-- A conversation from this state to the end of the input: the bytes that the reader still had, at most 2^36, were read to their end, and
+-- what was written answers them.
 pub record Converses {M : Type 0} (answers : M → List ℕ → List ℕ → M → Type 0) (used : M
     → ℕ) (old : SessionState M) (left leaves held holds : Option (List ℕ)) : Type 0 where
   pub bytes : List ℕ
@@ -62,8 +62,8 @@ pub record Converses {M : Type 0} (answers : M → List ℕ → List ℕ → M �
   pub advances : Advances answers used old bytes text mid
   pub ends : Ends answers mid [] last
 
--- The bytes are a beginning of the answers to the lines that are whole by a last piece, or by its first bytes if memory ran out for the
--- next line, or, at the end of the input, for the last line.
+-- The bytes are a beginning of the answers to the lines that a last piece completes; or those that its first bytes complete, if memory ran
+-- out for the next line, or, at the end of the input, for the last line.
 abbrev pub AreBegun : {M : Type 0} → (M → List ℕ → List ℕ → M → Type 0) → (M → ℕ) → Bool → SessionState M → List ℕ → List ℕ → Type 0
 AreBegun {M} answers used ended old piece part =
     (rest : List ℕ) × (((first : List ℕ) × (more : List ℕ) × (new : SessionState M) × (piece ≡ first ++ more)

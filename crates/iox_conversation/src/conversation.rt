@@ -25,8 +25,8 @@ const PIECE: usize = 65536;
 /// answered before the next read, and their replies are written together.
 ///
 /// After an error, what is written is a beginning of the replies, in order, to the lines that were read whole: after `ReadFault` all of
-/// them; after `WriteFault` those to all that was read before the last read, and a beginning of the others; after `OutOfMemory` those to
-/// all lines before the one at which memory ran out.
+/// them; after `WriteFault` those to all that was read before the last read, and a beginning of the replies to the last read; after
+/// `OutOfMemory` those to all lines before the one at which memory ran out.
 ///
 /// A read or write that a signal interrupts is repeated. Each such read counts as a read call, and a write that is interrupted 2^20 times
 /// in sequence has failed.

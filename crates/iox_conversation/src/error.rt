@@ -12,7 +12,7 @@ pub enum ServeError {
     ReadFault,
     /// A write call failed, took no bytes, or was interrupted 2^20 times.
     WriteFault,
-    /// An allocation failed for a reply.
+    /// An allocation failed for a reply, or for the buffers of the conversation.
     OutOfMemory,
 }
 

@@ -9,7 +9,7 @@ use std::io;
 use std::io::{ErrorKind, Write};
 use std::marker::Model;
 
-/// How often a write call is made at most where signals interrupt it.
+/// The maximum number of times that one write call is repeated because signals interrupt it.
 const WRITE_CALLS: u64 = 1 << 20;
 
 /// A writer that remembers whether a write call failed or took no bytes.

@@ -1,4 +1,4 @@
-//! A conversation under way: the machine that answers, and what was heard of the line that isn't whole yet.
+//! A conversation in progress: the machine that answers, and what was heard of the line that isn't whole yet.
 ghost use Rattle.std.specs.Prelude.{◌≡◌, ◌==◌, ℕ, List, ◌+◌, ◌++◌, ◌∷◌, [], ◌<◌, ◌≤◌, ◌^◌, true, not, length, take, OnOk, OnErr, IfOk};
 ghost use Rattle.std.specs.Io.{StartsWith};
 ghost use Rattle.std.specs.List.{list_all};
@@ -9,10 +9,11 @@ use memchr::memchr;
 use std::alloc::{AllocError, Global};
 use std::marker::Model;
 
-/// The most bytes of a line, without its newline.
+/// The maximum number of bytes of a line, without its newline.
 const LINE_LIMIT: usize = 1024;
 
-/// The machine that answers, and the bytes of the line under way. Of a line that is too long only as much is kept as shows that.
+/// The machine that answers, and the bytes of the current line. Of a line that is too long, only enough
+/// bytes are kept to show that.
 #[derive(Drop)]
 pub(crate) struct Session<M> {
     machine: M,
@@ -43,7 +44,7 @@ impl<M: AnswersLines> Session<M> {
         })
     }
 
-    /// Hears more of the line under way. Past its first 1,025 bytes nothing is kept.
+    /// Hears more of the current line. After its first 1,025 bytes nothing is kept.
     fn hear(&mut self, part: &[u8])
         requires { list_all (λ b. not (b == 10)) part.now ≡ true }
         ensures line { self.new.line ≡ take 1025 (self.old.line ++ part.now) }
@@ -57,7 +58,7 @@ impl<M: AnswersLines> Session<M> {
         };
     }
 
-    /// Ends the line under way with these bytes, and appends its reply line, or nothing if memory runs out for it. A line that is whole in
+    /// Ends the current line with these bytes, and appends its reply line, or nothing if memory runs out for it. A line that is whole in
     /// these bytes isn't copied.
     fn end_line(&mut self, alloc: Global, part: &[u8], out: &mut Vec<u8>) -> Result<(), AllocError>
         requires unbroken { list_all (λ b. not (b == 10)) part.now ≡ true }

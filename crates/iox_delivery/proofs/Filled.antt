@@ -24,7 +24,7 @@ use Rattle.iox_delivery.specs.Slices.{each_written, each_written_in}
 not_none : {X : Type 0} (x : X) → None ≡ Some x → ⊥
 not_none x is = cc
 
--- one value more is written behind the others
+-- one value more is written after the others
 pub one_more : {T U : Type 0} (slot place n : ℕ) (values : List T) (value : T) (port : PublisherPort T U) → n ≡ place + length values
     → each_written slot place (values ++ value ∷ []) port
     ≡ changed_if (has_place slot n (each_written slot place values port).sender.uses) slot (write_value n value)
@@ -92,7 +92,7 @@ pub each_of : {T U : Type 0} (slot : ℕ) (values : List T) (port : PublisherPor
     → loan_of slot (each_written slot 0 values port) ≡ Some (write_all values loan)
 each_of slot values port loan found count = from_place slot 0 values port loan found (omega (arith, count))
 
--- whether a send waits stays
+-- whether a send is blocked stays
 one_waits : {T U : Type 0} (test : Bool) (slot : ℕ) (change : Loan T U → Loan T U) (port : PublisherPort T U)
     → is_blocked (changed_if test slot change port) ≡ is_blocked port
 one_waits true slot change port = refl
@@ -188,7 +188,7 @@ puts_each {T} {U} {H} of put there number slot values old ports port after are f
 same_number : (n : ℕ) → eqb n n ≡ true
 same_number n = ⊎_elim (λ same. same.0) (λ differs. absurd (differs.1 refl)) (eqb_tells n n)
 
--- a loan of so many values has so many
+-- a loan of n values has n
 as_many : (T : Type 0) (n : ℕ) → eqb n (length (replicate {A = Option T} n None)) ≡ true
 as_many T n = rw (length-replicate {A = Option T} n None) (same_number n)
 

@@ -73,7 +73,7 @@ stepped number step ports port there =
     ap (λ found. port_of number (changed_at_port number step found ports)) there ∙ same_set (is_at (nat_cmp number)) ports (step port)
     port there
 
--- What is written in a loan is found there, and whether a send waits stays.
+-- What is written into a loan is found there, and whether a send is blocked doesn't change.
 pub record IsWritten {T U : Type 0} (number slot : ℕ) (loan : Loan T U) (old new : ServicePorts T U) : Type 0 where
   pub found : loan_in number slot new ≡ Some loan
   pub blocked : passes number is_blocked new ≡ passes number is_blocked old
@@ -175,7 +175,7 @@ pub ready_is_written : {T U : Type 0} (number elements slot : ℕ) (values : Lis
     → IsReady number values elements slot ports → is_written_loan (loan_found number slot ports) ≡ true
 ready_is_written number elements slot values ports ready = ap is_written_loan ready.1 ∙ all_written values
 
--- and no send waits
+-- and no send is blocked
 pub ready_is_free : {T U : Type 0} (number elements slot : ℕ) (values : List T) (ports : Option (ServicePorts T U))
     → IsReady number values elements slot ports → publisher_blocked number ports ≡ false
 ready_is_free number elements slot values ports ready = ready.2

@@ -39,7 +39,7 @@ port_sends may_degrade may number slot None old new holds free sends = no holds
 port_sends may_degrade may number slot (Some port) old new holds free sends =
     ready_there slot port _ refl holds free (none_ready may_degrade may sends.1.0 old.subscriber_list.changes _ port sends.0 sends.1.2)
 
--- a sample that is held by a publisher of which no send waits is sent
+-- a sample that is held by a publisher of which no send is blocked is sent
 pub sample_sends : {T U H : Type 0} (with_ports : ServicePorts T U → H) (may_degrade : DegradationInfo → DegradationAction → Type 0)
     (may : BackpressureInfo → BackpressureDecision → Type 0) (number slot : ℕ) (found : Option (ServicePorts T U)) (old new : H)
     → is_written_loan (loan_found number slot found) ≡ true → publisher_blocked number found ≡ false

@@ -15,11 +15,11 @@ abbrev pub unit_of : {T U : Type 0} → Option (PublisherPort T U) → ℕ
 unit_of None = 0
 unit_of (Some port) = port.unit
 
--- How many values these elements of the publisher with this number have, counted up to 2^64 - 1: no slot has room for as many.
+-- How many values these elements of the publisher with this number have, counted up to 2^64 - 1: no slot has capacity for as many.
 abbrev pub values_of : {T U : Type 0} → ℕ → ℕ → Option (ServicePorts T U) → ℕ
 values_of number elements ports = min (elements * unit_of (publisher_found number ports)) (2 ^ 64 - 1)
 
--- What the loan of `elements` elements, with all of their values, answers and changes; the header says so many elements.
+-- What the loan of `elements` elements, with all of their values, answers and changes; the header says `elements`.
 abbrev pub LendsElements : {T U K H : Type 0} → (DomainId → H → Option (ServicePorts T U)) → (DomainId → ServicePorts T U → H → H)
     → PortId → ℕ → H → Result (Lent T U K Uninit) LoanError → H → Type 0
 LendsElements ports_of with_ports port elements old answer new =

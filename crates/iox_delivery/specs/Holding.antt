@@ -69,7 +69,7 @@ abbrev pub holds_message : {T U : Type 0} → ℕ → Taken → Option (ServiceP
 holds_message number taken ports =
     (is_some (subscriber_found number ports) && is_some (message_found taken ports)) && (taken.subscriber == number)
 
--- What dropping a port answers: Ok if the port was closed, and otherwise the port itself.
+-- What dropping a port, a loan or a sample answers: Ok if it was ended, and otherwise the value itself.
 abbrev pub left_or_given_back : {P : Type 0} → Bool → P → Result (Unit {0}) P
 left_or_given_back true port = Ok tt
 left_or_given_back false port = Err port

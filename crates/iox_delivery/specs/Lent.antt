@@ -9,9 +9,8 @@ use Rattle.iox_domain.specs.DomainPorts.Publishers.{port_of}
 use Rattle.iox_domain.specs.Steps.{LoansBy}
 use Rattle.iox_delivery.specs.Holding.{loan_found, publisher_blocked}
 
--- The loan that was just made is found in its slot: none of its values is written, and it has the user header that its
--- publisher gives new loans. Its header says that publisher and no sequence number. The publisher is open, and no send of it
--- waits.
+-- The loan that was just made is found in its slot: none of its values is written, and it has the user header that its publisher
+-- gives new loans. Its header says that publisher and no sequence number. The publisher is open, and no send of it is blocked.
 abbrev pub IsFresh : {T U : Type 0} → ℕ → ℕ → ℕ → ℕ → ServicePorts T U → ServicePorts T U → Type 0
 IsFresh {T} {U} number values elements slot old new =
     (port : PublisherPort T U) × (port_of number old.publishers ≡ Some port)
@@ -25,7 +24,7 @@ abbrev pub LoanIsFresh : (T U : Type 0) → Type 0
 LoanIsFresh T U = (number values elements slot : ℕ) (old new : ServicePorts T U)
     → LoansBy number values elements old (Some (Ok slot)) new → IsFresh number values elements slot old new
 
--- The loan in this slot has just these values, each written, and so many elements; and no send of its publisher is blocked.
+-- The loan in this slot has just these values, each written, and `elements` elements; and no send of its publisher is blocked.
 abbrev pub IsReady : {T U : Type 0} → ℕ → List T → ℕ → ℕ → Option (ServicePorts T U) → Type 0
 IsReady {T} {U} number values elements slot ports =
     (user_header : U) × (loan_found number slot ports

@@ -45,7 +45,7 @@ sent_of port (Ok (sending.Delivered delivered)) = Ok (sent.Delivered delivered)
 sent_of port (Ok sending.Blocked) = Ok (sent.Blocked (record { port = port; of = record {} }))
 sent_of port (Err error) = Err error
 
--- The home after its ports of a domain were changed; unchanged if it doesn't contain the domain.
+-- The home after the ports of a domain were changed; unchanged if it doesn't contain the domain.
 abbrev pub changed_at : {P H : Type 0} → (P → H) → (P → P) → Option P → H → H
 changed_at with_ports change None home = home
 changed_at with_ports change (Some ports) home = with_ports (change ports)

@@ -82,7 +82,7 @@ LendsFilled {T} {U} {H} ports_of with_ports port len value old answer new =
     × LendsSlot ports_of with_ports port len len old lent middle
     × AfterLoan Err (FillsLent ports_of with_ports port len value) lent middle answer new
 
--- What the loan of `len` values that are written, each as the same default, answers and changes.
+-- What the loan of a slot for `len` values answers and changes, where each value is written as the same default value.
 abbrev pub LendsDefaults : {T U K H : Type 0} → (DomainId → H → Option (ServicePorts T U)) → (DomainId → ServicePorts T U → H → H)
     → (T → Type 0) → PortId → ℕ → H → Result (Lent T U K Written) LoanError → H → Type 0
 LendsDefaults {T} {U} {K} {H} ports_of with_ports is_default port len old answer new =

@@ -38,7 +38,7 @@ FollowsPublishers ports_of with_ports degrades port old answer new =
     AtDomain (λ after. with_ports port.domain after old) (FollowsBy (degrades port.domain port.number old) port.number)
     (ports_of port.domain old) old (Some answer) new
 
--- What the question for data answers and changes: whether some connection of the subscriber has data.
+-- What `has_samples` answers and changes: whether some connection of the subscriber has data.
 abbrev pub TellsSamples : {T U H : Type 0} → (DomainId → H → Option (ServicePorts T U)) → (DomainId → ServicePorts T U → H → H)
     → (DomainId → ℕ → H → DegradationInfo → DegradationAction → Type 0) → PortId → H → Result Bool ConnectionFailure → H → Type 0
 TellsSamples ports_of with_ports degrades port old answer new =

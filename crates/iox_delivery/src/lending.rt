@@ -175,14 +175,17 @@ pub fn send<T: Copy, U: Copy, H: Home<T, U>>(
     }
 }
 
-/// Drops the loan in this slot; nothing happens if there is no such loan.
+/// Drops the loan in this slot; nothing happens if there is no such loan. The call answers whether there was one.
 ///
 /// Ported from dropping an `iceoryx2::sample_mut::SampleMut`.
-/// Example: `lending::drop_loan(port, slot, home);`
-pub fn drop_loan<T: Copy, U: Copy, H: Home<T, U>>(port: PortId, slot: usize, home: &mut H)
-    ensures { GivesUpLoan (homes.ports_of H.domain_of) (homes.with_ports H.changed) port slot home.old home.new }
+/// Example: `let was_there = lending::drop_loan(port, slot, home);`
+#[tactic(auto, using(crate::proofs::Ending::placed_is_found))]
+pub fn drop_loan<T: Copy, U: Copy, H: Home<T, U>>(port: PortId, slot: usize, home: &mut H) -> bool
+    ensures gives_up { GivesUpLoan (homes.ports_of H.domain_of) (homes.with_ports H.changed) port slot home.old home.new }
+    ensures was_there { result ≡ is_some (loan_found port.number slot (homes.ports_of H.domain_of port.domain home.old)) }
 {
-    if let Some(ports) = calls::ports_mut(home, port.domain) {
-        let _ = ports.drop_loan(port.number, slot);
+    match calls::ports_mut(home, port.domain) {
+        Some(ports) => ports.drop_loan(port.number, slot),
+        None => false,
     }
 }

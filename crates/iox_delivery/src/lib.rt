@@ -18,7 +18,7 @@
 //! - [`laws`]: what a loan is that was just made; what may be sent, and what may be read.
 //!
 //! Publishers and subscribers are copied, as numbers are. A loan, a sample and a blocked send are consumed by the call that
-//! ends them.
+//! ends them. `drop_with` returns what isn't in the home: it can be dropped in its own home, or forgotten.
 //!
 //! First calls, of a publisher and of a subscriber; a hub is a home, too:
 //!
@@ -26,13 +26,17 @@
 //! let loan = publisher.loan_uninit(alloc, home).ok()?;
 //! let sample = loan.write_payload(home, 7);
 //! if !sample.holds(home) || sample.is_blocked(home) {
-//!     sample.drop_with(home);
+//!     if let Err(kept) = sample.drop_with(home) {
+//!         kept.into_slot();
+//!     }
 //!     return None;
 //! }
 //! match sample.send(alloc, home) {
 //!     Ok(Sent::Delivered(count)) => Some(count),
 //!     Ok(Sent::Blocked(blocked)) => {
-//!         blocked.drop_with(home);
+//!         if let Err(kept) = blocked.drop_with(home) {
+//!             kept.into_port();
+//!         }
 //!         None
 //!     }
 //!     Err(_) => None,
@@ -40,7 +44,7 @@
 //! // the subscriber's side
 //! let sample = subscriber.receive(alloc, home).ok()??;
 //! if !sample.holds(home) {
-//!     sample.drop_with(home);
+//!     sample.into_taken();
 //!     return None;
 //! }
 //! let value = *sample.payload(home);

@@ -4,7 +4,7 @@ ghost use Rattle.std.specs.Prelude.{◌≡◌, Bool, Option, true, Some, is_some
 ghost use Rattle.std.specs.Borrow.{sem, LendsIf};
 ghost use Rattle.std.specs.Option.{option_copied_mut};
 ghost use Rattle.iox_domain.specs.DomainPorts.Messages.{Loan as Lent, write_user_header};
-ghost use Rattle.iox_delivery.specs.Holding.{loan_found};
+ghost use Rattle.iox_delivery.specs.Holding.{loan_found, left_or_given_back};
 ghost use Rattle.iox_delivery.specs.Publishing.{loan_changed, loan_header_found, WritesUserHeader, GivesUpLoan};
 
 use crate::kind::Kind;
@@ -30,13 +30,13 @@ pub trait LoanState<T, U, K> {
     ghost held_is_loan: { (loan : Option (Lent T U)) → is_held loan ≡ true → is_some loan ≡ true };
 }
 
-/// Not written yet; the loan has `len` values.
+/// The state of a loan that isn't written yet, and has `len` values.
 #[derive(Clone, Copy)]
 pub struct Uninit {
     pub(crate) len: usize,
 }
 
-/// Written, so that the loan may be sent.
+/// The state of a loan that is written, so that it may be sent.
 #[derive(Clone, Copy)]
 pub struct Written;
 
@@ -138,19 +138,37 @@ impl<T: Copy, U: Copy, K, S: LoanState<T, U, K> + Copy> Loan<T, U, K, S> {
         lending::write_user_header(self.port, self.slot, home, user_header);
     }
 
-    /// Drops the loan.
+    /// The slot of the loan. The loan stays with its publisher: nothing can send or drop it any longer, and its slot stays in use.
     ///
-    /// Ported from dropping an `iceoryx2::sample_mut_uninit::SampleMutUninit` or an `iceoryx2::sample_mut::SampleMut`.
-    /// Example: `loan.drop_with(home);`
-    pub fn drop_with<H: Home<T, U>>(self, home: &mut H)
-        ensures { GivesUpLoan (homes.ports_of H.domain_of) (homes.with_ports H.changed) self.port self.slot home.old home.new }
+    /// Not in `iceoryx2`.
+    /// Example: `let slot = loan.into_slot();`
+    pub fn into_slot(self) -> usize
+        ensures { result ≡ self.slot }
     {
         let Loan {
-            port,
+            port: _,
             slot,
             state: _,
             of: _,
         } = self;
-        lending::drop_loan(port, slot, home);
+        slot
+    }
+
+    /// Drops the loan, if it exists in this home. Otherwise nothing happens, and the loan is returned, so that it can be dropped in
+    /// its own home, or forgotten by `into_slot`.
+    ///
+    /// Ported from dropping an `iceoryx2::sample_mut_uninit::SampleMutUninit` or an `iceoryx2::sample_mut::SampleMut`.
+    /// Example: `let stays = loan.drop_with(home).err();`
+    pub fn drop_with<H: Home<T, U>>(self, home: &mut H) -> Result<(), Self>
+        ensures gives_up { GivesUpLoan (homes.ports_of H.domain_of) (homes.with_ports H.changed) self.port self.slot home.old home.new }
+        ensures dropped { result ≡ left_or_given_back
+            (is_some (loan_found self.port.number self.slot (homes.ports_of H.domain_of self.port.domain home.old))) self }
+    {
+        if lending::drop_loan(self.port, self.slot, home) {
+            let _ = self.into_slot();
+            Ok(())
+        } else {
+            Err(self)
+        }
     }
 }

@@ -24,7 +24,7 @@ use std::marker::PhantomData;
 /// Ported from `iceoryx2::port::publisher::Publisher`.
 pub type Publisher<T, U, K = Single> = Port<T, U, K, PublisherSide>;
 
-/// With what a publisher was created.
+/// What the value of a publisher has beside its id: the strategy and the length with which the publisher was created.
 #[derive(Clone, Copy)]
 pub struct PublisherSide {
     pub(crate) strategy: BackpressureStrategy,
@@ -56,7 +56,8 @@ impl<T: Copy, U: Copy, K> Publisher<T, U, K> {
         }
     }
 
-    /// What a send does at a full mailbox if no handler decides.
+    /// The backpressure strategy that the publisher's builder was given: what a send does at a full mailbox if the handlers are
+    /// `Handlers` and no handler decides. Handlers of another type, such as `Nobody`, decide without it.
     ///
     /// Ported from `iceoryx2::port::publisher::Publisher::backpressure_strategy`.
     /// Example: `let strategy = publisher.backpressure_strategy();`

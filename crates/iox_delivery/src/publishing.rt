@@ -104,7 +104,7 @@ pub fn update<T: Copy, U: Copy, H: Home<T, U>>(
     }
 }
 
-/// Drops the publisher: it is closed, and its handlers are dropped, if it is open and no send of it waits; otherwise nothing
+/// Drops the publisher: it is closed, and its handlers are dropped, if it is open and no send of it is blocked; otherwise nothing
 /// happens. The call answers whether the publisher was closed.
 ///
 /// Ported from dropping an `iceoryx2::port::publisher::Publisher`.

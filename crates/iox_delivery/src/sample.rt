@@ -1,7 +1,7 @@
 //! A message that was received.
 ghost use Rattle.iox_domain.specs.Homes as homes;
-ghost use Rattle.std.specs.Prelude.{◌≡◌, true, Some, option_map};
-ghost use Rattle.iox_delivery.specs.Holding.{message_found, value_found, holds_sample};
+ghost use Rattle.std.specs.Prelude.{◌≡◌, true, Some, is_ok, option_map};
+ghost use Rattle.iox_delivery.specs.Holding.{message_found, value_found, holds_sample, holds_message, left_or_given_back};
 ghost use Rattle.iox_delivery.specs.Subscribing.{header_found, ReleasesSample, DropsSample};
 
 use crate::kind::{Kind, Single};
@@ -70,16 +70,39 @@ impl<T: Copy, U: Copy, K: Kind<T, U>> Sample<T, U, K> {
         self.header(home).publisher_id
     }
 
-    /// Drops the sample: the message is released, if it is held; otherwise nothing happens. The call answers whether the
-    /// message was released.
+    /// What the subscriber took. The message stays borrowed: nothing can read or release it any longer, and its factory can't be
+    /// closed.
+    ///
+    /// Not in `iceoryx2`.
+    /// Example: `let taken = sample.into_taken();`
+    pub fn into_taken(self) -> Taken
+        ensures { result ≡ self.taken }
+    {
+        let Sample {
+            port: _,
+            taken,
+            of: _,
+        } = self;
+        taken
+    }
+
+    /// Drops the sample: the message is released, if it is held in this home. Otherwise nothing happens, and the sample is
+    /// returned, so that it can be dropped in its own home, or forgotten by `into_taken`.
     ///
     /// Ported from dropping an `iceoryx2::sample::Sample`.
-    /// Example: `let was_held = sample.drop_with(home);`
-    pub fn drop_with<H: Home<T, U>>(self, home: &mut H) -> bool
-        ensures { DropsSample (homes.ports_of H.domain_of) (homes.with_ports H.changed) self.port self.taken home.old result home.new }
+    /// Example: `let stays = sample.drop_with(home).err();`
+    pub fn drop_with<H: Home<T, U>>(self, home: &mut H) -> Result<(), Self>
+        ensures drops { DropsSample (homes.ports_of H.domain_of) (homes.with_ports H.changed) self.port self.taken home.old
+            (is_ok result) home.new }
+        ensures dropped { result ≡ left_or_given_back
+            (holds_message self.port.number self.taken (homes.ports_of H.domain_of self.port.domain home.old)) self }
     {
-        let Sample { port, taken, of: _ } = self;
-        subscribing::drop_sample(port, taken, home)
+        if subscribing::drop_sample(self.port, self.taken, home) {
+            let _ = self.into_taken();
+            Ok(())
+        } else {
+            Err(self)
+        }
     }
 
     /// Releases the message: its slot may be loaned again once nothing else uses it.

@@ -18,7 +18,7 @@ use std::marker::PhantomData;
 pub type SampleMutUninit<T, U, K = Single> = Loan<T, U, K, Uninit>;
 
 impl<T: Copy, U: Copy, K: Kind<T, U>> SampleMutUninit<T, U, K> {
-    // The loan of a publisher in a slot, of so many values.
+    // The loan of a publisher in a slot, of `len` values.
     pub(crate) fn of_loan(port: PortId, slot: usize, len: usize) -> Self
         ensures { result ≡ loan_of len port slot }
     {

@@ -1,6 +1,7 @@
 //! What a send answers, and a blocked send.
 ghost use Rattle.iox_domain.specs.Homes as homes;
-ghost use Rattle.std.specs.Prelude.{◌≡◌, true};
+ghost use Rattle.std.specs.Prelude.{◌≡◌, true, IfErr};
+ghost use Rattle.std.specs.Result.{result_ok};
 ghost use Rattle.iox_delivery.specs.Holding.{publisher_blocked};
 ghost use Rattle.iox_delivery.specs.Publishing.{sent_of, RetriesSend, GivesUpSend, EndsSend};
 
@@ -13,9 +14,9 @@ use std::marker::PhantomData;
 
 /// What a send answers.
 ///
-/// Ported from what `iceoryx2::sample_mut::SampleMut::send` answers, which waits itself.
+/// Ported from what `iceoryx2::sample_mut::SampleMut::send` answers; there the call blocks its caller at a full mailbox.
 pub enum Sent<T, U> {
-    /// The send is finished, and so many connections took the message.
+    /// The send is finished; the number says how many connections took the message.
     Delivered(usize),
     /// The send is blocked at a full mailbox.
     Blocked(BlockedSend<T, U>),
@@ -24,7 +25,7 @@ pub enum Sent<T, U> {
 /// A send that is blocked at a full mailbox, until it is tried again or given up. Until then its publisher can't loan, send or
 /// update.
 ///
-/// Not in `iceoryx2`: `iceoryx2::port::publisher::Publisher::send` waits itself.
+/// Not in `iceoryx2`: `iceoryx2::port::publisher::Publisher::send` blocks its caller.
 pub struct BlockedSend<T, U> {
     port: PortId,
     of: PhantomData<(T, U)>,
@@ -60,16 +61,35 @@ impl<T: Copy, U: Copy> BlockedSend<T, U> {
         }
     }
 
-    /// Drops the send: it is given up as by `give_up`, if it waits, and the call answers how many connections took the message.
-    /// None, and nothing happens, if the send doesn't wait.
+    /// The id of the port whose send is blocked. The send stays blocked: nothing can try it again or give it up any longer.
     ///
     /// Not in `iceoryx2`.
-    /// Example: `let delivered = blocked.drop_with(home);`
-    pub fn drop_with<H: Home<T, U>>(self, home: &mut H) -> Option<usize>
-        ensures { EndsSend (homes.ports_of H.domain_of) (homes.with_ports H.changed) self.port home.old result home.new }
+    /// Example: `let port = blocked.into_port();`
+    pub fn into_port(self) -> PortId
+        ensures { result ≡ self.port }
     {
         let BlockedSend { port, of: _ } = self;
-        calls::ports_mut(home, port.domain)?.give_up(port.number)
+        port
+    }
+
+    /// Drops the send: it is given up as by `give_up`, if it is blocked in this home, and the call answers how many connections
+    /// took the message. Otherwise nothing happens, and the send is returned, so that it can be given up in its own home, or
+    /// forgotten by `into_port`.
+    ///
+    /// Not in `iceoryx2`.
+    /// Example: `let stays = blocked.drop_with(home).err();`
+    pub fn drop_with<H: Home<T, U>>(self, home: &mut H) -> Result<usize, Self>
+        ensures ends { EndsSend (homes.ports_of H.domain_of) (homes.with_ports H.changed) self.port home.old (result_ok result)
+            home.new }
+        ensures given_back { IfErr result (λ kept. kept ≡ self) }
+    {
+        match give_up_if_blocked(self.port, home) {
+            Some(delivered) => {
+                let _ = self.into_port();
+                Ok(delivered)
+            }
+            None => Err(self),
+        }
     }
 
     /// Gives up the send, and answers how many connections took the message.
@@ -89,6 +109,13 @@ impl<T: Copy, U: Copy> BlockedSend<T, U> {
             None => unreachable!(),
         }
     }
+}
+
+// Gives up the blocked send of a publisher, and answers how many connections took the message; None if no send of it is blocked.
+fn give_up_if_blocked<T: Copy, U: Copy, H: Home<T, U>>(port: PortId, home: &mut H) -> Option<usize>
+    ensures { EndsSend (homes.ports_of H.domain_of) (homes.with_ports H.changed) port home.old result home.new }
+{
+    calls::ports_mut(home, port.domain)?.give_up(port.number)
 }
 
 // The answer of a send, with a blocked send as a value.

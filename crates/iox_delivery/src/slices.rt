@@ -15,7 +15,9 @@
 //! let loan = publisher.loan_slice_uninit(alloc, home, 4).ok()?;
 //! let sample = loan.write_from_slice(home, &[1, 2, 3, 4]);
 //! let may = sample.holds(home);
-//! sample.drop_with(home);
+//! if let Err(kept) = sample.drop_with(home) {
+//!     kept.into_slot();
+//! }
 //! ```
 
 pub mod filling;

@@ -21,7 +21,7 @@ use std::marker::PhantomData;
 /// Ported from `iceoryx2::port::subscriber::Subscriber`.
 pub type Subscriber<T, U, K = Single> = Port<T, U, K, SubscriberSide>;
 
-/// With what a subscriber was created.
+/// What the value of a subscriber has beside its id: the buffer size with which the subscriber was created.
 #[derive(Clone, Copy)]
 pub struct SubscriberSide {
     pub(crate) buffer_size: usize,

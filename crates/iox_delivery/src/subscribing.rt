@@ -202,12 +202,14 @@ pub fn release<T: Copy, U: Copy, H: Home<T, U>>(port: PortId, taken: Taken, home
 ///
 /// Ported from dropping an `iceoryx2::sample::Sample`.
 /// Example: `let was_held = subscribing::drop_sample(port, taken, home);`
+#[tactic(auto, using(crate::proofs::Ending::drop_tells))]
 pub fn drop_sample<T: Copy, U: Copy, H: Home<T, U>>(
     port: PortId,
     taken: Taken,
     home: &mut H,
 ) -> bool
-    ensures { DropsSample (homes.ports_of H.domain_of) (homes.with_ports H.changed) port taken home.old result home.new }
+    ensures drops { DropsSample (homes.ports_of H.domain_of) (homes.with_ports H.changed) port taken home.old result home.new }
+    ensures was_held { result ≡ holds_message port.number taken (homes.ports_of H.domain_of port.domain home.old) }
 {
     match calls::ports_mut(home, port.domain) {
         Some(ports) => ports.release(port.number, taken),

@@ -9,7 +9,7 @@ use Rattle.iox_domain.specs.DomainPorts.Lengths.{span}
 abbrev pub values_each : ℕ → ℕ → ℕ
 values_each element value = if value == 0 then 1 else element / value
 
--- How many values' memory these elements take, counted up to 2^64 - 1: no slot has room for as many.
+-- How many values these elements take memory for, counted up to 2^64 - 1: no slot has capacity for as many.
 abbrev pub room_of : ℕ → ℕ → ℕ
 room_of unit elements = min (span unit elements) (2 ^ 64 - 1)
 
@@ -19,7 +19,7 @@ pub record ValuesOfElements (payload user_header : Detail) (types : MessageTypeD
   pub bytes : payload ≡ any_payload → values_each types.payload.size payload.size ≡ types.payload.size
   pub single : payload ≢ any_payload → values_each types.payload.size payload.size ≡ 1
 
--- Types that fit have `ValuesOfElements`.
+-- `ValuesOfElements` holds of types that fit.
 abbrev pub ElementsHaveValues : Type 0
 ElementsHaveValues = (payload user_header : Detail) (types : MessageTypeDetails) → FitTypes payload user_header types
     → ValuesOfElements payload user_header types

@@ -30,8 +30,7 @@ use Rattle.iox_delivery_factories.specs.Elements.{room_of}
 use Rattle.iox_delivery_factories.specs.declared.publisher.PortFactoryPublisher.{PortFactoryPublisher}
 use Rattle.iox_delivery_factories.specs.declared.subscriber.PortFactorySubscriber.{PortFactorySubscriber}
 
--- The handlers of a publisher with this strategy for which none is set: no handler for full mailboxes, and `Warn` for failed
--- connections.
+-- The handlers of a publisher with this strategy if no handler is set: none for full mailboxes, and `Warn` for failed connections.
 abbrev pub nobody_named : {X Y : Type 0} {F : X → Type 0} {G : Y → Type 0} → BackpressureStrategy → Handlers X Y F G
 nobody_named strategy = record { strategy = strategy; backpressure = None; degradation = Fixed Warn }
 
@@ -90,7 +89,7 @@ abbrev pub subscriber_cloned : {T U Y : Type 0} {G : Y → Type 0} → PortFacto
     → PortFactorySubscriber T U (DegradationHandler Y G)
 subscriber_cloned builder = record builder { handler = Fixed Warn }
 
--- With what a publisher of single values is created.
+-- The parameters with which a publisher of single values is created.
 abbrev pub single_config : PortOwner → PublisherSettings → PublisherConfig
 single_config owner settings = record {
   owner = owner;
@@ -101,7 +100,7 @@ single_config owner settings = record {
   first_sequence = settings.first_sequence;
 }
 
--- With what a publisher of slices is created whose elements have `unit` values.
+-- The parameters with which a publisher of slices is created whose elements have `unit` values.
 abbrev pub slice_config : PortOwner → ℕ → PublisherSettings → PublisherConfig
 slice_config owner unit settings =
     record {
@@ -114,7 +113,7 @@ slice_config owner unit settings =
       first_sequence = settings.first_sequence;
     }
 
--- With what a subscriber is created.
+-- The parameters with which a subscriber is created.
 abbrev pub subscriber_config : PortOwner → SubscriberSettings → SubscriberConfig
 subscriber_config owner settings = record { owner = owner; buffer_size = settings.buffer_size }
 

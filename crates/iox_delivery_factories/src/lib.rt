@@ -13,7 +13,7 @@
 //! ```
 //! let mut domain = Domain::<u64, ()>::new(alloc, id, description, 128).ok()?;
 //! let builder = publisher_builder(&domain, 5, 9).max_loaned_samples(6);
-//! // where the domain is lent
+//! // with the home that has the domain
 //! let publisher = builder.create(alloc, domain)?;
 //! ```
 #![tactic(auto)]

@@ -1,4 +1,4 @@
-//! What a publish-subscribe program needs that keeps the domain of a service by itself, without a hub.
+//! What a publish-subscribe program needs if it keeps the domain of a service itself, without a hub.
 //!
 //! Ports of slices have the names of those of single values, so they are named by their module: `slices::Publisher`.
 //!

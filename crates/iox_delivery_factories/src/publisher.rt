@@ -66,7 +66,8 @@ impl<T, U> PortFactoryPublisher<T, U, Handlers, PreallocatedSamplesOverride> {
         self
     }
 
-    /// Sets what a send does at a full mailbox if the service doesn't overflow and no handler decides.
+    /// Sets what a send does at a full mailbox if the service doesn't overflow and no handler decides. The strategy is a part of the
+    /// handlers of type `Handlers`; `set_handlers` replaces them, and the strategy with them.
     ///
     /// Ported from `PortFactoryPublisher::backpressure_strategy`.
     /// Example: `builder.backpressure_strategy(BackpressureStrategy::DiscardData)`
@@ -133,8 +134,11 @@ impl<T, U> PortFactoryPublisher<T, U, Handlers, PreallocatedSamplesOverride> {
         self
     }
 
-    /// A builder with the same settings whose publishers have these handlers, of any type that decides; for example for a hub
-    /// of `Nobody`.
+    /// A builder with the same settings whose publishers have these handlers, which may be of another type; for example `Nobody`.
+    ///
+    /// The handlers set so far are replaced, and with them the strategy that `backpressure_strategy` set: what a send does at a full
+    /// mailbox is then decided by `handlers` alone. So after `.backpressure_strategy(DiscardData).set_handlers(Nobody)` a send blocks
+    /// at a full mailbox, unless the service has safe overflow.
     ///
     /// Not in `iceoryx2`.
     /// Example: `builder.set_handlers(Nobody)`
@@ -160,10 +164,10 @@ impl<T, U> PortFactoryPublisher<T, U, Handlers, PreallocatedSamplesOverride> {
         }
     }
 
-    /// A builder with the same settings, but with as many slots as the worst case needs, no handler for full mailboxes, and
-    /// `Warn` for failed connections.
+    /// A builder with the same settings, but with as many slots as the worst case needs, no handler for full mailboxes, and `Warn`
+    /// for failed connections.
     ///
-    /// Ported from `PortFactoryPublisher::__internal_partial_clone`, whose name stands for a macro's here.
+    /// Ported from `PortFactoryPublisher::__internal_partial_clone`, which is unsafe and hidden.
     /// Example: `let second = builder.partial_clone();`
     pub fn partial_clone(&self) -> Self
         ensures { result ≡ cloned self.now }
@@ -238,8 +242,8 @@ impl<T: Copy, U: Copy + Default, B: Decides + Degrades, O: Overrides> PortFactor
         Ok(Publisher::of_port(PortId { domain, number }, settings.strategy, 1))
     }
 
-    /// Creates the publisher, of slices, in the home of its domain, as `create` does. A slot of the first segment has room for
-    /// as many elements as `initial_max_slice_len` says.
+    /// Creates the publisher, of slices, in the home of its domain, as `create` does. A slot of the first segment has capacity for as
+    /// many elements as `initial_max_slice_len` says.
     ///
     /// The call fails as `create` does, and with `UnableToCreateDataSegment` also if these are 2^32 elements or more, or have 2^32
     /// values or more.
@@ -318,7 +322,7 @@ impl<T: Copy, U: Copy + Default, B: Decides + Degrades, O: Overrides> PortFactor
     }
 }
 
-// How many values' memory these elements take, counted up to 2^64 - 1.
+// How many values these elements take memory for, counted up to 2^64 - 1.
 fn room_of(unit: usize, elements: usize) -> usize
     ensures { result ≡ room_of unit elements }
 {

@@ -57,7 +57,7 @@ impl<T, U> PortFactorySubscriber<T, U, DegradationHandler> {
         self
     }
 
-    /// A builder with the same settings whose subscribers have this handler, of any type that decides.
+    /// A builder with the same settings whose subscribers have this handler, which may be of another type; for example `Nobody`.
     ///
     /// Not in `iceoryx2`.
     /// Example: `builder.set_handler(Nobody)`
@@ -81,7 +81,7 @@ impl<T, U> PortFactorySubscriber<T, U, DegradationHandler> {
 
     /// A builder with the same settings, but with `Warn` for failed connections.
     ///
-    /// Ported from `PortFactorySubscriber::__internal_partial_clone`, whose name stands for a macro's here.
+    /// Ported from `PortFactorySubscriber::__internal_partial_clone`, which is unsafe and hidden.
     /// Example: `let second = builder.partial_clone();`
     pub fn partial_clone(&self) -> Self
         ensures { result ≡ subscriber_cloned self.now }

@@ -1,6 +1,6 @@
 -- The JSON of a description within the limits is read back from its text.
 use Rattle.std.proofs.Common.{◌<◌, ◌^◌}
-use Rattle.std.proofs.Common.{◌≡◌, ◌&&◌, ◌||◌, ℕ, zero, suc, List, [], ◌∷◌, map, Bool, true, false, Option, Some, None, refl, arith, lit<}
+use Rattle.std.proofs.Common.{◌≡◌, ◌&&◌, ℕ, zero, suc, List, [], ◌∷◌, map, Bool, true, Option, Some, None, refl, arith, lit<}
 use Rattle.std.specs.Prelude.{All}
 use Rattle.std.specs.Cmp.{first_so, second_so}
 use Rattle.std.specs.Str.{IsAscii, IsUtf8}
@@ -11,7 +11,6 @@ use Rattle.hex.proofs.HexLemmas.{IsAscii-encode_with}
 use Rattle.iox_describe.proofs.ReadBack.{IsUtf8-are_ascii, are_ascii}
 use Rattle.serde_json.specs.View.{items_of}
 use Rattle.serde_json.specs.Read.{read}
-use Rattle.serde_json.specs.Written.{has_float, items_have_float}
 use Rattle.iox_describe_verdict.specs.Container.StringBytes.{IsStringBytes}
 use Rattle.iox_describe.specs.Plain.{IsPlain, AreItems, AreMembers}
 use Rattle.iox_describe.proofs.ReadBack.{plain-read, plain-utf8}
@@ -180,24 +179,3 @@ line-utf8 version a h = plain-utf8 4 (tree version a) (plain version a h)
 pub line-read : (version : Version) (a : Agreement) → IsWithinLimits a → read (line version a) ≡ Some (tree version a)
 unfolding line
 line-read version a h = plain-read 4 (tree version a) (omega arith) (plain version a h)
-
--- ---- no description has a float
-
-option-float : (o : Option ℕ) → has_float (option_tree o) ≡ false
-option-float None = refl
-option-float (Some n) = refl
-
-attributes-float : (pairs : List Attribute) → items_have_float (items_of (map attribute_tree pairs)) ≡ false
-attributes-float [] = refl
-attributes-float (a ∷ more) = attributes-float more
-
-settings-float : (version : Version) (s : Settings) → has_float (settings_tree version s) ≡ false
-settings-float version (RequestResponse c) = refl
-settings-float One (PublishSubscribe c) = refl
-settings-float Two (PublishSubscribe c) = refl
-settings-float version (Event c) =
-    λ i. option-float c.deadline i || (option-float c.notifier_created_event i
-    || (option-float c.notifier_dead_event i || (option-float c.notifier_dropped_event i || false)))
-
-pub tree-float : (version : Version) (a : Agreement) → has_float (tree version a) ≡ false
-tree-float version a = λ i. attributes-float a.attributes i || (settings-float version a.settings i || false)

@@ -5,7 +5,7 @@ use Rattle.std.specs.Str.{IsUtf8}
 use Rattle.serde_json.specs.Data.{unsigned, negative, float, Data, null, boolean, number, string, array, object, Items, no_items, item}
 use Rattle.serde_json.specs.Data.{Members, no_members, member, put}
 
--- The members after these members are put one after another into others.
+-- The members `found` after these members were put into them, one after another.
 abbrev pub put_all : Members → Members → Members
 put_all no_members found = found
 put_all (member key value more) found = put_all more (put key value found)

@@ -13,7 +13,7 @@
 //! A first call:
 //!
 //! ```
-//! /// `iox_describe`: a description that was written as one line, and read back; None where an allocation fails.
+//! /// `iox_describe`: writes a description as one line, and reads it back; None if an allocation fails.
 //! fn read_back(alloc: Global, description: &Description) -> Option<Description>
 //!     requires { IsWithinLimits description.now }
 //!     ensures { IfSome result (λ back. back ≡ description.now) }

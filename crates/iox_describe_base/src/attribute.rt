@@ -116,7 +116,7 @@ impl AttributeSpecifier {
         Ok(())
     }
 
-    /// A copy of the attributes in memory of its own. It fails only where an allocation fails, and never for no attributes.
+    /// A copy of the attributes in memory of its own. It fails only if an allocation fails, and never for no attributes.
     pub fn try_clone(&self, alloc: Global) -> Result<Self, AllocError>
         ensures same { IfOk result (λ attributes. attributes ≡ self.now) }
         ensures empty { self.now ≡ [] → IsOk result }

@@ -41,7 +41,7 @@ impl<T: Copy> Few<T> {
         }
     }
 
-    /// Appends a value. It fails only where an allocation fails; only the first value allocates.
+    /// Appends a value. It fails only if an allocation fails; only the first value allocates.
     pub(crate) fn push(&mut self, alloc: Global, value: T) -> Result<(), AllocError>
         requires { length self.old < 8 }
         ensures ok { OnOk result (self.new ≡ self.old ++ value ∷ []) }
@@ -57,7 +57,7 @@ impl<T: Copy> Few<T> {
         Ok(())
     }
 
-    /// A copy of the list in memory of its own. It fails only where an allocation fails, and never for an empty list.
+    /// A copy of the list in memory of its own. It fails only if an allocation fails, and never for an empty list.
     pub(crate) fn try_clone(&self, alloc: Global) -> Result<Self, AllocError>
         ensures same { IfOk result (λ copy. copy ≡ self.now) }
         ensures empty { self.now ≡ [] → IsOk result }

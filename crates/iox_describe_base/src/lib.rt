@@ -15,7 +15,7 @@
 //! A first call:
 //!
 //! ```
-//! /// `iox_describe_base`: under which hash an event service of this name is found; None where no service may have the name.
+//! /// `iox_describe_base`: the hash under which an event service with this name is found; None if no service may have the name.
 //! fn hash_of(name: &[u8]) -> Option<ServiceHash>
 //!     ensures { IfSome result (λ hash. hash ≡ service_hash_of Event name.now) }
 //! {

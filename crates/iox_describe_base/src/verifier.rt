@@ -80,7 +80,7 @@ impl AttributeVerifier {
         Ok(())
     }
 
-    /// A copy of the requirements in memory of its own. It fails only where an allocation fails, and never if nothing is required.
+    /// A copy of the requirements in memory of its own. It fails only if an allocation fails, and never if nothing is required.
     pub fn try_clone(&self, alloc: Global) -> Result<Self, AllocError>
         ensures same { IfOk result (λ verifier. verifier ≡ self.now) }
         ensures empty { self.now ≡ required [] [] → IsOk result }

@@ -57,7 +57,7 @@ changed NotifierDeadEvent (OptionalNumber option) c = record c { notifier_dead_e
 changed NotifierDroppedEvent (OptionalNumber option) c = record c { notifier_dropped_event = option }
 changed other value c = c
 
--- The rule of each setting: its default, and for a number also the least possible one and the end below which it must be.
+-- The rule of each setting: its default, and for a number also the least value, and the limit below which it must be.
 abbrev pub rule : Setting → Rule
 rule Deadline = optional_number None
 rule EventIdMaxValue = number 4294967295 0 None

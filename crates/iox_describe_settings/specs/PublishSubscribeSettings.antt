@@ -80,7 +80,7 @@ changed SubscriberMaxBufferSize (Number number) c = record c { subscriber_max_bu
 changed Types (Types types) c = record c { types = types }
 changed other value c = c
 
--- The rule of each setting: its default, and for a number also the least possible one and the end below which it must be.
+-- The rule of each setting: its default, and for a number also the least value, and the limit below which it must be.
 abbrev pub rule : Setting → Rule
 rule EnableSafeOverflow = switch true
 rule HistorySize = number 0 0 (Some (2 ^ 32))

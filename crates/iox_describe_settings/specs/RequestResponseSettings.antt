@@ -80,7 +80,7 @@ changed RequestTypes (Types types) c = record c { request_types = types }
 changed ResponseTypes (Types types) c = record c { response_types = types }
 changed other value c = c
 
--- The rule of each setting: its default, and for a number also the least possible one and the end below which it must be.
+-- The rule of each setting: its default, and for a number also the least value, and the limit below which it must be.
 abbrev pub rule : Setting → Rule
 rule EnableFireAndForgetRequests = switch true
 rule EnableSafeOverflowForRequests = switch true

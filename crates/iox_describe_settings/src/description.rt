@@ -101,7 +101,7 @@ impl Description {
         }
     }
 
-    /// A copy of the description in memory of its own. It fails only where an allocation fails, and never without attributes.
+    /// A copy of the description in memory of its own. It fails only if an allocation fails, and never without attributes.
     pub fn try_clone(&self, alloc: Global) -> Result<Self, AllocError>
         ensures same { IfOk result (λ description. description ≡ self.now) }
         ensures empty { self.now.attributes ≡ [] → IsOk result }

@@ -9,7 +9,7 @@
 //! A first call:
 //!
 //! ```
-//! /// `iox_describe_settings`: the description of an event service of this name for which nothing else is asked.
+//! /// `iox_describe_settings`: the description of an event service with this name and default settings.
 //! fn described(name: ServiceName) -> Description
 //!     ensures named { result.name ≡ name }
 //!     ensures found { result.service_hash ≡ service_hash_of Event name }

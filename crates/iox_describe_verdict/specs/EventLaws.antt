@@ -1,4 +1,4 @@
--- A service that meets a requirement meets every weaker one.
+-- An event service that meets a requirement meets every weaker one.
 use Rattle.std.proofs.Common.{◌≡◌, List, refl}
 use Rattle.std.specs.Prelude.{IsSome}
 use Rattle.iox_describe_verdict.specs.Patterns.{event_of}
@@ -40,7 +40,7 @@ weaker weak strong given (RequestResponse c) h e = e
 weaker weak strong given (PublishSubscribe c) h e = e
 weaker weak strong given (Event c) h e = step _ _ _ _ _ (λ met. met) (on weak strong given c h) e
 
--- Only an event service meets a requirement.
+-- A service that meets a requirement on event services is an event service.
 pub met_is_of_pattern : (r : Requirement) (given : List Attribute) (settings : Settings)
     → first_unmet (clauses_of r given settings) ≡ met → IsSome (event_of settings)
 unfolding unmet_clause

@@ -1,4 +1,4 @@
--- A service that meets a requirement meets every weaker one.
+-- A request-response service that meets a requirement meets every weaker one.
 use Rattle.std.proofs.Common.{◌≡◌, List, refl}
 use Rattle.std.specs.Prelude.{IsSome}
 use Rattle.iox_describe_verdict.specs.Patterns.{request_response_of}
@@ -53,7 +53,7 @@ weaker weak strong given (RequestResponse c) h e = step _ _ _ _ _ (λ met. met) 
 weaker weak strong given (PublishSubscribe c) h e = e
 weaker weak strong given (Event c) h e = e
 
--- Only a request-response service meets a requirement.
+-- A service that meets a requirement on request-response services is a request-response service.
 pub met_is_of_pattern : (r : Requirement) (given : List Attribute) (settings : Settings)
     → first_unmet (clauses_of r given settings) ≡ met → IsSome (request_response_of settings)
 unfolding unmet_clause

@@ -56,7 +56,7 @@ AsksLess None strong = Unit {0}
 AsksLess (Some weak) None = ⊥
 AsksLess (Some weak) (Some strong) = IsAtMost weak strong
 
--- The named value of a switch, a number or an option is of this kind.
+-- If the rule is one of a switch, the value of a named switch is of the rule's kind.
 pub switch_is_of_kind : (r : Rule) → IsOfKind r (Switch true) → (o : Option Bool) → IfSome (option_map Switch o) (IsOfKind r)
 switch_is_of_kind r h None = tt
 switch_is_of_kind (rule.Switch default) h (Some b) = tt
@@ -64,7 +64,7 @@ switch_is_of_kind (rule.Number range) h (Some b) = h
 switch_is_of_kind (rule.OptionalNumber default) h (Some b) = h
 switch_is_of_kind rule.Types h (Some b) = h
 
--- The named value of a number is of this kind.
+-- If the rule is one of a number, the value of a named number is of the rule's kind.
 pub number_is_of_kind : (r : Rule) → IsOfKind r (Number 0) → (o : Option ℕ) → IfSome (option_map Number o) (IsOfKind r)
 number_is_of_kind r h None = tt
 number_is_of_kind (rule.Switch default) h (Some n) = h
@@ -72,7 +72,7 @@ number_is_of_kind (rule.Number range) h (Some n) = tt
 number_is_of_kind (rule.OptionalNumber default) h (Some n) = h
 number_is_of_kind rule.Types h (Some n) = h
 
--- The named value of an optional number is of this kind.
+-- If the rule is one of an optional number, the value of a named optional number is of the rule's kind.
 pub optional_number_is_of_kind : (r : Rule) → IsOfKind r (OptionalNumber None) → (o : Option (Option ℕ))
     → IfSome (option_map OptionalNumber o) (IsOfKind r)
 optional_number_is_of_kind r h None = tt

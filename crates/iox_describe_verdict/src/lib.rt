@@ -9,7 +9,7 @@
 //! A first call:
 //!
 //! ```
-//! /// `iox_describe_verdict`: the first clause of an opener that a description doesn't meet; None where it may be opened.
+//! /// `iox_describe_verdict`: the first clause of an opener that a description doesn't meet; None if the service may be opened.
 //! fn objection(requirement: &Requirement, description: &Description) -> Option<ClauseError>
 //!     ensures first { IfSome result (λ clause. first_unmet (clauses requirement.now description.now) ≡ Err clause) }
 //!     ensures none { IfNone result (IsOk (first_unmet (clauses requirement.now description.now))) }

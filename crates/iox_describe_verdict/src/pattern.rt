@@ -101,7 +101,7 @@ pub trait RequiredPattern: AgreedPattern {
     ) -> Result<(), Self::ClauseError>
         ensures { result ≡ verdict requirement.now description.now };
 
-    /// A copy of the requirement in memory of its own. It fails only where an allocation fails, and never without attributes.
+    /// A copy of the requirement in memory of its own. It fails only if an allocation fails, and never without attributes.
     fn try_clone(
         requirement: &Self::Requirement,
         alloc: Global,
@@ -113,7 +113,7 @@ pub trait RequiredPattern: AgreedPattern {
     ghost weaker_is_met: { (weak strong : Self.Requirement) (a : Agreement) → IsWeaker weak strong → verdict strong a ≡ Ok tt
         → verdict weak a ≡ Ok tt };
 
-    // only a service of this pattern meets a requirement
+    // a service that meets a requirement of this pattern is a service of this pattern
     ghost met_is_of_pattern: { (requirement : Self.Requirement) (a : Agreement) → verdict requirement a ≡ Ok tt
         → IsSome (Self.static_config a.settings) };
 }

@@ -1,4 +1,4 @@
--- What most steps of a publisher leave as it was: whether it stands, how many loans of it are out, and how many may be.
+-- What most steps of a publisher don't change: whether it exists, how many loans it has, and how many it may have.
 use Rattle.std.proofs.Common.{arith, ◌≡◌, ◌-◌, ◌≤◌, ◌∙◌, ℕ, Bool, true, false, List, length, Option, Result, Ok, Err, if◌then◌else◌, refl}
 use Rattle.std.proofs.Common.{ap}
 use Rattle.std.specs.declared.alloc.AllocError.{AllocError}

@@ -1,4 +1,4 @@
--- Each message comes to a mailbox at most once.
+-- Each message is put into a mailbox at most once.
 use Rattle.std.proofs.Common.{◌∷◌, [], ℕ, List, refl, sym, subst}
 use Rattle.iox_domain.specs.DomainValues.declared.backpressure.BackpressureDecision.{BackpressureDecision}
 use Rattle.iox_domain.specs.DomainValues.declared.backpressure.BackpressureInfo.{BackpressureInfo}
@@ -12,7 +12,7 @@ use Rattle.iox_domain.specs.declared.ports.service_ports.ServicePorts.{ServicePo
 use Rattle.iox_domain.proofs.PortLawsApart.{new_apart, stays_apart}
 use Rattle.iox_domain.proofs.Once.{finishes_once}
 use Rattle.iox_domain.proofs.Roomy.{well_of}
-use Rattle.iox_domain.proofs.TiedWell.{updates_well}
+use Rattle.iox_domain.proofs.TiedUpdates.{updates_well}
 use Rattle.iox_domain.proofs.WellKept.{told_same}
 
 pub at_most_once : {T U : Type 0} (overrides : ℕ → ℕ → Type 0) (may : DegradationInfo → DegradationAction → Type 0)
@@ -43,4 +43,8 @@ connections_are_known overrides may decide = record {
   known = λ service sizes calls new publisher index port happen there stands live.
       (well_of new publisher port (happen_apart overrides may decide calls (no_ports service sizes) new happen
       (new_apart service sizes (no_ports service sizes) refl)) there stands).known index live;
+  apart = λ service sizes calls new publisher port happen there stands.
+      let well = well_of new publisher port (happen_apart overrides may decide calls (no_ports service sizes) new happen
+      (new_apart service sizes (no_ports service sizes) refl)) there stands in
+      (well.sole, well.all);
 }

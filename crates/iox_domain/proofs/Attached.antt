@@ -34,8 +34,8 @@ use Rattle.iox_domain.specs.Roomy.{IsListOnce, IsAttached, LeadsOnEntry}
 use Rattle.iox_domain.proofs.Naming.{reads_same}
 use Rattle.iox_domain.proofs.Reading.{attached_ended, leads_ended, attached_taken, leads_taken, attached_then, leads_then, is_attached_then}
 
--- A subscriber reads from each connection that it has, no two of its keys are for one publisher, and the key of the connection to a
--- publisher that is listed is that of its place.
+-- A subscriber reads from each of its connections, no two of its keys belong to the same publisher, and the key of the connection to
+-- a listed publisher is the key of its place.
 pub record Reads {T U : Type 0} (subscriber : ℕ) (places : List (Option (Member PublisherEntry))) (port : SubscriberPort)
     (ports : List (ℕ × PublisherPort T U)) : Type 0 where
   pub named : port.number ≡ subscriber
@@ -47,7 +47,7 @@ pub record Reads {T U : Type 0} (subscriber : ℕ) (places : List (Option (Membe
       → get_or places place None ≡ Some member
       → attached.publisher ≡ member.value.publisher → get_or port.places.items place None ≡ Some key
 
--- What a step of a subscriber leaves: it reads so still, and each other reads on where it did.
+-- The effect of a step of a subscriber: it still reads in this way, and each other subscriber reads where it did.
 pub record Done {T U : Type 0} (subscriber : ℕ) (places : List (Option (Member PublisherEntry))) (port : SubscriberPort)
     (ports : List (ℕ × PublisherPort T U)) (new : SubscriberPort) (new_ports : List (ℕ × PublisherPort T U)) : Type 0 where
   pub state : Reads subscriber places new new_ports
@@ -120,7 +120,7 @@ done_same : {T U : Type 0} (subscriber : ℕ) (places : List (Option (Member Pub
 done_same subscriber places port new ports new_ports is are state
     = done_alike subscriber places port new ports new_ports (alike_is port new is) are state
 
--- What parting leaves: fewer keys, and the places as they were.
+-- The effect of a parting: fewer keys, and the same places.
 record Parted {T U : Type 0} (subscriber : ℕ) (places : List (Option (Member PublisherEntry))) (port : SubscriberPort)
     (ports : List (ℕ × PublisherPort T U)) (new : SubscriberPort) (new_ports : List (ℕ × PublisherPort T U)) : Type 0 where
   done : Done subscriber places port ports new new_ports

@@ -48,7 +48,7 @@ use Rattle.iox_domain.proofs.Fitting.{goes_none_at}
 use Rattle.iox_domain.proofs.Numbered.{at_number, other_fails, other_set, same_set, other_gone}
 use Rattle.iox_domain.proofs.Walks.{Walks, walked_one, walked_parts}
 
--- Publishers that stand go on standing, and those with a connection that leads to the subscriber have one still.
+-- Existing publishers still exist afterwards, and those with a connection to the subscriber still have one.
 abbrev Stays : {T U : Type 0} → ℕ → List (ℕ × PublisherPort T U) → List (ℕ × PublisherPort T U) → Type 0
 Stays subscriber old new = (number : ℕ) → stands_in number old ≡ true
     → (stands_in number new ≡ true) × (lacks_connection subscriber (port_of number old) ≡ false

@@ -23,11 +23,12 @@ use Rattle.iox_domain.specs.Order.{IsPartOf, leads_at}
 use Rattle.iox_domain.specs.Gaps.{AreNumbered}
 use Rattle.iox_domain.proofs.Books.{Books, Missing}
 use Rattle.iox_domain.proofs.PortLawsParts.{part_first, part_nothing}
-use Rattle.iox_domain.proofs.TiedWell.{MadeAt, connects_made, ok_same, found_leads, gone_there}
+use Rattle.iox_domain.proofs.TiedWell.{gone_there}
+use Rattle.iox_domain.proofs.TiedUpdates.{MadeAt, connects_made, ok_same, found_leads}
 use Rattle.iox_domain.proofs.WellKept.{left_leads, settled_goes}
 
--- A publisher is as far as it was; the connection, if it is there, was there and as much waits, or it is new; and it goes only
--- where the publisher left.
+-- The progress of the publisher's send doesn't change. If the connection exists afterwards, it existed before and has the same
+-- waiting messages, or it is new; it is removed only if the publisher left.
 pub record Steady {T U : Type 0} (index subscriber : ℕ) (old new : PublisherPort T U) : Type 0 where
   pub sending : new.sender.uses.sending ≡ old.sender.uses.sending
   pub history : new.sender.uses.history ≡ old.sender.uses.history
@@ -41,7 +42,7 @@ pub record Steady {T U : Type 0} (index subscriber : ℕ) (old new : PublisherPo
   pub lost : leads_at index subscriber new ≡ false → leads_at index subscriber old ≡ true → old.stands ≡ false
   pub waits : ((connection_of index new).waiting ≡ (connection_of index old).waiting) ⊎ ((connection_of index new).waiting ≡ [])
 
--- What is kept of a publisher through a step.
+-- What stays true of a publisher after a step.
 pub record PortBooks {T U : Type 0} (index subscriber : ℕ) (old new : PublisherPort T U) : Type 0 where
   pub keeps : (sent taken : List (Message T U)) → Books index subscriber sent taken old → Missing index subscriber sent taken old
       → Books index subscriber sent taken new × Missing index subscriber sent taken new
@@ -238,7 +239,7 @@ pub if_left_steady : {T U : Type 0} (index subscriber at : ℕ) (stands : Bool) 
 if_left_steady index subscriber at true port is = steady_is index subscriber port port refl
 if_left_steady index subscriber at false port is = ended_steady_by index subscriber at (is_live at port) port is
 
--- What is kept of a publisher through a step by which a connection may go while the publisher stands.
+-- What stays true of a publisher after a step that may remove a connection of an existing publisher.
 abbrev pub PortKept : {T U : Type 0} → ℕ → ℕ → PublisherPort T U → PublisherPort T U → Type 0
 PortKept {T} {U} index subscriber old new = (sent taken : List (Message T U)) → Books index subscriber sent taken old
     → Missing index subscriber sent taken old → Books index subscriber sent taken new × Missing index subscriber sent taken new

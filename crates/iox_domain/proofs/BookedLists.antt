@@ -24,7 +24,7 @@ pub record Booked {T U : Type 0} (publisher index subscriber : ℕ) (sent taken 
   pub books : (port : PublisherPort T U) → port_of publisher ports ≡ Some port → Books index subscriber sent taken port
   pub missing : (port : PublisherPort T U) → port_of publisher ports ≡ Some port → Missing index subscriber sent taken port
 
--- What a step at the publishers leaves of it.
+-- What stays true after a step of the publishers.
 pub record ListBooks {T U : Type 0} (publisher index subscriber : ℕ) (old new : List (ℕ × PublisherPort T U)) : Type 0 where
   pub keeps : (sent taken : List (Message T U)) → Booked publisher index subscriber sent taken old
       → Booked publisher index subscriber sent taken new
@@ -238,7 +238,7 @@ book_walks publisher index subscriber reading = record {
   end = λ attached ports. lists_ended publisher index subscriber attached.publisher attached.index ports;
 }
 
--- What is left of it where a subscriber leaves: a connection may go while its publisher stands.
+-- What stays true when a subscriber leaves: a connection of an existing publisher may be removed.
 pub record ListKept {T U : Type 0} (publisher index subscriber : ℕ) (old new : List (ℕ × PublisherPort T U)) : Type 0 where
   pub keeps : (sent taken : List (Message T U)) → Booked publisher index subscriber sent taken old
       → Booked publisher index subscriber sent taken new

@@ -39,7 +39,7 @@ use Rattle.iox_domain.proofs.Booked.{steady_alike, PortBooks, steady_port}
 use Rattle.iox_domain.proofs.Books.{Books, Missing, books_still, still_is, still_same, leads_same, begun_books, finishes_books}
 use Rattle.iox_domain.proofs.Books.{given_up_books}
 use Rattle.iox_domain.proofs.Followed.{Updated, updates_books}
-use Rattle.iox_domain.proofs.TiedWell.{updates_well}
+use Rattle.iox_domain.proofs.TiedUpdates.{updates_well}
 use Rattle.iox_domain.proofs.WellKept.{told_same}
 
 -- what is kept of a publisher that sent so much more

@@ -84,7 +84,8 @@ one_port : {T U : Type 0} (one other : PublisherPort T U) (found : Option (Publi
     → one ≡ other
 one_port one other found first second = let both : Some one ≡ Some other = sym first ∙ second in cc
 
--- The oldest of the connection is taken. Where it led to its subscriber before the call, it leads there still, or its publisher left.
+-- The oldest message of the connection is taken. If its reader was the subscriber before the call, it still is, or its publisher
+-- left.
 taken_booked : {T U : Type 0} (publisher index subscriber : ℕ) (sent before : List (Message T U)) (port : PublisherPort T U)
     (ports : List (ℕ × PublisherPort T U)) → port_of publisher ports ≡ Some port → Booked publisher index subscriber sent before ports
     → (leads_at index subscriber port ≡ false → (port.stands ≡ false) × IsPartOf (before ++ take 1 (connection_of index port).waiting) sent)

@@ -19,9 +19,10 @@ use Rattle.iox_domain.proofs.Gaps.{numbered_more}
 use Rattle.iox_domain.proofs.Once.{Gone, delivers_got}
 use Rattle.iox_domain.proofs.PortLawsParts.{part_same, part_on, part_behind, part_last, part_within, part_drop, before_last}
 
--- What holds of a publisher that sent so much, and of the connection of an index that leads to a subscriber, from which so much
--- was taken. What was taken and what waits is part of what was sent, of all but the last while that is still to come there, and
--- nothing before it is tied.
+-- What is true of a publisher that sent the messages `sent`, and of its connection with this index to this subscriber, which took the
+-- messages `taken`. The taken and the waiting messages are a part of those sent, without the last one as long as the send hasn't
+-- reached a place of this connection. If no place is tied to the connection of a publisher that exists, no message was taken and none
+-- waits.
 pub record Books {T U : Type 0} (index subscriber : ℕ) (sent taken : List (Message T U)) (port : PublisherPort T U) : Type 0 where
   pub history : IsPartOf port.sender.uses.history sent
   pub numbered : AreNumbered sent port.last_sequence
@@ -36,12 +37,13 @@ pub record Books {T U : Type 0} (index subscriber : ℕ) (sent taken : List (Mes
   pub idle : leads_at index subscriber port ≡ true → port.stands ≡ true → ((place : ℕ) → get_or port.ties.items place None ≢ Some index)
       → taken ++ (connection_of index port).waiting ≡ []
 
--- Where no such connection is there, nothing was taken from it yet, or nothing more is sent.
+-- If there is no such connection, nothing was taken from it yet, or nothing more will be sent.
 abbrev pub Missing : {T U : Type 0} → ℕ → ℕ → List (Message T U) → List (Message T U) → PublisherPort T U → Type 0
 Missing index subscriber sent taken port = leads_at index subscriber port ≡ false → (taken ≡ [])
     ⊎ ((port.stands ≡ false) × IsPartOf taken sent)
 
--- A publisher is as far as it was, and the connection, if it is there, was there and as much waits.
+-- The progress of the publisher's send doesn't change, and the connection, if it exists, existed before with the same waiting
+-- messages.
 pub record Still {T U : Type 0} (index subscriber : ℕ) (old new : PublisherPort T U) : Type 0 where
   pub sending : new.sender.uses.sending ≡ old.sender.uses.sending
   pub history : new.sender.uses.history ≡ old.sender.uses.history
@@ -134,7 +136,7 @@ put_books {T} {U} overflows message connection taken before sent is part =
     subst (λ (all : List (Message T U)). IsPartOf (taken ++ (offered overflows message connection).waiting) all) (sym is)
     (part_on _ _ _ longer same)
 
--- What came of a message at one connection: it leads where it did, and got the message at most once.
+-- The effect of a message at one connection: its reader is the same, and it got the message at most once.
 pub got_leads : {T U : Type 0} (index subscriber : ℕ) (old new : PublisherPort T U)
     → (connection_of index new).stage ≡ (connection_of index old).stage → new.readers ≡ old.readers
     → leads_at index subscriber new ≡ leads_at index subscriber old

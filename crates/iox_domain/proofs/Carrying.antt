@@ -285,7 +285,7 @@ pub carry_given_up : {T U : Type 0} {R : PublisherPort T U → PublisherPort T U
     (port : PublisherPort T U) → R port (given_up slot port)
 carry_given_up w slot port = carry_given_up_at w (place_of slot port) port
 
--- a send that waits is tried again, or given up
+-- a blocked send is tried again, or given up
 retries_one : {T U : Type 0} {R : PublisherPort T U → PublisherPort T U → Type 0} (w : Carries R) (blocked : Bool)
     (may : BackpressureInfo → BackpressureDecision → Type 0) (elapsed : ℕ) (old new : PublisherPort T U)
     (answer : Option (Result Sent SendError)) → publishing.RetriesIf blocked may elapsed old answer new → R old new

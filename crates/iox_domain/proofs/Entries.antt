@@ -1,4 +1,4 @@
--- What holds of each entry, and how often a number stands, after an entry changed, went or came.
+-- What is true of each entry, and how often a number occurs, after an entry is changed, removed or added.
 use Rattle.std.proofs.Common.{arith, ◌≡◌, ◌≢◌, ◌∙◌, ◌+◌, ◌≤◌, ◌<◌, ◌∷◌, [], ℕ, Bool, true, false, cond, List, if◌then◌else◌, refl, sym}
 use Rattle.std.proofs.Common.{ap, subst}
 use Rattle.std.proofs.lemmas.List.Elements.{All-cons, All-head, All-nil, All-tail}

@@ -17,7 +17,8 @@ at_most : {T U : Type 0} (most : ℕ) (attached : Option Attached) (ports : List
 at_most most None ports = omega arith
 at_most most (Some attached) ports = omega arith
 
--- Where each key is for a publisher of a list, and no two are for one, no more is borrowed than may be of as many as the list has.
+-- If each key belongs to a publisher of a list, and no two belong to the same one, no more is borrowed than this many publishers may
+-- have borrowed.
 few_held : {T U : Type 0} (most : ℕ) (values : List (Option Attached)) (ports list : List (ℕ × PublisherPort T U))
     → ((key : ℕ) (attached : Attached) → value_at values key ≡ Some attached → (port : PublisherPort T U)
     × (port_of attached.publisher list ≡ Some port))

@@ -168,7 +168,7 @@ tally_of port fit = record {
   unused = fit.unused;
 }
 
--- What a step leaves in order.
+-- What is in order after a step.
 record Fits (old new : SubscriberPort) : Type 0 where
   tally : Tallied (among new.places.items new.expired.items) new.connections
   values : length new.connections.values ≡ length old.connections.values
@@ -193,7 +193,7 @@ pub ended_rest : (key : ℕ) (found : Option Attached) (port : SubscriberPort) �
 ended_rest key None port = (refl, refl)
 ended_rest key (Some attached) port = (refl, refl)
 
--- What parting leaves: the key of the place isn't counted there any longer.
+-- What is in order after a parting: the key of the place isn't counted there any longer.
 pub record Parted (place : ℕ) (old new : SubscriberPort) : Type 0 where
   tally : Tallied (among (set old.places.items place None) new.expired.items) new.connections
   values : length new.connections.values ≡ length old.connections.values
@@ -335,7 +335,7 @@ parts_so place key port new ports new_ports is_free fit there parts =
     parts_if (is_idle port ports key) (nat_le port.expired.room (length port.expired.items)) place key port new ports new_ports is_free
     fit there refl parts
 
--- What a step leaves in order, with as many places.
+-- What is in order after a step that keeps the number of places.
 pub record Goes (old new : SubscriberPort) : Type 0 where
   pub fit : KeysFit new
   pub room : new.places.room ≡ old.places.room

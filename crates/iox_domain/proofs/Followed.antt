@@ -24,16 +24,16 @@ use Rattle.iox_domain.specs.Order.{IsPartOf, leads_at}
 use Rattle.iox_domain.proofs.Books.{Books, Missing, got_leads}
 use Rattle.iox_domain.proofs.Once.{live_within}
 use Rattle.iox_domain.proofs.PortLawsParts.{part_on, part_drop, part_nothing, none_first}
-use Rattle.iox_domain.proofs.TiedWell.{MadeAt, connects_made, leads_both, gone_there, long_enough, still_there, steps_untied}
-use Rattle.iox_domain.proofs.TiedWell.{follows_well, tied_joined, TiedTo, well_alike, alike_still}
+use Rattle.iox_domain.proofs.TiedWell.{leads_both, gone_there, long_enough, still_there, steps_untied, well_alike, alike_still}
+use Rattle.iox_domain.proofs.TiedUpdates.{MadeAt, connects_made, follows_well, tied_joined, TiedTo}
 
 -- no place lists a subscriber
 abbrev IsUnlisted : List (Option (Member SubscriberEntry)) → ℕ → Type 0
 IsUnlisted places subscriber = (place : ℕ) (member : Member SubscriberEntry) → get_or places place None ≡ Some member
     → member.value.subscriber ≢ subscriber
 
--- What holds of a publisher at which no send waits, and of a connection, in the middle of an update: where it isn't there,
--- nothing was taken from it or its subscriber isn't listed.
+-- What is true of a publisher without a blocked send, and of a connection, in the middle of an update: if the connection doesn't
+-- exist, nothing was taken from it, or its subscriber isn't listed.
 record Midway {T U : Type 0} (places : List (Option (Member SubscriberEntry))) (index subscriber : ℕ) (sent taken : List (Message T U))
     (port : PublisherPort T U) : Type 0 where
   history : IsPartOf port.sender.uses.history sent
@@ -501,7 +501,7 @@ follows_all_mid {T} {U} next places index subscriber sent taken may first (item 
     (follows_well next places first item old between outcome list here well one).1 further step.0 in
     (more.0, left_on old between new step.1 more.1)
 
--- An update, at which no send waits.
+-- An update while no send is blocked.
 pub record Updated {T U : Type 0} (index subscriber : ℕ) (sent taken : List (Message T U)) (old new : PublisherPort T U) : Type 0 where
   pub books : Books index subscriber sent taken new
   pub sending : new.sender.uses.sending ≡ None

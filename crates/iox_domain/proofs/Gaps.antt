@@ -1,4 +1,4 @@
--- Numbers of messages, one after the other, and what they tell of a part.
+-- Consecutive sequence numbers, and what the numbers of a part of the messages say.
 use Rattle.std.proofs.Common.{arith, ◌≡◌, ◌+◌, ◌≤◌, ◌∷◌, [], ◌++◌, append_assoc, ℕ, List, length, Option, None, Some, refl, sym, ap}
 use Rattle.std.proofs.Common.{◌∙◌, subst, inl, inr}
 use Rattle.std.proofs.lemmas.List.Elements.{All-append, All-cons, All-head, All-nil, All-tail}
@@ -8,7 +8,7 @@ use Rattle.iox_domain.specs.DomainPorts.Messages.{Message}
 use Rattle.iox_domain.specs.Gaps.{sequence_behind, AreNumberedFrom, AreNumbered, IsOutside, Missed}
 use Rattle.iox_domain.specs.Order.{IsPartOf}
 
--- the number behind two lists is that behind the second, from that behind the first on
+-- the number after two lists is that after the second, from that after the first on
 behind_both : {X : Type 0} (first : Option ℕ) (xs ys : List X)
     → sequence_behind first (xs ++ ys) ≡ sequence_behind (sequence_behind first xs) ys
 behind_both first [] ys = refl
@@ -38,7 +38,7 @@ numbered_more message sent last is (first, numbered, behind) = (
   behind_both first sent (message ∷ []) ∙ ap (λ number. next_sequence number) behind,
 )
 
--- the number behind so many, from a number on
+-- the number after n, from a number on
 behind_number : {X : Type 0} (number : ℕ) (xs : List X) → sequence_behind (Some number) xs ≡ Some (number + length xs)
 behind_number number [] = ap (λ n. Some n) (omega arith)
 behind_number number (x ∷ xs) = behind_number (number + 1) xs ∙ ap (λ n. Some n) (omega arith)

@@ -1,4 +1,4 @@
--- What the numbers of messages tell holds after any calls.
+-- What the sequence numbers of messages say is true after any calls.
 use Rattle.std.proofs.Common.{◌≡◌, ◌∷◌, ◌++◌, ℕ, true, List, is_some, Option, None, Some, refl, sym, ap, ◌∙◌, subst}
 use Rattle.iox_domain.specs.DomainValues.declared.backpressure.BackpressureDecision.{BackpressureDecision}
 use Rattle.iox_domain.specs.DomainValues.declared.backpressure.BackpressureInfo.{BackpressureInfo}

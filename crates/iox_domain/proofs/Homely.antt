@@ -1,4 +1,4 @@
--- A call of what a domain lends is one of its home.
+-- A call on what is borrowed from a domain is a call on its home.
 use Rattle.std.proofs.Common.{rules, ℕ, ◌≡◌, Bool, true, false, Option, None, Some, Result, Ok, Err, refl, sym, ap, subst, ◌∙◌}
 use Rattle.std.specs.Option.{option_map}
 use Rattle.std.specs.Prelude.{IsSome}

@@ -1,4 +1,4 @@
--- What a connection gives is in the order of sending, through any calls.
+-- The messages that are received from a connection are in the order in which they were sent, after any calls.
 use Rattle.std.proofs.Common.{arith, ◌≡◌, ◌≢◌, ◌+◌, ◌≤◌, ◌&&◌, ◌==◌, ◌∷◌, [], ◌++◌, append-nil, ℕ, Bool, true, false, not, is_some, List}
 use Rattle.std.proofs.Common.{get_or, Option, None, Some, Result, Ok, Err, refl, sym, ap, ◌∙◌, subst, if◌then◌else◌, inl, inr, take}
 use Rattle.std.proofs.lemmas.Bool.{cases_eq, eqb-true, eq-eqb}
@@ -69,7 +69,7 @@ use Rattle.iox_domain.proofs.Sole.{IsSole, sole_set, sole_came}
 use Rattle.iox_domain.proofs.Walks.{walked_updates, left_all_walk}
 use Rattle.iox_domain.proofs.WellKept.{told_same}
 
--- What a call leaves of what is kept of a publisher, which sent so much more, and of a connection, from which so much more was taken.
+-- What stays true of a publisher that sent more messages in a call, and of a connection from which more were taken.
 record CallBooks {T U : Type 0} (publisher index subscriber : ℕ) (led : Bool) (sends takes : List (Message T U))
     (old new : ServicePorts T U) : Type 0 where
   next : old.next_port ≤ new.next_port
@@ -577,7 +577,7 @@ call_books publisher index subscriber led overrides may decide (Sends number slo
 call_books publisher index subscriber led overrides may decide (Receives number answer) old new sound apart happens
     = call_receives publisher index subscriber led may number (subscriber_of number old.subscribers) old new answer happens
 
--- What holds after calls.
+-- What is true after calls.
 pub record Holds {T U : Type 0} (publisher index subscriber : ℕ) (account : Account T U) (ports : ServicePorts T U) : Type 0 where
   sound : IsSound ports
   apart : IsApart ports

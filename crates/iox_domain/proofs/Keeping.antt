@@ -33,7 +33,7 @@ kept_is_there number x (entry ∷ entries) =
     came number entry.0 x entry.1 entries (insert_entry nat_cmp entries number x) (nat_cmp number entry.0) refl
     (kept_is_there number x entries)
 
--- what is put back behind an entry of another number
+-- what is put back after an entry of another number
 put_back-behind : {X : Type 0} (number other : ℕ) (y : X) (inserted : List (ℕ × X)) (before : Option X) → nat_cmp number other ≡ Greater
     → put_back number before ((other, y) ∷ inserted) ≡ (other, y) ∷ put_back number before inserted
 put_back-behind number other y inserted None is

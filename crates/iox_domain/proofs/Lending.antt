@@ -35,7 +35,7 @@ use Rattle.iox_domain.proofs.Outliving.{added}
 use Rattle.iox_domain.specs.Loans.{spare_loans}
 use Rattle.iox_domain.proofs.Allowing.{Allowance, allowance_of, spared, as_spare, updates_allows, finishes_allows, concluded_allows}
 
--- so many loans more are out
+-- n loans more are out
 abbrev with_more : ℕ → Allowance → Allowance
 with_more more allowance = record allowance { out = allowance.out + more }
 
@@ -237,7 +237,7 @@ pub sends_spare : {T U : Type 0} (may_degrade : DegradationInfo → DegradationA
 sends_spare may_degrade may list slot port answer after (listed, is_list, sends)
     = sends_ready may_degrade may listed list.changes (ready_loan slot port) port answer after sends
 
--- a send that waits is tried again, or given up
+-- a blocked send is tried again, or given up
 retries_if : {T U : Type 0} (blocked : Bool) (may : BackpressureInfo → BackpressureDecision → Type 0) (elapsed : ℕ)
     (port : PublisherPort T U) (answer : Option (Result Sent SendError)) (after : PublisherPort T U)
     → RetriesIf blocked may elapsed port answer after → spare_loans after ≤ spare_loans port

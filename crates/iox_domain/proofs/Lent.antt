@@ -102,7 +102,7 @@ free_slot slot sender free =
     no_loan slot sender.uses.loans (unused slot sender.uses.loans
     (omega (arith, all, times_append slot (option_to_list uses.sending) (uses.loans ++ rest), times_append slot uses.loans rest)))
 
--- what is found behind a list where nothing is found
+-- what is found after a list where nothing is found
 pub found_last : {X : Type 0} (test : X → Bool) (xs : List X) (x : X) → find test xs ≡ None → test x ≡ true
     → find test (xs ++ x ∷ []) ≡ Some x
 found_last test [] x none passes = rw passes refl
@@ -171,7 +171,7 @@ may_be_sent at port true written free is none = no (sym free)
 may_be_sent at port false false free is none = no is
 may_be_sent at port false true free is none = cc
 
--- a written loan of a publisher of which no send waits may be sent
+-- a written loan of a publisher of which no send is blocked may be sent
 pub ready_there : {T U : Type 0} (slot : ℕ) (port : PublisherPort T U) (at : Option ℕ)
     → at ≡ position (λ loan. loan.slot == slot) port.sender.uses.loans
     → is_written_loan (loan_of slot port) ≡ true → is_blocked port ≡ false → ready_at at port ≡ None → ⊥

@@ -218,7 +218,8 @@ publisher_comes {T} {U} overrides may config user_header (Some needed) (Some pla
           ap (λ told. if_came told (held_of_one old)) is_answer,
         )
 
--- What a call leaves of a subscriber: it lends, and so many came that may not come any more.
+-- The effect of a call of a subscriber: publishers change only as `More` says, none is added, and each received sample reduces by one
+-- those that the subscriber may still borrow.
 record Serves {T U : Type 0} (most came : ℕ) (port : SubscriberPort) (ports : List (ℕ × PublisherPort T U)) (after : SubscriberPort)
     (ports_after : List (ℕ × PublisherPort T U)) : Type 0 where
   more : More ports ports_after

@@ -24,6 +24,8 @@ pub mod ListKeeps
 pub mod Releasing
 pub mod Held
 pub mod TiedWell
+pub mod TiedUpdates
+mod Trimmed
 pub mod WellKept
 pub mod PortLawsApart
 pub mod Roomy

@@ -26,7 +26,8 @@ use Rattle.iox_domain.specs.DomainValues.declared.degradation.DegradationInfo.{D
 use Rattle.iox_domain.specs.DomainValues.declared.port_error.SendError.{SendError}
 use Rattle.iox_domain.specs.PortLawsLaws.{IsListApart, IsTiedWell}
 use Rattle.iox_domain.proofs.Carrying.{Carries, carry_sends}
-use Rattle.iox_domain.proofs.TiedWell.{Alike, alike_is, alike_still, alike_waiting, steps_untied, follows_well, updates_well, well_alike}
+use Rattle.iox_domain.proofs.TiedWell.{Alike, alike_is, alike_still, alike_waiting, steps_untied, well_alike}
+use Rattle.iox_domain.proofs.TiedUpdates.{follows_well, updates_well}
 use Rattle.iox_domain.proofs.WellKept.{told_same}
 use Rattle.iox_domain.specs.Roomy.{IsReadBy, LeadsOn}
 use Rattle.iox_domain.proofs.Bools.{both_true}
@@ -50,7 +51,7 @@ read_untied : {T U : Type 0} (subscriber index place : ℕ) (port : PublisherPor
     → IsReadBy subscriber index (untied place port)
 read_untied subscriber index place port not reads = read_let_go subscriber index place (get_or port.ties.items place None) port not reads
 
--- so many places that don't list it are untied
+-- n places that don't list it are untied
 read_untied_from : {T U : Type 0} (next : ℕ) (places : List (Option (Member SubscriberEntry))) (listed : ℕ)
     (member : Member SubscriberEntry) (count index place : ℕ) (port : PublisherPort T U) → get_or places listed None ≡ Some member
     → listed < place
@@ -157,7 +158,7 @@ within_listed [] at member is = cc
 within_listed (x ∷ xs) zero member is = omega arith
 within_listed (x ∷ xs) (suc at) member is = omega (arith, within_listed xs at member is)
 
--- What a step of a publisher leaves: who is listed and reads there reads on, and connections that lead to somebody go on.
+-- The effect of a step of a publisher: listed subscribers that read still read, and connections that have a reader continue.
 pub record Listens {T U : Type 0} (places : List (Option (Member SubscriberEntry))) (old new : PublisherPort T U) : Type 0 where
   pub reads : (at : ℕ) (member : Member SubscriberEntry) → get_or places at None ≡ Some member → (index : ℕ)
       → IsReadBy member.value.subscriber index old → IsReadBy member.value.subscriber index new

@@ -1,4 +1,4 @@
--- What a publisher's steps do to what lives of it: whether it stands, whose it is, its loans, and whether a send waits.
+-- What a publisher's steps change of whether it exists, its owner, its loans, and whether one of its sends is blocked.
 use Rattle.std.proofs.Common.{◌≡◌, ◌+◌, ◌-◌, ◌==◌, ◌∙◌, ℕ, zero, suc, Bool, true, false, List, [], ◌∷◌, length, get_or, is_some, Option}
 use Rattle.std.proofs.Common.{None, Some, Result, Ok, Err, if◌then◌else◌, refl, sym, ap}
 use Rattle.std.specs.declared.alloc.AllocError.{AllocError}
@@ -27,7 +27,8 @@ use Rattle.iox_domain.specs.DomainPorts.declared.meeting.Sent.TheVariants as sen
 use Rattle.iox_domain.specs.DomainPorts.declared.publisher_port.PublisherPort.{PublisherPort}
 use Rattle.iox_domain.specs.DomainPorts.declared.subscriber_entry.SubscriberEntry.{SubscriberEntry}
 
--- what lives of a publisher is told by this: whether it stands, whose it is, how many loans are out and may be, and whether a send waits
+-- what lives of a publisher is told by this: whether it stands, whose it is, how many loans are out and may be, and whether a send is
+-- blocked
 pub record Life : Type 0 where
   pub stands : Bool
   pub number : ℕ

@@ -1,4 +1,4 @@
--- A send comes to each mailbox at most once.
+-- A send puts its message into each mailbox at most once.
 use Rattle.std.proofs.Common.{arith, ◌≡◌, ◌+◌, ◌-◌, ◌<◌, ◌≤◌, ◌||◌, ◌⊎◌, ℕ, zero, suc, Bool, true, false, get_or, length, nat_lt, Option}
 use Rattle.std.proofs.Common.{None, Some, Result, refl, sym, ap, ◌∙◌, if◌then◌else◌, inl, inr}
 use Rattle.std.proofs.lemmas.Bool.{cases_eq, cases_lt}
@@ -166,7 +166,7 @@ meeting_full true true reader subscriber is = cc
 meeting_full true false reader subscriber is = refl
 meeting_full false accepted reader subscriber is = cc
 
--- where the send waits, no mailbox changed
+-- where the send is blocked, no mailbox changed
 quiet_by : {T U : Type 0} (index : ℕ) (tie : Option ℕ) (port : PublisherPort T U) → (meeting_by tie port ≡ meeting.Over)
     ⊎ ((subscriber : ℕ) × (meeting_by tie port ≡ meeting.Full subscriber))
     → connection_of index (met_by tie port) ≡ connection_of index port
@@ -198,7 +198,7 @@ quiet index place false port is waits =
     let past : length port.ties.items ≤ place = grind (arith, is) in
     ap (λ tie. connection_of index (met_by tie port)) (get_or_past port.ties.items place None past)
 
--- What one place comes to.
+-- The effect of a step of a send at one place.
 pub record StepGot {T U : Type 0} (went : Bool) (old new : PublisherPort T U) : Type 0 where
   pub same : Same old new
   pub goes : went ≡ true → new.progress.place ≡ old.progress.place + 1
@@ -225,7 +225,7 @@ passes {T} {U} went old new goes sender kept place =
     lift index (inl is) = inl (ap (λ one. get_or one.uses.connections index nobody) sender ∙ is)
     lift index (inr got) = inr (got.0, got.1, got.2, ap (λ one. get_or one.uses.connections index nobody) sender ∙ got.3)
 
--- the send waits there
+-- the send is blocked there
 waits_there : {T U : Type 0} (went : Bool) (old new : PublisherPort T U) → went ≡ false → new ≡ met old.progress.place old
     → ((meeting_at old.progress.place old ≡ meeting.Over)
     ⊎ ((subscriber : ℕ) × (meeting_at old.progress.place old ≡ meeting.Full subscriber))) → StepGot went old new
@@ -263,13 +263,13 @@ step_got may meeting.Delivered went old new is steps
     (ap (λ port. port.progress.place) steps.1)
 step_got may (meeting.Full subscriber) went old new is steps = decided_got went steps.0 subscriber old new is steps.2 steps.3
 
--- What so many places come to.
+-- The effect of a send's steps at several places, one after another.
 pub record Gone {T U : Type 0} (old new : PublisherPort T U) : Type 0 where
   pub same : Same old new
   pub forward : old.progress.place ≤ new.progress.place
   pub got : (index : ℕ) → GotAtMostOnce index old new
 
--- one place, and what comes of those behind it
+-- one place, and what comes of those after it
 joined : {T U : Type 0} (old next new : PublisherPort T U) → AreTiesApart old → StepGot true old next → Gone next new → Gone old new
 joined {T} {U} old next new apart step gone = record {
   same = same_on old next new step.same gone.same;

@@ -46,13 +46,13 @@ use Rattle.iox_domain.specs.declared.ports.making.PublisherConfig.{PublisherConf
 use Rattle.iox_domain.specs.declared.ports.service_ports.ServicePorts.{ServicePorts}
 use Rattle.iox_domain.proofs.Carrying.{carry_loans, carry_changed, carry_given_up, carry_retries, carry_gives_up}
 use Rattle.iox_domain.proofs.Numbered.{bool_false, all_came, all_then}
-use Rattle.iox_domain.proofs.TiedWell.{updates_well}
+use Rattle.iox_domain.proofs.TiedUpdates.{updates_well}
 use Rattle.iox_domain.proofs.Walks.{walked_updates, walked_receives, left_all_walk}
 use Rattle.iox_domain.proofs.WellKept.{Goes, goes_carries, told_same, goes_updates_one, goes_sends_one, goes_departed, ListWell}
 use Rattle.iox_domain.proofs.WellKept.{wells_stay, wells_on, wells_with, wells_changed, wells_settled, well_walks, well_takes, well_leaving}
 use Rattle.iox_domain.proofs.WellKept.{wells_released}
 
--- What each step at the publishers does to a service whose lists and numbers stay.
+-- What each step of the publishers changes in a service whose lists and numbers don't change.
 record StaysApart {T U : Type 0} (old new : ServicePorts T U) : Type 0 where
   apart : IsApart old → IsApart new
 
@@ -153,6 +153,8 @@ well_later next places port well = record {
   below = λ place subscriber is. omega (arith, well.below place subscriber is);
   room = well.room;
   known = well.known;
+  sole = well.sole;
+  all = well.all;
 }
 
 -- a publisher that is connected to nobody
@@ -168,6 +170,9 @@ new_well {T} {U} next places port items readers none room = record {
       = sym (ap (λ tie. is_tie_to subscriber tie port) (ap (λ all. get_or all place None) items)) ∙ is in absurd (cc);
   room = room;
   known = λ index live.
+      let no : false ≡ true = sym (ap (λ all. goes_on (get_or all index nobody).stage) none) ∙ live in absurd (cc);
+  sole = λ subscriber one other leads. let no : false ≡ true = rw readers at leads in absurd (cc);
+  all = λ index live.
       let no : false ≡ true = sym (ap (λ all. goes_on (get_or all index nobody).stage) none) ∙ live in absurd (cc);
 }
   where
@@ -268,6 +273,8 @@ well_listed next place places entry port named well = record {
   below = λ one subscriber is. omega (arith, well.below one subscriber is);
   room = omega (arith, well.room, length-set places place (Some entry));
   known = well.known;
+  sole = well.sole;
+  all = well.all;
 }
 
 subscribes_apart : {T U : Type 0} (may : DegradationInfo → DegradationAction → Type 0) (owner : PortOwner) (place buffer_size : ℕ)
@@ -374,6 +381,8 @@ subscriber_leaves_apart {T} {U} true number port old new answer leaves =
               below = well.below;
               room = omega (arith, well.room, fewer.long);
               known = well.known;
+              sole = well.sole;
+              all = well.all;
             }) (walked.well apart.well);
       };
     })

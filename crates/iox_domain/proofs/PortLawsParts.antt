@@ -29,14 +29,14 @@ part_end : {X : Type 0} (z : X) (ys : List X) → IsPartOf (z ∷ []) (ys ++ z �
 part_end z [] = inl (refl, tt)
 part_end z (y ∷ ys) = inr (part_end z ys)
 
--- both with one more behind
+-- both with one more after
 pub part_last : {X : Type 0} (z : X) (xs ys : List X) → IsPartOf xs ys → IsPartOf (xs ++ z ∷ []) (ys ++ z ∷ [])
 part_last z [] ys part = part_end z ys
 part_last z (x ∷ xs) [] part = absurd part
 part_last z (x ∷ xs) (y ∷ ys) (inl part) = inl (part.0, part_last z xs ys part.1)
 part_last z (x ∷ xs) (y ∷ ys) (inr part) = inr (part_last z (x ∷ xs) ys part)
 
--- both behind the same
+-- both after the same
 pub part_within : {X : Type 0} (xs ys zs : List X) → IsPartOf ys zs → IsPartOf (xs ++ ys) (xs ++ zs)
 part_within [] ys zs part = part
 part_within (x ∷ xs) ys zs part = inl (refl, part_within xs ys zs part)

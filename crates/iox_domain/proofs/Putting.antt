@@ -42,7 +42,7 @@ use Rattle.iox_domain.specs.Putting.{with_values, PutsValues, PutsIf, PutsOne}
 use Rattle.iox_domain.specs.Rolls.{RollState}
 use Rattle.iox_domain.specs.declared.ports.service_ports.ServicePorts.{ServicePorts}
 
--- a loan of so many values has so many
+-- a loan of n values has n
 as_many : (T : Type 0) (n : ℕ) → eqb n (length (replicate {A = Option T} n None)) ≡ true
 as_many T n = rw (length-replicate {A = Option T} n None) (same_number n)
 

@@ -1,4 +1,4 @@
--- Who reads from a connection goes on to read there, step by step.
+-- A subscriber that reads from a connection still reads from it after each step.
 use Rattle.std.proofs.Common.{arith, ◌≡◌, ◌≢◌, ◌∙◌, ◌+◌, ◌<◌, ◌==◌, ◌∷◌, [], ℕ, zero, suc, Bool, true, false, List, get_or, length, set}
 use Rattle.std.proofs.Common.{remove, min, is_some, Option, None, Some, Result, Ok, Err, if◌then◌else◌, refl, sym, ap, subst, inl, inr}
 use Rattle.std.proofs.lemmas.Bool.{cases_eq, eqb-true}
@@ -23,8 +23,8 @@ use Rattle.iox_domain.specs.DomainPorts.declared.attached.Attached.{Attached}
 use Rattle.iox_domain.proofs.Carrying.{Carries}
 use Rattle.iox_domain.proofs.ListKeeps.{none_there, last_of}
 use Rattle.iox_domain.proofs.Numbered.{at_number, other_fails, other_set, same_set, other_gone, found_of_all, all_set, all_gone}
-use Rattle.iox_domain.proofs.TiedWell.{Alike, alike_is, alike_on, alike_still, alike_waiting, found_leads, connects_made, gone_there}
-use Rattle.iox_domain.proofs.TiedWell.{ok_same}
+use Rattle.iox_domain.proofs.TiedWell.{Alike, alike_is, alike_on, alike_still, alike_waiting, gone_there}
+use Rattle.iox_domain.proofs.TiedUpdates.{found_leads, connects_made, ok_same}
 use Rattle.iox_domain.proofs.WellKept.{left_leads, settled_goes}
 use Rattle.iox_domain.specs.Roomy.{IsReadBy, IsAttached, LeadsOn, LeadsOnEntry}
 

@@ -1,4 +1,4 @@
--- Sums over lists and over what stands under numbers.
+-- Sums over lists, and over the values of tables by number.
 use Rattle.std.proofs.Common.{arith, ◌≡◌, ◌+◌, ◌≤◌, ◌<◌, ◌∷◌, [], ℕ, zero, suc, Bool, true, false, cond, List, get_or, length, Some}
 use Rattle.std.proofs.Common.{if◌then◌else◌, ap}
 use Rattle.std.proofs.lemmas.List.Sums.{sum_by-cons, sum_by-le-sum_by}

@@ -1,4 +1,4 @@
--- Under each number stands one entry at most.
+-- Each number has at most one entry.
 use Rattle.std.proofs.Common.{◌≡◌, ◌∷◌, [], ℕ, Bool, true, false, cond, List, Option, None, Some, refl, sym, ap, ◌∙◌, inl, inr}
 use Rattle.std.proofs.lemmas.Bool.{cases_eq}
 use Rattle.std.specs.BTreeMap.{insert_entry}
@@ -8,7 +8,7 @@ use Rattle.std.specs.declared.cmp.Ordering.{Ordering}
 use Rattle.std.specs.declared.cmp.Ordering.TheVariants.{Less, Equal, Greater}
 use Rattle.iox_domain.proofs.Numbered.{at_number, other_came}
 
--- behind an entry of this number is none of it
+-- after an entry of this number is none of it
 abbrev pub IsSole : {X : Type 0} → ℕ → List (ℕ × X) → Type 0
 IsSole number [] = Unit {0}
 IsSole number (e ∷ es) = (at_number number e.0 ≡ true → lookup (at_number number) es ≡ None) × IsSole number es

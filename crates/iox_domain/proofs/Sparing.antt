@@ -53,7 +53,8 @@ borrowed_of_more most connections old new more
 abbrev pub FreeFit : SlotTable Attached → Type 0
 FreeFit keys = (key : ℕ) → 0 < how_often key keys.free → (key < length keys.values) × (value_at keys.values key ≡ None)
 
--- What a step of a subscriber leaves: it lends, free keys are free, and as much is borrowed by its keys as before, or more.
+-- The effect of a step of a subscriber: publishers stay sound and no connection has fewer borrowed messages, free keys stay free, and
+-- all its keys together have borrowed as much as before, or more.
 pub record Spared {T U : Type 0} (most : ℕ) (port : SubscriberPort) (ports : List (ℕ × PublisherPort T U)) (new : SubscriberPort)
     (new_ports : List (ℕ × PublisherPort T U)) : Type 0 where
   pub lends : Lends ports new_ports

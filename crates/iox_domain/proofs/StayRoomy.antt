@@ -78,7 +78,7 @@ use Rattle.iox_domain.proofs.Reading.{alike_carries, read_alike, lead_alike, att
 use Rattle.iox_domain.proofs.Reading.{lead_departed, attached_with, attached_settled, leads_found, leads_with, leads_settled}
 use Rattle.iox_domain.proofs.Reading.{attached_ended, leads_ended, attached_detached, leads_detached, attached_released, leads_released}
 
--- What is new of a service that is roomy, beside what other laws say of it.
+-- What the law of a roomy service adds to the other laws.
 record Stays {T U : Type 0} (ports : ServicePorts T U) : Type 0 where
   list : IsListOnce ports.next_port ports.publisher_list.places
   lead : All LeadsOnEntry ports.publishers
@@ -261,7 +261,7 @@ publisher_comes {T} {U} overrides may config user_header (Some needed) (Some pla
           }) roomy.apart;
         })
 
--- What a call of a subscriber leaves: each other reads on, and it reads apart itself if it stands.
+-- The effect of a call of a subscriber: each other subscriber still reads, and it reads at connections of its own if it exists.
 record Followed {T U : Type 0} (number : ℕ) (old : ServicePorts T U) (port after : SubscriberPort)
     (ports_after : List (ℕ × PublisherPort T U)) : Type 0 where
   lead : All LeadsOnEntry ports_after

@@ -37,7 +37,8 @@ abbrev came : Option Taken → ℕ
 came None = 0
 came (Some taken) = 1
 
--- What a giver leaves: it lends, and what came is borrowed besides.
+-- The effect of taking a message: publishers stay sound, no connection has fewer borrowed messages, and a received message is
+-- borrowed in addition.
 record Gives {T U : Type 0} (most came : ℕ) (port : SubscriberPort) (ports new_ports : List (ℕ × PublisherPort T U)) : Type 0 where
   lends : Lends ports new_ports
   less : (next : ℕ) → All (IsSoundEntry next) ports
@@ -104,7 +105,8 @@ given_gives sizes (Some key) port ports all giving =
     let both = both_true (is_below port ports key) (has_data port ports key) (giving key refl) in
     gave sizes key (attached_at key port) port ports all refl both.0 both.1
 
--- What a receive leaves: it lends, as many stand, and what came is borrowed besides.
+-- The effect of a receive: publishers stay sound, no connection has fewer borrowed messages, whether the subscriber exists stays, and
+-- a received message is borrowed in addition.
 pub record ReceivesLess {T U : Type 0} (most came : ℕ) (port : SubscriberPort) (ports : List (ℕ × PublisherPort T U))
     (new : SubscriberPort) (new_ports : List (ℕ × PublisherPort T U)) : Type 0 where
   pub lends : Lends ports new_ports

@@ -42,7 +42,7 @@ often_both : (index : ℕ) (one other : List ℕ) → how_often index (one ++ ot
 often_both index [] other = omega arith
 often_both index (x ∷ xs) other = omega (arith, often_both index xs other)
 
--- Nothing came of a place: no mailbox changed, and nobody is counted; its connection, if it has one, didn't accept the message.
+-- A place without effect: no mailbox changed, and no delivery is counted; its connection, if it has one, didn't accept the message.
 record Quiet {T U : Type 0} (old new : PublisherPort T U) : Type 0 where
   still : (index : ℕ) → connection_of index new ≡ connection_of index old
   refuses : (index : ℕ) → get_or old.ties.items old.progress.place None ≡ Some index → is_live index old ≡ true
@@ -50,7 +50,7 @@ record Quiet {T U : Type 0} (old new : PublisherPort T U) : Type 0 where
       → accepts old.sender.uses.overflows (connection_of index old) ≡ true → ⊥
   counted : new.progress.delivered ≡ old.progress.delivered
 
--- The connection of a place took the message, and is counted.
+-- The connection of a place took the message, and this is counted.
 record TookHere {T U : Type 0} (at : ℕ) (old new : PublisherPort T U) : Type 0 where
   message : Message T U
   tie : get_or old.ties.items old.progress.place None ≡ Some at
@@ -204,7 +204,7 @@ took_at true old new is delivered sender counted
     = took_by (get_or old.ties.items old.progress.place None) old new refl delivered sender counted
 took_at false old new is delivered sender counted = cc
 
--- What one place comes to.
+-- The effect of a step of a send at one place.
 abbrev StepTook : {T U : Type 0} → Bool → PublisherPort T U → PublisherPort T U → Type 0
 StepTook went old new = Quiet old new ⊎ ((went ≡ true) × (at : ℕ) × TookHere at old new)
 
@@ -238,7 +238,7 @@ step_took may meeting.Delivered went old new is steps =
     inr (steps.0, took.0, took.1)
 step_took may (meeting.Full subscriber) went old new is steps = inl (decided_quiet steps.0 subscriber old new is steps.3)
 
--- What so many places come to.
+-- The effect of a send's steps at several places, one after another.
 record Gone {T U : Type 0} (old new : PublisherPort T U) : Type 0 where
   ties : new.ties ≡ old.ties
   forward : old.progress.place ≤ new.progress.place
@@ -274,7 +274,7 @@ took_later index old next new forward ties sending overflows same took = record 
       (λ one. offered old.sender.uses.overflows took.message one) same;
 }
 
--- one quiet place, and what comes of those behind it
+-- one quiet place, and what comes of those after it
 quiet_then : {T U : Type 0} (old next new : PublisherPort T U) → Quiet old next → StepGot true old next → Gone next new → Gone old new
 quiet_then {T} {U} old next new quiet step gone =
     let place : next.progress.place ≡ old.progress.place + 1 = step.goes refl in
@@ -303,7 +303,7 @@ quiet_then {T} {U} old next new quiet step gone =
         → next.progress.place ≤ at
     later at from other place = omega (arith, from, other, place)
 
--- one place where the message was taken, and what comes of those behind it
+-- one place where the message was taken, and what comes of those after it
 taken_then : {T U : Type 0} (at : ℕ) (old next new : PublisherPort T U) → AreTiesApart old → TookHere at old next
     → StepGot true old next → Gone next new → Gone old new
 taken_then {T} {U} at old next new apart here step gone =
@@ -452,7 +452,7 @@ tried {T} {U} may old new answer apart finishes =
           (λ index. ap (λ port. connection_of index port) is_new ∙ (concluded_same arrived index gone).0) progress all.come;
     }
 
--- What the tries from one on come to: each taker of them is tied to a place that the send had still to go over.
+-- The effect of the tries from one on: each connection that took a message is tied to a place that the send had not passed before.
 record Reached {T U : Type 0} (first last : PublisherPort T U) (tries : List (Try T U)) : Type 0 where
   takers : List (List ℕ)
   come : TriesComeTo takers tries

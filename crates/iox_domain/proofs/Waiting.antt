@@ -1,4 +1,4 @@
--- A send that waits is left where it is by each call that doesn't go on with it.
+-- A blocked send is left where it is by each call that doesn't go on with it.
 use Rattle.std.proofs.Common.{arith, ◌≡◌, ◌<◌, ◌&&◌, ◌||◌, ◌==◌, ℕ, Bool, true, false, not, is_some, List, length, Option, None, Some}
 use Rattle.std.proofs.Common.{Result, Ok, Err, refl, sym, ap, ◌∙◌, subst, if◌then◌else◌, inl, inr}
 use Rattle.std.proofs.lemmas.Bool.{cases_eq, eq-eqb}
@@ -113,7 +113,7 @@ waits_changed publisher number step None ports there steps = waits_same publishe
 waits_changed publisher number step (Some before) ports there steps
     = waits_with publisher number ports before (step before) there (λ same waits. steps before)
 
--- one whose send waits isn't over
+-- one whose send is blocked isn't over
 over_silent : (stands loans sending connections : Bool) → (not stands && (loans && (not sending && not connections))) ≡ true
     → sending ≡ false
 over_silent true loans sending connections is = cc

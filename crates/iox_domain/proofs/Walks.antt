@@ -29,7 +29,7 @@ use Rattle.iox_domain.specs.DomainPorts.declared.subscriber_port.SubscriberPort.
 abbrev pub may_borrow : {T U : Type 0} → Option Attached → List (ℕ × PublisherPort T U) → Bool
 may_borrow attached ports = nat_lt (length (connection_by attached ports).borrowed) (most_by attached ports)
 
--- What holds from the publishers before each step of a subscriber to those after it, and from step to step.
+-- What is true between the publishers before each step of a subscriber and after it, and from step to step.
 pub record Walks {T U : Type 0} (subscriber : ℕ) (R : List (ℕ × PublisherPort T U) → List (ℕ × PublisherPort T U) → Type 0) : Type 0 where
   pub stays : (ports : List (ℕ × PublisherPort T U)) → R ports ports
   pub on : (old between new : List (ℕ × PublisherPort T U)) → R old between → R between new → R old new
@@ -37,12 +37,12 @@ pub record Walks {T U : Type 0} (subscriber : ℕ) (R : List (ℕ × PublisherPo
       → AttachesTo number subscriber limit old answer new → R old new
   pub end : (attached : Attached) (ports : List (ℕ × PublisherPort T U)) → R ports (ended_ports (Some attached) ports)
 
--- So it is also where a subscriber leaves a connection.
+-- The same is true if a subscriber leaves a connection.
 abbrev pub WalksLeaving : {T U : Type 0} → (List (ℕ × PublisherPort T U) → List (ℕ × PublisherPort T U) → Type 0) → Type 0
 WalksLeaving {T} {U} R = (attached : Attached) (ports : List (ℕ × PublisherPort T U))
     → R ports (changed attached.publisher (detached_at attached.index) ports)
 
--- So it is also where the oldest message that waits at a connection is received, of which fewer are borrowed than may be.
+-- The same is true if the oldest waiting message of a connection is received, which has borrowed fewer than it may.
 abbrev pub WalksTaking : {T U : Type 0} → (List (ℕ × PublisherPort T U) → List (ℕ × PublisherPort T U) → Type 0) → Type 0
 WalksTaking {T} {U} R = (attached : Attached) (ports : List (ℕ × PublisherPort T U)) → may_borrow (Some attached) ports ≡ true
     → R ports (taken_ports (Some attached) ports)
@@ -51,7 +51,7 @@ both_true : (a b : Bool) → a && b ≡ true → a ≡ true
 both_true true b is = refl
 both_true false b is = cc
 
--- What is known after a step: it is the same subscriber, and so it is with the publishers.
+-- What is true after a step: it is the same subscriber, and the publishers are as described.
 pub record Walked {T U : Type 0} (R : List (ℕ × PublisherPort T U) → List (ℕ × PublisherPort T U) → Type 0) (port new : SubscriberPort)
     (ports new_ports : List (ℕ × PublisherPort T U)) : Type 0 where
   pub same : new.number ≡ port.number

@@ -1,6 +1,6 @@
 -- The ties of the publishers of a service stay apart, step by step.
 use Rattle.std.proofs.Common.{◌≡◌, ◌≢◌, ◌+◌, ◌&&◌, ◌∷◌, [], ℕ, zero, suc, Bool, true, false, not, List, get_or, set, length, Option, None}
-use Rattle.std.proofs.Common.{Some, Result, Ok, Err, refl, sym, ap, ◌∙◌, if◌then◌else◌, inl, inr}
+use Rattle.std.proofs.Common.{is_some, Some, Result, Ok, Err, refl, sym, ap, ◌∙◌, if◌then◌else◌, inl, inr}
 use Rattle.std.proofs.lemmas.Bool.{cases_eq}
 use Rattle.std.proofs.lemmas.List.{get_or-set_other}
 use Rattle.std.specs.List.{All, remove}
@@ -38,8 +38,9 @@ use Rattle.iox_domain.specs.PortsPublishing as publishing
 use Rattle.iox_domain.specs.Rolls.{RollState, IsListOf}
 use Rattle.iox_domain.proofs.Carrying.{Carries, carry_sends}
 use Rattle.iox_domain.proofs.Numbered.{at_number, FoundEntry, found_of_all, all_set, all_gone}
-use Rattle.iox_domain.proofs.TiedWell.{Alike, alike_is, alike_still, alike_waiting, well_alike, well_kept, still_there, updates_well}
-use Rattle.iox_domain.proofs.TiedWell.{attaches_well, known_still, well_gone}
+use Rattle.iox_domain.proofs.TiedWell.{Alike, alike_is, alike_still, alike_waiting, well_alike, well_kept, still_there, known_still}
+use Rattle.iox_domain.proofs.TiedWell.{sole_still, well_gone}
+use Rattle.iox_domain.proofs.TiedUpdates.{updates_well, attaches_well}
 use Rattle.iox_domain.proofs.Walks.{Walks, WalksTaking, WalksLeaving}
 
 -- a publisher that stands is tied well after a step if it was before
@@ -167,6 +168,18 @@ left_leads subscriber zero (suc at) (reader ∷ readers) = refl
 left_leads subscriber (suc index) zero (reader ∷ readers) = refl
 left_leads subscriber (suc index) (suc at) (reader ∷ readers) = left_leads subscriber index at readers
 
+left_one_some : (reader : Option Reader) → is_some (left reader) ≡ is_some reader
+left_one_some None = refl
+left_one_some (Some reader) = refl
+
+left_some : (index at : ℕ) (readers : List (Option Reader))
+    → is_some (get_or (set readers index (left (get_or readers index None))) at None) ≡ is_some (get_or readers at None)
+left_some index at [] = refl
+left_some zero zero (reader ∷ readers) = left_one_some reader
+left_some zero (suc at) (reader ∷ readers) = refl
+left_some (suc index) zero (reader ∷ readers) = refl
+left_some (suc index) (suc at) (reader ∷ readers) = left_some index at readers
+
 goes_gone : {T U : Type 0} (next : ℕ) (places : List (Option (Member SubscriberEntry))) (index : ℕ) (live : Bool)
     (port : PublisherPort T U) → ((place : ℕ) → get_or port.ties.items place None ≢ Some index)
     → Goes next places port (if live then record (with_connection_of index (ended (connection_of index port)) port)
@@ -187,6 +200,8 @@ goes_unread next places index port tied well stands =
         | inl same ↦ inl (inr (tied.0, tied.1 ∙ ap (λ i. Some i) (sym same)))
         | inr not ↦ inr (live, known_still at port (unread_at index port) (get_or-set_other port.readers index at _ None not) refl)
       ];
+      sole = λ sole. sole_still port (unread_at index port) (λ subscriber at. left_leads subscriber index at port.readers) sole;
+      all = λ all at live. left_some index at port.readers ∙ all at live;
     }) was
 
 goes_detached_by : {T U : Type 0} (next : ℕ) (places : List (Option (Member SubscriberEntry))) (index : ℕ) (tied : Bool)
@@ -212,7 +227,7 @@ goes_attaches next places subscriber limit index old new attaches well stands =
     (connection_to subscriber old) old attaches.0 attaches.1 in
     (attaches_well next places subscriber limit index old new attaches (well (sym same ∙ stands))).1
 
--- So it is with each publisher of a service.
+-- The same is true of each publisher of a service.
 pub record ListWell {T U : Type 0} (next : ℕ) (places : List (Option (Member SubscriberEntry))) (old new : List (ℕ × PublisherPort T U))
     : Type 0 where
   pub well : All (IsWellEntry next places) old → All (IsWellEntry next places) new

@@ -9,7 +9,7 @@ use Rattle.iox_domain.specs.declared.state.DomainState.{DomainState}
 abbrev pub same_id : DomainId → DomainId → Bool
 same_id a b = (a.hub == b.hub) && (a.service == b.service)
 
--- The state that the domain lends to a call with this id: its own, if the id is its own, and otherwise none.
+-- The state that the domain has under this id: its own, if the id is its own, and otherwise none.
 abbrev pub own_state : {T U B D : Type 0} → DomainId → Domain T U B D → Option (DomainState T U B D)
 own_state id domain = if same_id domain.id id then Some domain.state else None
 

@@ -40,8 +40,8 @@ keys_at (Some key ∷ places) = key ∷ keys_at places
 abbrev pub keys_of : SubscriberPort → List ℕ
 keys_of port = keys_at port.places.items ++ port.expired.items
 
--- The keys of a subscriber are consistent: a key with a connection belongs to one place or is expired, once; every other key is
--- free; and there are as many keys as places and expired connections together may be.
+-- The keys of a subscriber are consistent: each key with a connection either belongs to exactly one place or is expired; every other
+-- key is free; and there are as many keys as there may be places and expired connections together.
 pub record KeysFit (port : SubscriberPort) : Type 0 where
   pub used : (key : ℕ) → how_often key (keys_of port) ≡ (if is_some (attached_at key port) then 1 else 0)
   pub free : (key : ℕ) → 0 < how_often key port.connections.free → (key < length port.connections.values) × (attached_at key port ≡ None)

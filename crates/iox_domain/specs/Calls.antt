@@ -28,8 +28,8 @@ use Rattle.iox_domain.specs.PortsSubscribing as subscribing
 use Rattle.iox_domain.specs.declared.ports.making.PublisherConfig.{PublisherConfig}
 use Rattle.iox_domain.specs.declared.ports.service_ports.ServicePorts.{ServicePorts}
 
--- A call that may change something: the port, the arguments, and the answer. The four calls that write into a loan are one
--- here, in which a loan that passes a test changes.
+-- A call that may change something: the port, the arguments, and the answer. `Writes` represents the four calls that write into a
+-- loan: the loan is changed if its publisher passes a test.
 pub data PortCall (T U : Type 0) : Type 0 where
   PublisherComes : (config : PublisherConfig) (user_header : U) (answer : Result ℕ PublisherCreateError) → PortCall T U
   SubscriberComes : (owner : PortOwner) (buffer_size : Option ℕ) (answer : Result ℕ SubscriberCreateError) → PortCall T U

@@ -18,7 +18,7 @@ any_payload = detail FixedSize (codes "CustomPayloadMarker") 1 1
 abbrev pub any_user_header : Detail
 any_user_header = detail FixedSize (codes "CustomHeaderMarker") 0 1
 
--- The given type, if the type that matches any is asked for; otherwise the type that is asked for.
+-- The given type, if the type that matches any type is asked for; otherwise the type that is asked for.
 abbrev pub stood_for : Detail → Detail → Detail → Detail
 stood_for any asked given = if same_detail asked any then given else asked
 

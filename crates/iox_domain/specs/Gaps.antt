@@ -15,7 +15,7 @@ use Rattle.iox_domain.specs.Order.{leads_in, account_after, Happen, nothing_yet}
 use Rattle.iox_domain.specs.Ports.{no_ports}
 use Rattle.iox_domain.specs.declared.ports.service_ports.ServicePorts.{ServicePorts}
 
--- The sequence number behind those of the messages, if the first has number `first`; None if messages aren't numbered.
+-- The sequence number after those of the messages, if the first has number `first`; None if messages aren't numbered.
 abbrev pub sequence_behind : {X : Type 0} → Option ℕ → List X → Option ℕ
 sequence_behind first [] = first
 sequence_behind first (message ∷ messages) = sequence_behind (next_sequence first) messages

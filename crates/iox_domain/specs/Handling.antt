@@ -24,7 +24,7 @@ abbrev pub kept_degrades : {H : Type 0} → (H → DegradationCause → Degradat
 kept_degrades degrades None = passes_over FailedToEstablishConnection
 kept_degrades degrades (Some kept) = degrades kept FailedToEstablishConnection
 
--- What may be decided at a full mailbox: what the publisher's handlers may decide, or to wait if none are stored for it.
+-- What may be decided at a full mailbox: what the publisher's handlers may decide; if none are stored for it, the send blocks.
 abbrev pub kept_decides : {H : Type 0} → (H → BackpressureInfo → BackpressureDecision → Type 0) → Option H → BackpressureInfo
     → BackpressureDecision → Type 0
 kept_decides decides None = waits

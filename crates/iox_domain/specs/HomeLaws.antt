@@ -29,7 +29,7 @@ module _ {T U B D : Type 0} where
   found_where true id step home is = rw is refl
   found_where false id step home is = rw is refl
 
-  -- After a step of the state with this id, the home lends the state that the step made of it.
+  -- After a step of the state with this id, the home contains the state that the step made of it.
   pub changed_found : (id : DomainId) (step : DomainState T U B D → DomainState T U B D) (home : Domain T U B D)
       → own_state id (own_changed id step home) ≡ option_map step (own_state id home)
   changed_found id step home = found_where (same_id home.id id) id step home refl
@@ -42,7 +42,7 @@ module _ {T U B D : Type 0} where
   others_where true false id other step home is also apart = rw also refl
   others_where false there id other step home is also apart = refl
 
-  -- A step of the state with one id doesn't change what the home lends for another id.
+  -- A step of the state with one id doesn't change the state with another id.
   pub others_stay : (id other : DomainId) (step : DomainState T U B D → DomainState T U B D) (home : Domain T U B D) → (id ≡ other → ⊥)
       → own_state other (own_changed id step home) ≡ own_state other home
   others_stay id other step home apart = others_where (same_id home.id id) (same_id home.id other) id other step home refl refl apart

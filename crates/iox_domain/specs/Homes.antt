@@ -1,4 +1,4 @@
--- What a home has under the ids of domains: `domain_of` is what it lends of a domain, and `changed` is one step of that.
+-- What a home has under the ids of domains: `domain_of` is the state of a domain, and `changed` is one step of that state.
 use Rattle.std.specs.Prelude.{ℕ, Option}
 use Rattle.iox_domain.specs.declared.domain_id.DomainId.{DomainId}
 use Rattle.iox_domain.specs.declared.ports.service_ports.ServicePorts.{ServicePorts}

@@ -48,7 +48,8 @@ LoanAdds number None old new = AsMuchLives old new
 LoanAdds number (Some (Err error)) old new = AsMuchLives old new
 LoanAdds number (Some (Ok slot)) old new = OneMoreLives number old new
 
--- A send that is finished takes one away, that of its loan; while the send is blocked it counts as its loan did.
+-- A finished or refused send lowers the count of what is alive by one, since its loan is gone. A blocked send counts as much as its loan
+-- did.
 abbrev pub SendTakes : {T U : Type 0} → ℕ → Option (Result Sent SendError) → ServicePorts T U → ServicePorts T U → Type 0
 SendTakes number None old new = AsMuchLives old new
 SendTakes number (Some (Ok sent.Blocked)) old new = AsMuchLives old new

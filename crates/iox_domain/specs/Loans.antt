@@ -37,9 +37,9 @@ abbrev pub brought_by : {T U : Type 0} → PortCall T U → ℕ
 brought_by (PublisherComes config user_header (Ok number)) = config.max_loaned_samples
 brought_by call = 0
 
--- In a new service no loan may be made. Each call makes at most as many more loans possible as it may have ended and as the
--- publisher that it created may make, less the loan that it made. A publisher that is closed takes with it what it could still
--- make.
+-- In a new service no loan may be made. A call raises this number at most by the loans that it may have ended and by those that a
+-- publisher that it created may make; a loan that it made lowers the number by one. What a closed publisher could still make no
+-- longer counts.
 pub record LoansLeft (T U : Type 0) (overrides : ℕ → ℕ → Type 0) (may : DegradationInfo → DegradationAction
     → Type 0) (decide : BackpressureInfo → BackpressureDecision → Type 0) : Type 0 where
   pub begins : (service : ℕ) (sizes : ServiceSizes) → loans_left {T = T} {U = U} (no_ports service sizes) ≡ 0

@@ -33,8 +33,8 @@ use Rattle.iox_domain.specs.Subscribers.{subscriber_added}
 use Rattle.iox_domain.specs.declared.ports.making.PublisherConfig.{PublisherConfig}
 use Rattle.iox_domain.specs.declared.ports.service_ports.ServicePorts.{ServicePorts}
 
--- How many slots a publisher needs in the worst case; None if that is 2^32 or more, or if a slot is to have room for 2^32
--- values or more.
+-- How many slots a publisher needs in the worst case; None if that is 2^32 or more, or if a slot needs capacity for 2^32 values or
+-- more.
 abbrev pub slots_needed : {T U : Type 0} → PublisherConfig → ServicePorts T U → Option ℕ
 slots_needed config ports = if nat_lt config.values (2 ^ 32) then within (worst_case ports.sizes config.max_loaned_samples) else None
 
@@ -100,8 +100,8 @@ abbrev pub publisher_answer : Result ℕ AllocError → Result ℕ PublisherCrea
 publisher_answer (Ok number) = Ok number
 publisher_answer (Err error) = Err publishing.UnableToCreateDataSegment
 
--- The error of a publisher that needs so many slots, and gets this place: `UnableToCreateDataSegment` for too many slots,
--- `ExceedsMaxSupportedPublishers` without a place, and `UnableToCreateDataSegment` otherwise, since an allocation failed.
+-- The error of a publisher, by the number of slots that it needs and the place that it gets: `UnableToCreateDataSegment` for too many
+-- slots, `ExceedsMaxSupportedPublishers` without a place, and `UnableToCreateDataSegment` otherwise, since an allocation failed.
 abbrev pub publisher_refusal : Option ℕ → Option ℕ → PublisherCreateError
 publisher_refusal None place = publishing.UnableToCreateDataSegment
 publisher_refusal (Some needed) None = publishing.ExceedsMaxSupportedPublishers
@@ -158,7 +158,7 @@ abbrev pub subscriber_answer : Result ℕ AllocError → Result ℕ SubscriberCr
 subscriber_answer (Ok number) = Ok number
 subscriber_answer (Err error) = Err subscribing.OutOfMemory
 
--- The error of a subscriber with this buffer size (or the error of that) and this place: the error of the buffer size,
+-- The error of a subscriber, by its buffer size (or the error of that) and the place that it gets: the error of the buffer size,
 -- `ExceedsMaxSupportedSubscribers` without a place, and `OutOfMemory` otherwise, since an allocation failed.
 abbrev pub subscriber_refusal : Result ℕ SubscriberCreateError → Option ℕ → SubscriberCreateError
 subscriber_refusal (Err refusal) place = refusal

@@ -37,7 +37,7 @@ use Rattle.iox_domain.specs.declared.ports.service_ports.ServicePorts.{ServicePo
 abbrev pub IsTidy : {T U : Type 0} → PublisherPort T U → Type 0
 IsTidy port = (index : ℕ) → (connection_of index port).stage ≡ stage.Vacant → connection_of index port ≡ nobody
 
--- The publisher's number is below the next one, and it is tidy.
+-- The publisher's number is below the next one, and the publisher is tidy.
 abbrev pub IsSoundEntry : {T U : Type 0} → ℕ → ℕ × PublisherPort T U → Type 0
 IsSoundEntry next (number, port) = (number < next) × IsTidy port
 
@@ -85,9 +85,19 @@ abbrev pub IsKnown : {T U : Type 0} → ℕ → PublisherPort T U → Type 0
 IsKnown index port = (is_attached (get_or port.readers index None) ≡ true)
     ⊎ ((place : ℕ) × (get_or port.ties.items place None ≡ Some index))
 
--- The ties of a publisher are consistent: no two are to the same connection; each is to a live connection; each connection with
--- a reader is live; no place except its own is tied to the connection of a listed subscriber; each tie is to a subscriber with
--- a number below the next one; there is capacity for each place of the list; and each live connection is known.
+-- No two connections of a publisher lead to the same subscriber.
+abbrev pub LeadApart : {T U : Type 0} → PublisherPort T U → Type 0
+LeadApart port = (subscriber one other : ℕ) → leads_to subscriber (get_or port.readers one None) ≡ true
+    → leads_to subscriber (get_or port.readers other None) ≡ true → one ≡ other
+
+-- Each live connection of a publisher leads to a subscriber.
+abbrev pub AllLead : {T U : Type 0} → PublisherPort T U → Type 0
+AllLead port = (index : ℕ) → is_live index port ≡ true → is_some (get_or port.readers index None) ≡ true
+
+-- The ties of a publisher are consistent: no two are to the same connection; each is to a live connection; each connection with a reader is
+-- live; no place except its own is tied to the connection of a listed subscriber; each tie is to a subscriber with a number below the next
+-- one; there is capacity for each place of the list; each live connection is known, and leads to a subscriber; and no two lead to the same
+-- subscriber.
 pub record IsTiedWell {T U : Type 0} (next : ℕ) (places : List (Option (Member SubscriberEntry))) (port : PublisherPort T U) : Type 0 where
   pub apart : AreTiesApart port
   pub live : (place index : ℕ) → get_or port.ties.items place None ≡ Some index → is_live index port ≡ true
@@ -97,6 +107,8 @@ pub record IsTiedWell {T U : Type 0} (next : ℕ) (places : List (Option (Member
   pub below : (place subscriber : ℕ) → is_tie_to subscriber (get_or port.ties.items place None) port ≡ true → subscriber < next
   pub room : length places ≤ port.ties.room
   pub known : (index : ℕ) → is_live index port ≡ true → IsKnown index port
+  pub sole : LeadApart port
+  pub all : AllLead port
 
 -- An open publisher has consistent ties.
 abbrev pub IsWellEntry : {T U : Type 0} → ℕ → List (Option (Member SubscriberEntry)) → ℕ × PublisherPort T U → Type 0
@@ -108,8 +120,7 @@ pub record IsApart {T U : Type 0} (ports : ServicePorts T U) : Type 0 where
   pub list : IsListApart ports.next_port ports.subscriber_list.places
   pub well : All (IsWellEntry ports.next_port ports.subscriber_list.places) ports.publishers
 
--- The mailbox is unchanged, or it got the message that is being sent, once: at a place from where the send was up to where it
--- is now.
+-- The mailbox is unchanged, or it got the message that is being sent, once: at one of the places that the send visited in between.
 abbrev pub GotAtMostOnce : {T U : Type 0} → ℕ → PublisherPort T U → PublisherPort T U → Type 0
 GotAtMostOnce {T} {U} index old new =
     (connection_of index new ≡ connection_of index old)
@@ -118,8 +129,9 @@ GotAtMostOnce {T} {U} index old new =
     × (old.sender.uses.sending ≡ Some message)
     × (connection_of index new ≡ offered old.sender.uses.overflows message (connection_of index old)))
 
--- The list of subscribers and the ties of open publishers are consistent in a new service, and each call preserves this; the
--- ties are also apart during a send, after its update. So a send, or one more try of it, comes to each mailbox at most once.
+-- The list of subscribers and the ties of open publishers are consistent in a new service, and each call preserves this. During a
+-- send, after its update, no two ties are to the same connection either. So a send, or one more try of it, comes to each mailbox at
+-- most once.
 pub record AtMostOnce (T U : Type 0) (overrides : ℕ → ℕ → Type 0) (may : DegradationInfo → DegradationAction
     → Type 0) (decide : BackpressureInfo → BackpressureDecision → Type 0) : Type 0 where
   pub begins : (service : ℕ) (sizes : ServiceSizes) (ports : ServicePorts T U) → ports ≡ no_ports service sizes → IsApart ports
@@ -133,13 +145,16 @@ pub record AtMostOnce (T U : Type 0) (overrides : ℕ → ℕ → Type 0) (may :
   pub once : (old new : PublisherPort T U) (answer : Result Sent SendError) (index : ℕ) → AreTiesApart old
       → Finishes decide old answer new → GotAtMostOnce index old new
 
--- After any calls from a new service on, each live connection of an open publisher is known: a subscriber reads it, or a place of the
--- list of subscribers is tied to it.
+-- After any calls from a new service on, each live connection of an open publisher is known: a subscriber reads it, or a place of the list
+-- of subscribers is tied to it. It leads to a subscriber, and no two connections lead to the same one.
 pub record ConnectionsAreKnown (T U : Type 0) (overrides : ℕ → ℕ → Type 0) (may : DegradationInfo → DegradationAction
     → Type 0) (decide : BackpressureInfo → BackpressureDecision → Type 0) : Type 0 where
   pub known : (service : ℕ) (sizes : ServiceSizes) (calls : List (PortCall T U × ServicePorts T U)) (new : ServicePorts T U)
       (publisher index : ℕ) (port : PublisherPort T U) → Happen overrides may decide calls (no_ports service sizes) new
       → port_of publisher new.publishers ≡ Some port → port.stands ≡ true → is_live index port ≡ true → IsKnown index port
+  pub apart : (service : ℕ) (sizes : ServiceSizes) (calls : List (PortCall T U × ServicePorts T U)) (new : ServicePorts T U)
+      (publisher : ℕ) (port : PublisherPort T U) → Happen overrides may decide calls (no_ports service sizes) new
+      → port_of publisher new.publishers ≡ Some port → port.stands ≡ true → LeadApart port × AllLead port
 
 -- The publisher has a connection to each listed subscriber.
 abbrev pub ConnectsAll : {T U : Type 0} → ServicePorts T U → PublisherPort T U → Type 0

@@ -42,7 +42,7 @@ HasSamplesIf true may list port ports answer after ports_after =
     × (outcome : Result Bool ConnectionFailure) × HasSamples may listed list.changes port ports outcome after ports_after
     × (answer ≡ Some outcome)
 
--- What the question for data answers and changes: after an update, whether some connection of the subscriber has data.
+-- What `has_samples` answers and changes: after an update, whether some connection of the subscriber has data.
 abbrev pub HasSamplesOne : {T U : Type 0} → (DegradationInfo → DegradationAction → Type 0) → RollState PublisherEntry → SubscriberPort
     → List (ℕ × PublisherPort T U) → Option (Result Bool ConnectionFailure) → SubscriberPort → List (ℕ × PublisherPort T U) → Type 0
 HasSamplesOne may list port ports answer after ports_after = HasSamplesIf port.stands may list port ports answer after ports_after

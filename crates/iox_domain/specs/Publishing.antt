@@ -20,7 +20,7 @@ MakesPublisher overrides may config user_header handlers old (Ok number) new =
     new.ports
     × (new ≡ record (with_ports new.ports old) { publisher_handlers = kept old.ports.next_port handlers old.publisher_handlers })
 
--- The handlers that are stored after a port was closed, or wasn't.
+-- The stored handlers after a call that closes a port, or doesn't: if it does, those of the port are removed.
 abbrev pub kept_unless : {H : Type 0} → Bool → ℕ → List (ℕ × H) → List (ℕ × H)
 kept_unless false number handlers = handlers
 kept_unless true number handlers = forgotten number handlers

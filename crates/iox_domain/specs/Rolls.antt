@@ -1,6 +1,6 @@
 -- The list of the ports of one kind.
-use Rattle.std.specs.Prelude.{ℕ, ◌≡◌, ◌+◌, ◌^◌, Bool, not, List, length, replicate, get_or, slice_set, is_some, nat_lt, Option, None}
-use Rattle.std.specs.Prelude.{Some, if◌then◌else◌}
+use Rattle.std.specs.Prelude.{ℕ, ◌≡◌, ◌+◌, ◌≤◌, ◌^◌, Bool, true, not, List, length, replicate, get_or, slice_set, is_some, nat_lt}
+use Rattle.std.specs.Prelude.{Option, None, Some, if◌then◌else◌}
 use Rattle.std.specs.List.{position}
 use Rattle.iox_domain_ports.specs.Container.CountedPlaces.{padded}
 use Rattle.iox_domain_ports.specs.Container.declared.container.Member.{Member}
@@ -40,6 +40,11 @@ abbrev pub left : {V : Type 0} → ℕ → RollState V → RollState V
 left place roll = if may_change roll then (if is_listed place roll then changed_to (slice_set roll.places place None) roll else roll)
     else roll
 
--- `listed` has the same entry at each place as the list, but may end behind the last entry.
+-- `listed` has the same entry at each place as the list, but may end after the last entry.
 abbrev pub IsListOf : {V : Type 0} → List (Option (Member V)) → RollState V → Type 0
 IsListOf listed roll = padded (length roll.places) listed ≡ roll.places
+
+-- The last port of these places is at the place before this one; no port is at this place or after it.
+pub record EndsAt {A : Type 0} (top : ℕ) (places : List (Option A)) : Type 0 where
+  pub none : (place : ℕ) → top ≤ place → get_or places place None ≡ None
+  pub last : (place : ℕ) → place + 1 ≡ top → is_some (get_or places place None) ≡ true

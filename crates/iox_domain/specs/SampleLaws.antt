@@ -11,9 +11,9 @@ use Rattle.iox_domain.specs.DomainValues.declared.service_sizes.ServiceSizes.{Se
 use Rattle.iox_domain.specs.Roomy.{AreRoomy}
 use Rattle.iox_domain.specs.Samples.{samples_left, received_by, released_by, brought_by}
 
--- In a new service no sample may be received. A call makes at most as many more samples possible as it releases and as the port
--- that it creates brings, less the sample that it receives. This holds in a roomy service; a new service is roomy, and each
--- call preserves this.
+-- In a new service no sample may be received. A call raises this number at most by the samples that it releases and by those that may
+-- be held because of a port that it creates; a sample that it receives lowers the number by one. This holds in a roomy service; a new
+-- service is roomy, and each call preserves this.
 pub record SamplesLeft (T U : Type 0) (overrides : ℕ → ℕ → Type 0) (may : DegradationInfo → DegradationAction
     → Type 0) (decide : BackpressureInfo → BackpressureDecision → Type 0) : Type 0 where
   -- A new service is roomy.

@@ -1,4 +1,4 @@
--- What a domain lends to the calls of its ports: the ports, and their handlers.
+-- The state of a domain that the calls of its ports change: the ports, and their handlers.
 use Rattle.std.specs.Prelude.{ℕ, Option, None, Some}
 use Rattle.std.specs.Option.{option_map}
 use Rattle.iox_domain.specs.declared.ports.service_ports.ServicePorts.{ServicePorts}

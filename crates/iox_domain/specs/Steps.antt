@@ -71,7 +71,7 @@ abbrev pub FollowsBy : {T U : Type 0} → (DegradationInfo → DegradationAction
 FollowsBy may number old answer new
     = AtSubscriber number (subscribing.UpdatesOne may old.publisher_list) (subscriber_of number old.subscribers) old answer new
 
--- What the question for data answers and changes: whether some connection of the subscriber with this number has data.
+-- What `has_samples` answers and changes: whether some connection of the subscriber with this number has data.
 abbrev pub TellsBy : {T U : Type 0} → (DegradationInfo → DegradationAction → Type 0) → ℕ → ServicePorts T U
     → Option (Result Bool ConnectionFailure) → ServicePorts T U → Type 0
 TellsBy may number old answer new = AtSubscriber number (subscribing.HasSamplesOne may old.publisher_list)

@@ -6,6 +6,6 @@ use Rattle.iox_domain_ports.specs.contracts.subscriber_port.SubscriberPort as po
 use Rattle.iox_domain.specs.Subscribers.{with_subscriber}
 use Rattle.iox_domain.specs.contracts.ports.subscribers.Subscribers.{the_row}
 
--- The subscribers end with the last subscriber behind the reference under this number; if none was lent, they are unchanged.
+-- When the reference ends, its last subscriber is stored under this number; if there was no reference, the subscribers are unchanged.
 abbrev pub LendsSubscriber : MutBor (List (ℕ × SubscriberPort)) → ℕ → Option (MutBor SubscriberPort) → Fml
 LendsSubscriber ports number answer = LendsIf the_row port.the_row ports answer (with_subscriber number ports.now) ports.now

@@ -24,8 +24,8 @@ abbrev pub how_often : ℕ → List ℕ → ℕ
 how_often index [] = 0
 how_often index (one ∷ rest) = (if index == one then 1 else 0) + how_often index rest
 
--- The connection at this index took the message that is being sent, at a place that the send visited: the connection was live,
--- it had room for the message or dropped its oldest, and the message is now the newest that waits in it.
+-- The connection at this index took the message that is being sent, at a place that the send visited: the connection was live, it had
+-- capacity for the message or dropped its oldest, and the message is now the newest that waits in it.
 pub record Took {T U : Type 0} (index : ℕ) (old new : PublisherPort T U) : Type 0 where
   pub place : ℕ
   pub message : Message T U

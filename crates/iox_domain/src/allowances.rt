@@ -1,5 +1,5 @@
-//! How many more loans and samples the ports of a service may still have, and how each call of a port changes that. A caller
-//! that reserves room for as many as a port may have when it creates the port never lacks room for a loan or a sample.
+//! How many more loans and samples the ports of a service may still have, and how each call of a port changes that. A caller that
+//! reserves, whenever it creates a port, capacity for as many as the port may have never runs out of capacity for a loan or a sample.
 //!
 //! A proof cites a theorem by calling its function, which does nothing; what the theorem states is then among the facts of the
 //! caller:

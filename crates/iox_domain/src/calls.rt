@@ -59,8 +59,8 @@ where
     }
 }
 
-/// The publisher loans a slot for so many values and elements: `ServicePorts::loan` says what that does. The call answers None,
-/// and nothing happens, also if the home doesn't contain the domain.
+/// The publisher loans a slot for `values` values and `elements` elements: `ServicePorts::loan` says what that does. The call answers
+/// None, and nothing happens, also if the home doesn't contain the domain.
 ///
 /// Ported from `iceoryx2::port::publisher::Publisher::loan_slice_uninit`.
 pub fn loan<T: Copy, U: Copy, H: Home<T, U>>(
@@ -141,7 +141,7 @@ pub fn put<T: Copy, U: Copy, H: Home<T, U>>(
 /// `ServicePorts::retry` says what that does. The call answers None, and nothing happens, also if the home doesn't contain the
 /// domain.
 ///
-/// Not in `iceoryx2`: `iceoryx2::port::publisher::Publisher::send` waits itself.
+/// Not in `iceoryx2`: `iceoryx2::port::publisher::Publisher::send` blocks its caller.
 pub fn retry<T: Copy, U: Copy, H: Home<T, U>>(
     home: &mut H,
     id: DomainId,

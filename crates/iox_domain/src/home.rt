@@ -1,4 +1,4 @@
-//! What contains domains, and a domain as the home of its own ports.
+//! Homes, which contain domains; and a domain as the home of its own ports.
 ghost use Rattle.std.specs.Prelude.{◌≡◌, ℕ, Option, None, Some, IfNone, IfSome, IsTrue, option_copied, option_map};
 ghost use Rattle.std.specs.Borrow.{sem, Lends, LendsIf};
 ghost use Rattle.std.specs.Option.{option_copied_mut};
@@ -11,14 +11,14 @@ use crate::domain_id::DomainId;
 use crate::state::DomainState;
 use iox_domain_values::{Decides, Degrades};
 
-/// A home of domains, which lends the state `S` of each domain by its id.
+/// A home contains domains, and gives access to the state `S` of each domain by its id.
 ///
 /// The trait is generic over the type of that state, so a call in a function over any home adds no proof time.
 pub trait LendsDomains<S> {
-    // The state that the home lends under this id, if it contains the domain.
+    // The state of the domain with this id, if the home contains the domain.
     ghost domain_of: { DomainId → Self → Option S };
 
-    // The home after one step of the state that it lends under this id, if it contains the domain.
+    // The home after one step of the state of the domain with this id, if it contains the domain.
     ghost changed: { DomainId → (S → S) → Self → Self };
 
     // Whether the home contains the domain with this id, at this place.
@@ -40,11 +40,11 @@ pub trait LendsDomains<S> {
         ensures* writes_back { sem 𝓛 (Lends Self.row S.row self.entry result (λ last. changed id (λ before. last) self.old)) }
         ensures value { domain_of id self.old ≡ Some result.now };
 
-    // After a step of the state with this id, the home lends the state that the step made of it.
+    // After a step of the state with this id, the home contains the state that the step made of it.
     ghost changed_found: { (id : DomainId) (step : S → S) (home : Self)
         → domain_of id (changed id step home) ≡ option_map step (domain_of id home) };
 
-    // A step of the state with one id doesn't change what the home lends for another id.
+    // A step of the state with one id doesn't change the state with another id.
     ghost others_stay: { (id other : DomainId) (step : S → S) (home : Self) → (id ≡ other → ⊥)
         → domain_of other (changed id step home) ≡ domain_of other home };
 
@@ -60,10 +60,10 @@ pub trait LendsDomains<S> {
         → changed id second (changed id first home) ≡ changed id (λ state. second (first state)) home };
 }
 
-/// What contains domains, and so the ports of their services: one domain, or all those of a hub. Each call of a port takes a
-/// home.
+/// A home contains domains, and so the ports of their services: one domain, or all those of a hub. Each call of a port takes
+/// a home.
 ///
-/// A home lends a domain by its id and repeats none of its calls: a call of a port looks up the domain once, and then makes a
+/// A home finds a domain by its id and repeats none of its calls: a call of a port looks up the domain once, and then makes a
 /// call of its state. The types of the handlers are chosen by the home.
 pub trait Home<T, U>: LendsDomains<DomainState<T, U, Self::ForPublishers, Self::ForSubscribers>> {
     /// The handlers of publishers.

@@ -16,7 +16,7 @@
 //! | `nobody` | the handler that is used if none is set |
 //! | `parts` | the parts of a domain |
 //! | `publishing` | a publisher is created, follows the subscribers, sends and is closed |
-//! | `state` | what a domain lends to the calls of its ports |
+//! | `state` | the state of a domain that the calls of its ports change |
 //! | `subscribing` | a subscriber is created, follows the publishers, receives and is closed |
 //!
 //! Writing, reading and releasing ask no handler: these calls are those of the domain's `state.ports`.

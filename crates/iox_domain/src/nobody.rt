@@ -7,6 +7,8 @@ use iox_domain_values::{
 };
 
 /// The handler that is used if none is set: a send blocks at a full mailbox, and a failed connection is answered with `Warn`.
+/// `Nobody` has no backpressure strategy: if it is a publisher's handler, a send blocks whatever strategy the publisher's builder was
+/// given, also after `.backpressure_strategy(DiscardData)`. With safe overflow no mailbox is found full, so no send blocks.
 #[derive(Drop)]
 pub struct Nobody;
 

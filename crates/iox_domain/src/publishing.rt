@@ -61,7 +61,7 @@ impl<T: Copy, U: Copy, B: Decides + Degrades, D: Degrades> DomainState<T, U, B, 
         }
     }
 
-    /// The publisher loans a slot for so many values and elements: `ServicePorts::loan` says what that does.
+    /// The publisher loans a slot for `values` values and `elements` elements: `ServicePorts::loan` says what that does.
     ///
     /// Ported from `iceoryx2::port::publisher::Publisher::loan_slice_uninit`.
     pub fn loan(
@@ -144,7 +144,7 @@ impl<T: Copy, U: Copy, B: Decides + Degrades, D: Degrades> DomainState<T, U, B, 
     /// Tries once more the place at which the publisher's send is blocked, `elapsed` nanoseconds after its mailbox was first found
     /// full: `ServicePorts::retry` says what that does.
     ///
-    /// Not in `iceoryx2`: `iceoryx2::port::publisher::Publisher::send` waits itself.
+    /// Not in `iceoryx2`: `iceoryx2::port::publisher::Publisher::send` blocks its caller.
     pub fn retry(&mut self, number: u64, elapsed: u64) -> Option<Result<Sent, SendError>>
         ensures retries { AtPublisher number
             (RetriesOne (kept_decides (λ kept. B.decides kept) (kept_under number self.old.publisher_handlers)) elapsed)

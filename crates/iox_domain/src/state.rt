@@ -1,10 +1,10 @@
-//! What a domain lends to the calls of its ports.
+//! The state of a domain that the calls of its ports change.
 
 use crate::kept::Kept;
 use crate::ports::ServicePorts;
 use iox_domain_values::{DegradationHandler, Handlers};
 
-/// All of a domain that the calls of its ports change: the ports, and their handlers. A home lends it by the domain's id.
+/// All of a domain that the calls of its ports change: the ports, and their handlers. A home gives access to it by the domain's id.
 ///
 /// Not in `iceoryx2`.
 #[derive(Drop)]

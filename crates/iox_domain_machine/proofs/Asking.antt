@@ -1,4 +1,4 @@
--- A subscriber is told whether some connection of it has data, of a domain and of the machine.
+-- Whether a connection of a subscriber has data: the answers of a domain and of the machine.
 use Rattle.std.proofs.Common.{◌≡◌, ◌≢◌, ℕ, Bool, true, false, List, Option, None, Some, Result, Ok, Err, refl, sym, ap, subst, ◌∙◌}
 use Rattle.std.specs.Prelude.{is_some, option_and_then, if◌then◌else◌}
 use Rattle.iox_command.specs.DomainValues.declared.connection_failure.ConnectionFailure.{ConnectionFailure}

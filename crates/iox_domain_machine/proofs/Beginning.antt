@@ -1,4 +1,4 @@
--- A domain without ports stands for a service that nobody uses yet.
+-- A domain without ports represents a service that nobody uses yet.
 use Rattle.std.proofs.Common.{None, refl, sym, ap, ◌∙◌, arith}
 use Rattle.std.proofs.lemmas.List.Elements.{All-nil}
 use Rattle.iox_domain.specs.Container.declared.container.Member.{Member}

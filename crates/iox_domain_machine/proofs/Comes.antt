@@ -144,6 +144,8 @@ tied_still next place places came port is_next within well = record {
   below = λ at_place subscriber is. let it = well.below at_place subscriber is in omega (arith, it);
   room = let it = well.room in omega (arith, it, length-set places place (Some came));
   known = well.known;
+  sole = well.sole;
+  all = well.all;
 }
   where
     not_tied : (other subscriber : ℕ) → subscriber ≡ next → is_tie_to subscriber (get_or port.ties.items other None) port ≡ false

@@ -399,6 +399,8 @@ module _ {T U : Type 0} (types : MessageTypeDetails) (choices : Choices T) (buff
                 below = λ at_place subscriber is. let it = was.below at_place subscriber is in omega (arith, it);
                 room = was.room;
                 known = was.known;
+                sole = was.sole;
+                all = was.all;
               }) roomy.tied.well);
         }
 

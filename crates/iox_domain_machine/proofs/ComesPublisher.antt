@@ -1,4 +1,4 @@
--- A publisher comes to a domain, and to the machine's service, connected to nobody yet.
+-- A publisher is added to a domain and to the machine's service; it isn't connected to any subscriber yet.
 use Rattle.std.proofs.Common.{◌≡◌, ◌≢◌, ◌<◌, ◌⊎◌, ◌&&◌, ◌+◌, ◌∷◌, [], ◌++◌, ◌==◌, ℕ, Bool, true, false, List, length, map, get_or, set}
 use Rattle.std.proofs.Common.{Option, None, Some, refl, sym, ap, subst, inl, inr, ◌∙◌, arith}
 use Rattle.std.proofs.lemmas.Bool.{cases_eq, eq-eqb}

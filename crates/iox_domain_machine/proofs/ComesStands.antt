@@ -1,4 +1,4 @@
--- A subscriber comes to a domain, and to the machine's service, connected to nobody yet.
+-- A subscriber is added to a domain and to the machine's service; it isn't connected to any publisher yet.
 use Rattle.std.proofs.Common.{◌≡◌, ◌≢◌, ◌≤◌, ◌<◌, ◌⊎◌, ◌+◌, ◌∷◌, [], ◌++◌, ◌==◌, ℕ, zero, suc, true, false, List, length, map, get_or}
 use Rattle.std.proofs.Common.{set, Option, None, Some, refl, sym, ap, subst, inl, inr, ◌∙◌, arith}
 use Rattle.std.proofs.lemmas.Bool.{cases_eq, eq-eqb}

@@ -1,4 +1,4 @@
--- What comes behind the others of a table of the machine, or among those of a domain.
+-- What comes after the others of a table of the machine, or among those of a domain.
 use Rattle.std.proofs.Common.{◌≡◌, ◌≢◌, ◌≤◌, ◌<◌, ◌+◌, ◌∷◌, [], ◌++◌, ℕ, Bool, true, false, cond, List, count_by, refl, sym, ap, ◌∙◌}
 use Rattle.std.proofs.Common.{arith, Ordering}
 use Rattle.std.proofs.Math.Logic.{⊎_elim}

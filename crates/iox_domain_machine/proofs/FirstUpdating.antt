@@ -49,7 +49,7 @@ module _ {T : Type 0} (choices : Choices T) (buffer name : ℕ) (was : Subscribe
   Answers later updated =
       UpdateAnswers (choices.subscriber_acts name was.degradation) (zip service.publisher_list.places later.connected) updated
 
-  -- What the machine does first: nothing, or it follows the list, and the answer is this.
+  -- What the machine does first: nothing, or it follows the list with this answer.
   abbrev pub HasBegun : Result (Unit {0}) ConnectionFailure → Subscriber → Service T → Type 0
   HasBegun updated later mid =
       ((is_up_to_date ≡ true) × (later ≡ was) × (mid ≡ service) × (updated ≡ Ok tt))

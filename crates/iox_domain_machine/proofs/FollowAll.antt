@@ -29,7 +29,7 @@ module _ {T U : Type 0} (name subscriber_name : ℕ → ℕ) (next most : ℕ) (
   abbrev Mid : ℕ → ℕ → PublisherPort T U → (ℕ → ℕ) → (ℕ → Option (Mailbox T)) → Type 0
   Mid = Midway name subscriber_name next places subscribers begun first_reader first_boxes
 
-  -- What comes of the places that are left.
+  -- The effect at the remaining places.
   pub record FollowedAll (first : ℕ) (listed : List (Option (Member SubscriberEntry))) (found : Option ConnectionFailure)
       (port after : PublisherPort T U) (reader : ℕ → ℕ) (answer : Result (Unit {0}) ConnectionFailure) : Type 0 where
     pub new_reader : ℕ → ℕ

@@ -14,7 +14,7 @@ use Rattle.iox_domain.specs.DomainValues.declared.degradation.DegradationInfo.{D
 use Rattle.iox_domain_machine.proofs.Found.{never_true}
 use Rattle.iox_machine.specs.PublisherUpdate.{failure_at, UpdateAnswers}
 
--- What may be answered of the places that are left, where a failure was found before them, or none.
+-- What may be answered for the remaining places, after a failure was found at the earlier places, or none.
 abbrev pub AnswersFrom : (DegradationAction → Type 0) → Option ConnectionFailure → List (Option ℕ × Option ℕ)
     → Result (Unit {0}) ConnectionFailure → Type 0
 AnswersFrom May None places answer = UpdateAnswers May places answer

@@ -1,4 +1,4 @@
--- One connection of a publisher that stands is another, and so is the mailbox of its subscriber.
+-- One connection of an existing publisher is replaced, and so is the mailbox of its subscriber.
 use Rattle.std.proofs.Common.{◌≡◌, ◌≢◌, ◌≤◌, [], ℕ, true, false, List, get_or, map, Option, None, Some, sym, ap, subst, inl, inr, ◌∙◌}
 use Rattle.std.proofs.lemmas.Bool.{cases_eq}
 use Rattle.std.specs.Prelude.{is_some}
@@ -25,7 +25,7 @@ everywhere P index here there other = elim (cases_eq other index) [
   | inr off ↦ there other off
 ]
 
--- What one connection of a publisher that stands is to the machine, where its subscriber has this name and this mailbox.
+-- What one connection of an existing publisher is in the machine, if its subscriber has this name and this mailbox.
 pub record StandsAt {T U : Type 0} (name subscriber_name : ℕ → ℕ) (port : PublisherPort T U) (index its_name : ℕ)
     (box : Option (Mailbox T)) (subscribers : List (ℕ × Subscriber)) : Type 0 where
   pub live : is_live index port ≡ true → box ≡ Some (mailbox_as name (connection_of index port))

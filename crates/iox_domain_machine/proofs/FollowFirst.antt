@@ -48,7 +48,8 @@ module _ {T U : Type 0} (names : Naming) (lent : List (ℕ × LentSlot)) (held :
   abbrev pub has_seen : Bool
   has_seen = port.seen == old.subscriber_list.changes
 
-  -- An update of a publisher that stands, and of which no send waits: nothing happens where the list didn't change; else it followed.
+  -- An update of an existing publisher without a blocked send: nothing happens if the list didn't change; otherwise it followed the
+  -- list.
   pub update_is : (may : DegradationInfo → DegradationAction → Type 0) → IsApart old → AreAllowed old → port.stands ≡ true
       → port.sender.uses.sending ≡ None
       → ((info : DegradationInfo) (action : DegradationAction) → may info action → May action)

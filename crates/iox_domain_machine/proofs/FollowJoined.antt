@@ -7,7 +7,8 @@ use Rattle.std.specs.List.{position, position_or_len}
 use Rattle.std.specs.Option.{option_map_or}
 use Rattle.std.specs.Prelude.{is_some, if◌then◌else◌, ◌==◌}
 use Rattle.iox_domain.proofs.Numbered.{bool_false}
-use Rattle.iox_domain.proofs.TiedWell.{MadeAt, connects_made, found_leads, long_enough}
+use Rattle.iox_domain.proofs.TiedWell.{long_enough}
+use Rattle.iox_domain.proofs.TiedUpdates.{MadeAt, connects_made, found_leads}
 use Rattle.iox_domain.specs.Container.declared.container.Member.{Member}
 use Rattle.iox_domain.specs.DomainPorts.Messages.{Message}
 use Rattle.iox_domain.specs.DomainPorts.Places.{leads_to, reached}

@@ -1,4 +1,4 @@
--- What holds of a publisher in the middle of an update: of the places that were followed, and of those that will be.
+-- What is true of a publisher in the middle of an update: of the places that it followed, and of the remaining ones.
 use Rattle.std.proofs.Common.{◌≡◌, ◌≢◌, ◌≤◌, ◌<◌, ◌+◌, ◌⊎◌, [], ℕ, Bool, true, false, List, get_or, length, map, Option, None, Some, refl}
 use Rattle.std.proofs.Common.{sym, ap, subst, inl, inr, ◌∙◌, arith}
 use Rattle.std.proofs.Math.Logic.{⊎_elim}
@@ -29,8 +29,8 @@ use Rattle.iox_machine.specs.Table.{at}
 abbrev pub named_by : (ℕ → ℕ) → Option (Member SubscriberEntry) → Option ℕ
 named_by name item = option_map (λ (member : Member SubscriberEntry). name member.value.subscriber) item
 
--- The list that a publisher follows, beside the subscribers of the machine: who is listed stands, each at one place, and as many messages
--- may wait as the list says; who isn't left; and each has a name of its own.
+-- The list that a publisher follows, compared with the subscribers of the machine: each listed subscriber exists, is at one place,
+-- and may have as many waiting messages as the list says; a subscriber that isn't listed left; and each has a name of its own.
 pub record FollowsList (subscriber_name : ℕ → ℕ) (next most : ℕ) (places : List (Option (Member SubscriberEntry)))
     (subscribers : List (ℕ × Subscriber)) : Type 0 where
   pub list : IsListApart next places
@@ -68,14 +68,14 @@ module _ {T U : Type 0} (name subscriber_name : ℕ → ℕ) (next : ℕ) (place
         ⊎ (WasTied place subscriber false × (boxes (subscriber_name subscriber)
         ≡ Some (greeting history subscribers (subscriber_name subscriber) (first_boxes (subscriber_name subscriber)))))
 
-  -- What became of a place that lists nobody, or a subscriber.
+  -- The effect of an update at a place that lists nobody, or a subscriber.
   abbrev pub HasBecome : ℕ → Option (Member SubscriberEntry) → PublisherPort T U → (ℕ → ℕ) → (ℕ → Option (Mailbox T)) → Type 0
   HasBecome place None port reader boxes = get_or port.ties.items place None ≡ None
   HasBecome place (Some member) port reader boxes =
       HasFailed place (subscriber_name member.value.subscriber) port boxes
       ⊎ HasTied place member.value.subscriber port reader boxes
 
-  -- The places below the first were followed; those from another one on are as they were.
+  -- The places below the first were followed; those from another one on don't change.
   pub record Midway (first from : ℕ) (port : PublisherPort T U) (reader : ℕ → ℕ) (boxes : ℕ → Option (Mailbox T)) : Type 0 where
     pub only : OnlyTied begun port
     pub well : IsTiedWell next places port

@@ -4,7 +4,7 @@ use Rattle.std.proofs.Common.{Some, Result, Ok, Err, refl, sym, ap, subst, inl, 
 use Rattle.std.proofs.lemmas.Bool.{cases_eq, eq-eqb, leb-true}
 use Rattle.std.specs.Prelude.{is_some, is_none, is_ok, option_map, if◌then◌else◌}
 use Rattle.std.specs.declared.alloc.AllocError.{AllocError}
-use Rattle.iox_domain.proofs.TiedWell.{follows_well, ok_same}
+use Rattle.iox_domain.proofs.TiedUpdates.{follows_well, ok_same}
 use Rattle.iox_domain.specs.Container.declared.container.Member.{Member}
 use Rattle.iox_domain.specs.DomainPorts.Messages.{Message}
 use Rattle.iox_domain.specs.DomainPorts.MessagesSending.{slots_of}
@@ -104,7 +104,7 @@ module _ {T U : Type 0} (name subscriber_name : ℕ → ℕ) (next most : ℕ) (
               (λ same. gone place member listed (same ∙ is_name.0)) ∙ midway.untouched place member (omega arith) listed;
         }
 
-  -- What a place comes to that is followed.
+  -- The effect of following one place.
   pub record FollowsOne (place : ℕ) (item : Option (Member SubscriberEntry)) (made : Bool) (port after : PublisherPort T U)
       (reader : ℕ → ℕ) : Type 0 where
     pub new_reader : ℕ → ℕ

@@ -51,7 +51,7 @@ module _ {T U : Type 0} (name subscriber_name reader : ℕ → ℕ) (next most_s
   abbrev pub begun : PublisherPort T U
   begun = record port { seen = roll.changes }
 
-  -- What comes of an update: the machine's publisher follows the list, with this answer, and is what the domain's is.
+  -- The effect of an update: the machine's publisher follows the list, with this answer, and represents the domain's.
   pub record HasFollowed (May : DegradationAction → Type 0) (answer : Result (Unit {0}) ConnectionFailure) : Type 0 where
     pub new_reader : ℕ → ℕ
     pub connected : List (Option ℕ)

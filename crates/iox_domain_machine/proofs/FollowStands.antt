@@ -1,4 +1,4 @@
--- Ports of which one publisher followed the list of subscribers stand for a service of which one did.
+-- Ports of which one publisher followed the list of subscribers represent a service of which one publisher did.
 use Rattle.std.proofs.Common.{◌≡◌, ◌≢◌, ◌≤◌, ◌⊎◌, ◌&&◌, ◌∷◌, [], ℕ, Bool, true, false, List, get_or, map, Option, None, Some, Result}
 use Rattle.std.proofs.Common.{refl, sym, ap, subst, inl, inr, ◌∙◌}
 use Rattle.std.proofs.Math.Logic.{⊎_elim}
@@ -91,7 +91,7 @@ module _ {T U : Type 0} (names : Naming) (lent : List (ℕ × LentSlot)) (held :
     abbrev pub was : PublisherIs names old service number port
     was = stands.publishers number port there
 
-    -- the update of a publisher that stands, and of which no send waits, where the list changed
+    -- the update of a publisher that stands, and of which no send is blocked, where the list changed
     pub its_update : IsApart old → AreAllowed old → port.stands ≡ true → port.sender.uses.sending ≡ None
         → (may : DegradationInfo → DegradationAction → Type 0) (May : DegradationAction → Type 0)
         → ((info : DegradationInfo) (action : DegradationAction) → may info action → May action)

@@ -1,4 +1,4 @@
--- What is in use of a publisher that followed the list of subscribers was in use before.
+-- What is in use of a publisher after it followed the list of subscribers was in use before.
 use Rattle.std.proofs.Common.{◌≡◌, ◌≤◌, ◌<◌, ℕ, List, map, inl, inr, ap, arith}
 use Rattle.std.proofs.lemmas.List.{map-append}
 use Rattle.std.proofs.lemmas.Bool.{cases_eq}

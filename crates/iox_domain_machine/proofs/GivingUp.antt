@@ -1,4 +1,4 @@
--- A send that waits is given up, of a domain and of the machine.
+-- A blocked send is given up, of a domain and of the machine.
 use Rattle.std.proofs.Common.{◌≡◌, ◌≢◌, ◌≤◌, ℕ, Bool, true, false, List, [], Option, None, Some, refl, sym, ap, subst, ◌∙◌, arith}
 use Rattle.std.specs.Prelude.{is_some, option_to_list, MatchOption}
 use Rattle.iox_command.specs.NegotiateBase.DescribeBase.declared.message_type.MessageTypeDetails.{MessageTypeDetails}
@@ -51,7 +51,7 @@ module _ {T : Type 0} (service : Service T) (number : ℕ) (publisher : Publishe
   pub is_in : publisher.stands ≡ true → publisher_in number service ≡ Some publisher
   is_in stands = rw is (rw stands refl)
 
--- where no send waits of a publisher of a domain, none does of the machine's
+-- where no send is blocked of a publisher of a domain, none is of the machine's
 pub none_blocked : {T U : Type 0} (name : ℕ → ℕ) (connected : List (Option ℕ)) (progress : ProgressState) (sending : Option (Message T U))
     (blocked : Option (Send T)) → sending ≡ None → BlockedStandsFor name connected progress sending blocked → blocked ≡ None
 none_blocked name connected progress None blocked is stands = stands
@@ -141,7 +141,7 @@ module _ {T U : Type 0} (types : MessageTypeDetails) (choices : Choices T) (buff
   skips_left : (publisher : Publisher T) → at name service.publishers ≡ Some publisher → publisher.stands ≡ false → Result None old
   skips_left publisher is left = skips (isn't_in service name publisher is left)
 
-  -- or none of which a send waits
+  -- or none of which a send is blocked
   skips_free : (publisher : Publisher T) (standing : Bool) → publisher.stands ≡ standing → at name service.publishers ≡ Some publisher
       → publisher.blocked ≡ None → Result None old
   skips_free publisher false is_left is free = skips_left publisher is is_left

@@ -36,7 +36,7 @@ use Rattle.iox_domain_machine.proofs.LeaveUnmet.{AreEmptied, emptied_at, one_emp
 use Rattle.iox_machine.specs.Mailbox.{Mailbox}
 use Rattle.iox_machine.specs.Service.{Service}
 
--- Whoever reads is one that read there before; and who reads still, read so.
+-- Each reader read there before; and each remaining reader read before.
 pub record ReadBefore (before : Option Reader) (to : Reader) : Type 0 where
   pub was : Reader
   pub is : before ≡ Some was
@@ -192,7 +192,7 @@ module _ {T U : Type 0} (names : Naming) (lent : List (ℕ × LentSlot)) (held :
       settled_stands names lent held buffer (with_one number ends old) service number ends ended_stands (tidy_ends tidy)
       (same_set (at_number number) old.publishers ends port there)
 
--- The ports of a domain stand for a service, but for mailboxes of a subscriber which are empty, and are taken away.
+-- The ports of a domain represent a service, except for empty mailboxes of a subscriber, which are removed.
 pub record StandsWithout {T U : Type 0} (names : Naming) (lent : List (ℕ × LentSlot)) (held : List (ℕ × Taken)) (buffer : ℕ)
     (ports : ServicePorts T U) (service : Service T) (name : ℕ) : Type 0 where
   pub mailboxes : ℕ → ℕ → Option (Mailbox T)

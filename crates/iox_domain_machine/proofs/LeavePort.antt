@@ -27,18 +27,18 @@ use Rattle.iox_domain_machine.proofs.ReleasePort.{differ, used, within_by, settl
 use Rattle.iox_machine.specs.Mailbox.{Mailbox}
 use Rattle.iox_machine.specs.Service.{Publisher, Subscriber}
 
--- A connection that went on ended, and nobody reads there then.
+-- A connection that was in use ended, and has no reader then.
 pub record HasEnded {T U : Type 0} (index : ℕ) (old new : PublisherPort T U) : Type 0 where
   pub live : is_live index old ≡ true
   pub ends : connection_of index new ≡ ended (connection_of index old)
   pub none : get_or new.readers index None ≡ None
 
--- A connection is as it was, and whoever reads there.
+-- A connection and its reader don't change.
 pub record HasStayed {T U : Type 0} (index : ℕ) (old new : PublisherPort T U) : Type 0 where
   pub same : connection_of index new ≡ connection_of index old
   pub reads : get_or new.readers index None ≡ get_or old.readers index None
 
--- Connections ended where nobody reads, and nothing else is changed.
+-- Connections without a reader ended, and nothing else changed.
 pub record HasParted {T U : Type 0} (old new : PublisherPort T U) : Type 0 where
   pub same : new ≡ record (with_connections new.sender.uses.connections old) { readers = new.readers }
   pub each : (index : ℕ) → HasStayed index old new ⊎ HasEnded index old new

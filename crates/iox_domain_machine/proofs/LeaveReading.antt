@@ -44,7 +44,7 @@ detached_silent [] index to is = never_some to is
 detached_silent (reader ∷ readers) zero to is = left_silent reader to is
 detached_silent (reader ∷ readers) (suc index) to is = detached_silent readers index to is
 
--- Somebody reads at the connection of an index of the publisher of a number.
+-- The connection with this index of the publisher with this number has a reader.
 pub record HasReaderAt {T U : Type 0} (number index : ℕ) (publishers : List (ℕ × PublisherPort T U)) : Type 0 where
   pub port : PublisherPort T U
   pub there : port_of number publishers ≡ Some port

@@ -34,7 +34,7 @@ use Rattle.iox_machine.specs.Table.{at}
 
 -- ---- mailboxes that are taken away
 
--- The mailbox of a subscriber at a publisher is taken away, in which nothing waits, and of which nothing is borrowed.
+-- The mailbox of a subscriber at a publisher is removed; it contains no waiting message, and nothing of it is borrowed.
 pub record WasEmptied {T : Type 0} (subscriber publisher other : ℕ) (before after : ℕ → ℕ → Option (Mailbox T)) : Type 0 where
   pub its : other ≡ subscriber
   pub none : after publisher other ≡ None

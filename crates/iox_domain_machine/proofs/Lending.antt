@@ -1,4 +1,4 @@
--- A publisher lends, of a domain and of the machine.
+-- A publisher of a domain loans, and so does the machine's.
 use Rattle.std.proofs.Common.{◌≡◌, ◌≢◌, ◌≤◌, ◌<◌, ◌+◌, ◌*◌, ◌∷◌, [], ◌&&◌, ℕ, Bool, true, false, cond, List, length, map, nat_le, nat_lt}
 use Rattle.std.proofs.Common.{is_some, Option, None, Some, Result, Ok, Err, refl, sym, ap, subst, inl, inr, ◌∙◌, arith, if◌then◌else◌}
 use Rattle.std.proofs.Math.Logic.{⊎_elim}

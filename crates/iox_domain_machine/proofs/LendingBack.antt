@@ -1,4 +1,4 @@
--- How a publisher lent, of a machine that has one service alone and answered a loan whose values are unwritten.
+-- How a publisher loaned, in a machine that has only one service and whose answer was a loan with unwritten values.
 use Rattle.std.proofs.Common.{◌≡◌, ◌⊎◌, ◌+◌, ◌∷◌, [], ◌++◌, ℕ, List, replicate, unwrap_or, Option, None, Some, Result, Ok, Err, refl, sym}
 use Rattle.std.proofs.Common.{ap, subst, inl, inr}
 use Rattle.std.specs.Prelude.{MatchOption}
@@ -20,7 +20,7 @@ use Rattle.iox_machine.specs.Service.{Service, Publisher, Send}
 use Rattle.iox_machine.proofs.Shorthands.{with_publisher, IsSkipped, AtFree}
 use Rattle.iox_machine.specs.State.{State, counted}
 
--- A publisher that is free lent a message of so many values, or it was refused.
+-- A publisher without a blocked send loaned a message with this many values, or was refused.
 pub record LentBy {T : Type 0} (name values : ℕ) (service : Service T) (refused : Option LoanError) : Type 0 where
   pub publisher : Publisher T
   pub there : publisher_in name service ≡ Some publisher

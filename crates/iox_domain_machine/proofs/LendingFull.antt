@@ -26,7 +26,7 @@ use Rattle.iox_machine.specs.Mailbox.{Mailbox}
 use Rattle.iox_machine.specs.Message as machine
 use Rattle.iox_machine.specs.Service.{Subscriber}
 
--- how often a slot is in use where no send waits
+-- how often a slot is in use where no send is blocked
 pub used_is : {T U : Type 0} (port : PublisherPort T U) (slot : ℕ) → port.sender.uses.sending ≡ None
     → times slot (in_use (slots_of port.sender))
     ≡ times slot (slots_of port.sender).loans + (times slot (slots_of port.sender).history

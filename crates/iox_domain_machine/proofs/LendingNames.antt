@@ -1,4 +1,4 @@
--- A slot of a publisher that nothing uses is lent, and its message gets the next name.
+-- An unused slot of a publisher is loaned, and its message gets the next name.
 use Rattle.std.proofs.Common.{◌≡◌, ◌≢◌, ◌≤◌, ◌<◌, ◌+◌, ◌⊎◌, ◌∷◌, [], ◌++◌, ℕ, true, cond, List, map, nat_le, Option, None, Some, refl}
 use Rattle.std.proofs.Common.{sym, ap, subst, inl, inr, ◌∙◌, arith}
 use Rattle.std.proofs.lemmas.Bool.{cases_eq, eq-eqb, ne_eqb}
@@ -67,7 +67,7 @@ module _ (slot next : ℕ) (name : ℕ → ℕ) where
           borrowed = borrowed;
         }) (messages_kept connection.borrowed (omega (arith, none, both, sum)))
 
--- a publisher that lent a slot, of a segment that begins there, in which so many values fit
+-- a publisher that lent a slot, of a segment that begins there, in which n values fit
 abbrev pub lent_at : {T U : Type 0} → ℕ → ℕ → ℕ → ℕ → ℕ → PublisherPort T U → PublisherPort T U
 lent_at slot values room segments first port =
     with_sender (with_uses (loaned (new_loan slot values values port.sender.user_header) (record port.sender.uses { first = first }))

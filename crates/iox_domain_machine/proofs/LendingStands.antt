@@ -1,4 +1,5 @@
--- The ports of a domain where a publisher lent a slot stand for the service where the machine's lent its next message.
+-- Where a publisher of the domain loaned a slot, the domain's ports represent the machine's service after its publisher loaned its
+-- next message.
 use Rattle.std.proofs.Common.{◌≡◌, ◌≢◌, ◌≤◌, ◌<◌, ◌+◌, ◌⊎◌, ◌∷◌, [], ◌++◌, ℕ, cond, List, map, nat_le, replicate, Option, None, Some}
 use Rattle.std.proofs.Common.{refl, sym, ap, subst, inl, inr, ◌∙◌, arith}
 use Rattle.std.proofs.lemmas.Bool.{cases_eq, eq-eqb, ne_eqb}

@@ -1,4 +1,4 @@
--- A loan goes by a number behind the others, and all others are as they were.
+-- A loan gets the number after all others, which don't change.
 use Rattle.std.proofs.Common.{◌≡◌, ◌≢◌, ◌+◌, ◌∷◌, [], ◌++◌, ◌&&◌, ℕ, Bool, true, false, cond, List, map, None, Some, refl, sym, ap, ◌∙◌}
 use Rattle.std.proofs.Common.{arith}
 use Rattle.std.proofs.Math.Logic.{⊎_elim}

@@ -122,13 +122,13 @@ one_less number (other ∷ more) is = some_or_none (times other more)
         test : head ≢ number → (head == number) ≡ false
         test apart = ⊎_elim (λ same. absurd (apart same.1)) (λ not. not.0) (eqb_tells head number)
 
--- The numbers of a list are the names of those slots of a segment that are in use.
+-- The numbers of a list are the names of the used slots of a segment.
 pub record Tallies (count name : ℕ → ℕ) (first size : ℕ) (numbers : List ℕ) : Type 0 where
   pub from : (number : ℕ) → 0 < times number numbers
       → (slot : ℕ) × (first ≤ slot) × (slot < first + size) × (0 < count slot) × (name slot ≡ number)
   pub to : (slot : ℕ) → first ≤ slot → slot < first + size → 0 < count slot → 0 < times (name slot) numbers
 
--- So at most as many different ones are there as the segment has slots, and just as many exactly if each slot is in use.
+-- So the number of different used slots is at most the number of the segment's slots, and equals it exactly if each slot is in use.
 pub record Tells (count : ℕ → ℕ) (first size many : ℕ) : Type 0 where
   pub most : many ≤ size
   pub full : size ≤ many → (slot : ℕ) → first ≤ slot → slot < first + size → 0 < count slot

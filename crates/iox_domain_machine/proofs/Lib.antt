@@ -107,6 +107,8 @@ pub mod ComesStands
 pub mod Comes
 pub mod ComesPublisher
 pub mod ComesConnected
+mod FewAtPlaces
+mod FewConnections
 pub mod MessagesInUse
 pub mod SendsInUse
 pub mod ListsInUse

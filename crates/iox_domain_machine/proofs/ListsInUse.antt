@@ -1,4 +1,4 @@
--- What holds of each message in use of a list of publishers, by its header: through each step of a subscriber, and each call.
+-- What is true of the header of each message in use of a list of publishers, after each step of a subscriber and after each call.
 use Rattle.std.proofs.Common.{◌≡◌, ℕ, Bool, true, false, List, min, Option, None, Some, Result, Ok, Err, refl}
 use Rattle.std.proofs.Common.{sym, subst, All, if◌then◌else◌}
 use Rattle.std.proofs.lemmas.List.Elements.{All-nil}

@@ -1,4 +1,4 @@
--- What holds of each message in use of a publisher, by its header: through each step at its connections.
+-- What is true of the header of each message in use of a publisher, after each step at its connections.
 use Rattle.std.proofs.Common.{◌-◌, ◌+◌, ◌==◌, ◌∷◌, [], ◌++◌, ℕ, zero, suc, Bool, true, false, List, get_or, set, length, take, drop}
 use Rattle.std.proofs.Common.{nat_lt, remove, if◌then◌else◌, Option, None, Some, Result, Ok, Err, subst, sym, All}
 use Rattle.std.proofs.lemmas.List.Elements.{All-append, All-drop, All-nil, All-push, All-take}
@@ -47,7 +47,7 @@ module _ {X : Type 0} (IsSo : X → Type 0) where
   set_each (x ∷ xs) (suc index) connection all here zero = all zero
   set_each (x ∷ xs) (suc index) connection all here (suc other) = set_each xs index connection (λ one. all (suc one)) here other
 
-  -- or behind the others
+  -- or after the others
   behind_each : (connections : List (Connection X)) (connection : Connection X)
       → ((other : ℕ) → EachAt (get_or connections other nobody)) → EachAt connection → (other : ℕ)
       → EachAt (get_or (connections ++ connection ∷ []) other nobody)
@@ -67,7 +67,7 @@ module _ {X : Type 0} (IsSo : X → Type 0) where
   placed_each connections index limit all =
       placed_by (index == length connections) connections index (connected limit) all (All-nil IsSo, All-nil IsSo)
 
-  -- a message is put behind what waits
+  -- a message is put after what waits
   put_each : (overflows fits : Bool) (waiting : List X) (message : X) → IsSo message → All IsSo waiting
       → All IsSo (if overflows then (if fits then waiting ++ message ∷ [] else drop 1 (waiting ++ message ∷ [])) else
       (if fits then waiting ++ message ∷ [] else waiting))
@@ -138,7 +138,7 @@ module _ {T U : Type 0} (P : Header → Message T U → Type 0) where
       with_passes index (given_back at (connection_of index port)) port passes
       (back_each (λ message. P (header_of port message) message) at (connection_of index port) (passes.2 index))
 
-  -- And beside that something of its loans, of its last number, and of whose it is.
+  -- The same, and what is known of its loans, its last number and its owner.
   module _ (Q : List (Loan T U) → Option ℕ → PortOwner → ℕ → Type 0) where
     abbrev pub IsSo : PublisherPort T U → Type 0
     IsSo port = Passes port × Q port.sender.uses.loans port.last_sequence port.owner port.number

@@ -1,4 +1,4 @@
--- Values that are put tell what their send tells: they are lent, written and sent.
+-- The put of values reports what its send reports: the values are loaned, written and sent.
 use Rattle.std.proofs.Common.{◌≡◌, ◌==◌, ◌∷◌, [], ◌++◌, ℕ, Bool, true, false, if◌then◌else◌, List, length, replicate, eqb, Option, None}
 use Rattle.std.proofs.Common.{Some}
 use Rattle.std.proofs.Common.{Result, Ok, Err, refl, sym, ap, subst, inl, inr, ◌∙◌, Contains, arith, find, is_some}
@@ -45,7 +45,7 @@ module _ {T U : Type 0} (values : List T) (slot : ℕ) where
   abbrev Written : PublisherPort T U → Loan T U
   Written port = write_all values (new_loan slot (length values) (length values) port.sender.user_header)
 
-  -- What a publisher is that lent a slot for these values, and wrote them there: the loan is there, and the rest is as it was.
+  -- What a publisher is after it loaned a slot for these values and wrote them: it has the loan, and nothing else changed.
   record HasWritten (port writer : PublisherPort T U) : Type 0 where
     loan : loan_of slot writer ≡ Some (Written port)
     last : writer.last_sequence ≡ port.last_sequence

@@ -1,4 +1,4 @@
--- Where a message is given back, nothing waits still at what ended.
+-- Once a message is released, no message is waiting at connections that ended.
 use Rattle.std.proofs.Common.{◌≡◌, ◌∷◌, [], ℕ, zero, suc, List, get_or, set, refl}
 use Rattle.iox_domain.specs.DomainPorts.Ports.{connection_of, with_connection_of}
 use Rattle.iox_domain.specs.DomainPorts.declared.publisher_port.PublisherPort.{PublisherPort}

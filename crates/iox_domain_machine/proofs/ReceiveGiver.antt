@@ -88,7 +88,7 @@ splits test (key ∷ keys) (suc met) is =
       passes = rest.passes;
     }
 
--- who is found behind those that fail
+-- who is found after those that fail
 find_behind : (test : ℕ → Bool) (name : ℕ → ℕ) (first : List ℕ) (others : List ℕ)
     → ((key : ℕ) → 0 < how_often key first → test (name key) ≡ false) → find test (map name first ++ others) ≡ find test others
 find_behind test name [] others fails = refl

@@ -1,4 +1,4 @@
--- One sample more goes by a number, of a domain and of the machine.
+-- One more sample gets a number, in a domain and in the machine.
 use Rattle.std.proofs.Common.{◌≡◌, ◌≢◌, ◌≤◌, ◌⊎◌, ◌+◌, ◌∷◌, [], ◌++◌, ◌&&◌, ◌==◌, ℕ, Bool, true, false, cond, List, map, take, Option}
 use Rattle.std.proofs.Common.{None, Some, refl, sym, ap, inl, inr, ◌∙◌, arith}
 use Rattle.std.proofs.lemmas.Bool.{and_from, and_right, cases_eq, eq-eqb, eqb-false, ne_eqb}
@@ -39,7 +39,7 @@ module _ {T U : Type 0} where
   abbrev in_slot : ℕ → Message T U → Bool
   in_slot slot message = message.slot == slot
 
-  -- a message behind others is found where none of them is in its slot
+  -- a message after others is found where none of them is in its slot
   found_last : (slot : ℕ) (messages : List (Message T U)) (last : Message T U)
       → times slot (map (λ (message : Message T U). message.slot) messages) ≡ 0 → last.slot ≡ slot
       → find (in_slot slot) (messages ++ last ∷ []) ≡ Some last

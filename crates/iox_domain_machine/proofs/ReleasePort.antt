@@ -1,4 +1,4 @@
--- A message is given back at a connection of a publisher, and at its mailbox.
+-- A message is released at a connection of a publisher, and at the mailbox of the machine.
 use Rattle.std.proofs.Common.{◌≡◌, ◌≢◌, ◌≤◌, ◌<◌, ◌⊎◌, ◌+◌, ◌∷◌, [], ◌++◌, ℕ, zero, suc, true, false, not, List, length, map, get_or, set}
 use Rattle.std.proofs.Common.{Option, None, Some, refl, sym, ap, subst, inl, inr, ◌∙◌, arith}
 use Rattle.std.proofs.Math.Logic.{⊎_elim}
@@ -77,7 +77,8 @@ within_by [] index some = absurd (some refl)
 within_by (first ∷ rest) zero some = omega arith
 within_by (first ∷ rest) (suc index) some = let more = within_by rest index some in omega (arith, more)
 
--- A connection after some of it was given back: it is the same but for that, or it ended, all was given back, and it is gone.
+-- A connection after a release: it stays as it is after the release, or it is removed, as it ended and all its messages were
+-- released.
 abbrev pub SettlesTo : {X : Type 0} → Stage → ℕ → List X → List X → Type 0
 SettlesTo now limit waiting borrowed =
     (settled now limit waiting borrowed ≡ record { stage = now; limit = limit; waiting = waiting; borrowed = borrowed })

@@ -106,7 +106,7 @@ module _ {T : Type 0} (publisher subscriber : ℕ) (box : Mailbox T) (service : 
       (λ off. ap (λ boxes. is_some (boxes other)) (other_boxes one off))
       (cases_eq one publisher)
 
--- A sample that goes by a number is there: at which publisher and of which subscriber.
+-- The sample with this number exists, with its publisher and its subscriber.
 record SampleIsThere {T U : Type 0} (ports : ServicePorts T U) (taken : Taken) : Type 0 where
   pub port : PublisherPort T U
   pub there : port_of taken.publisher ports.publishers ≡ Some port

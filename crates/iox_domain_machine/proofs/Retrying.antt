@@ -1,4 +1,4 @@
--- A send that waits is tried again, of a domain and of the machine.
+-- A blocked send is tried again, of a domain and of the machine.
 use Rattle.std.proofs.Common.{◌≡◌, ◌≢◌, ◌+◌, ◌-◌, ℕ, Bool, true, false, List, length, get_or, Option, None, Some, Result, refl, sym, ap}
 use Rattle.std.proofs.Common.{subst, ◌∙◌, arith}
 use Rattle.std.specs.Prelude.{is_some, min, option_map, ◌^◌, MatchOption}
@@ -74,7 +74,7 @@ module _ {T U : Type 0} (types : MessageTypeDetails) (choices : Choices T) (buff
   skips_left publisher is left =
       (service, alone_skips (publisher_in name) Does state service (isn't_in service name publisher is left), stands)
 
-  -- or none of which a send waits
+  -- or none of which a send is blocked
   skips_free : (publisher : Publisher T) (standing : Bool) → publisher.stands ≡ standing → at name service.publishers ≡ Some publisher
       → publisher.blocked ≡ None → Comes None old
   skips_free publisher false is_left is free = skips_left publisher is is_left

@@ -297,7 +297,7 @@ module _ {T U : Type 0} (choices : Choices T) (names : Naming) (lent : List (ℕ
           (removed loan service.loans) refl
           (dropping.loans_after names lent held buffer ports service loan out stands goes))
 
-      -- The send of a loan goes over all places, in the domain and in the machine.
+      -- The send of a loan goes through all places, in the domain and in the machine.
       abbrev pub BeginsAlike : Result Sent SendError → PublisherPort T U → Type 0
       BeginsAlike answer after =
           (new : Service T) × Begins choices name message_there was.0 before (sent_or_skipped (Some answer)) new

@@ -16,7 +16,7 @@ module _ {T U : Type 0} (name : ℕ → ℕ) (message : domain.Message T U) wher
   abbrev by_name : domain.Message T U → Message T
   by_name = message_as name
 
-  -- with one more behind the others, and of these the newest
+  -- with one more after the others, and of these the newest
   last_by : (limit count : ℕ) (waits : List (domain.Message T U)) → length (waits ++ message ∷ []) - limit ≡ count
       → newest limit (map by_name waits ++ by_name message ∷ []) ≡ map by_name (drop count (waits ++ message ∷ []))
   last_by limit count waits is =
@@ -92,7 +92,7 @@ module _ {T U : Type 0} (name : ℕ → ℕ) (message : domain.Message T U) wher
       full_by overflows (nat_lt (length connection.waiting) connection.limit) connection refl refused
 
 module _ {T U : Type 0} (message : domain.Message T U) where
-  -- what is behind the first of a list is there no more often
+  -- what is after the first of a list is there no more often
   pub fewer_behind : (count slot : ℕ) (messages : List (domain.Message T U))
       → times slot (message_slots (drop count messages)) ≤ times slot (message_slots messages)
   fewer_behind zero slot messages = omega arith

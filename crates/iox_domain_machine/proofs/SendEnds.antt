@@ -1,4 +1,4 @@
--- What a send comes to in a domain stands for what it comes to in the machine.
+-- The result of a send in a domain represents its result in the machine.
 use Rattle.std.proofs.Common.{◌≡◌, ◌≢◌, ◌≤◌, ◌<◌, ◌⊎◌, ◌-◌, ◌∷◌, [], ◌++◌, ℕ, zero, suc, Bool, true, false, cond, List, length, get_or}
 use Rattle.std.proofs.Common.{drop, map, replicate, Option, None, Some, Result, Ok, Err, refl, sym, ap, subst, inl, inr, ◌∙◌, arith}
 use Rattle.std.proofs.Common.{if◌then◌else◌}
@@ -87,7 +87,7 @@ module _ (reader : ℕ → ℕ) where
   reader_at zero count (tie ∷ ties) = refl
   reader_at (suc place) count (tie ∷ ties) = reader_at place count ties
 
-  -- nobody is behind the places that are reached
+  -- nobody is after the places that are reached
   pub left_is : (place most : ℕ) (ties : List (Option ℕ))
       → those (drop place (map (option_map reader) (reached most ties))) ≡ those (map (option_map reader) (drop place ties))
   left_is place most ties =
@@ -124,9 +124,9 @@ ended_by : {T : Type 0} (fails other : Bool) (count number : ℕ) → other ≡ 
 ended_by {T} fails other count number same same_count =
     ap (λ b. told {T = T} b count) (sym same) ∙ ap (λ n. told {T = T} other n) (sym same_count)
 
--- A send that begins, or goes on where it waited, is as far in the machine: it has this message, goes to those who are connected at the
--- places that are left, and was taken by as many; it was tried again as often and for as long, where somebody is connected at the first of
--- these places, and else not yet.
+-- A send that begins, or a blocked send that continues, is as far in the domain as in the machine: it has this message, its next
+-- subscribers are those connected at the remaining places, and as many took it; it was tried again as often and for as long, if a
+-- subscriber is connected at the first of these places, and not yet otherwise.
 pub record IsBegun {T U : Type 0} (name : ℕ → ℕ) (connected ties : List (Option ℕ)) (progress : ProgressState)
     (sent : domain.Message T U) (send : Send T) : Type 0 where
   pub carries : send.message ≡ message_as name sent
@@ -178,7 +178,7 @@ module _ {T U : Type 0} (choices : Choices T) (names : Naming) (lent after_lent 
   abbrev Comes : Bool → PublisherPort T U → (Send T → Service T → Type 0) → Type 0
   Comes = EndsAlike choices may (names.message number) (names.reader number) names.subscriber name publisher before started message
 
-  -- what the machine answers to a send that waits, or doesn't, and what it makes of its publisher
+  -- what the machine answers to a send that is blocked or isn't, and what it makes of its publisher
   abbrev TellsBy : Bool → Send T → Service T → Reply T → Service T → Type 0
   TellsBy waiting so_far after answered new =
       (answered ≡ (if waiting then reply.Blocked else told so_far.fails so_far.delivered))
@@ -399,7 +399,7 @@ module _ {T U : Type 0} (choices : Choices T) (names : Naming) (lent after_lent 
           standing,
         )
 
-    -- a send that waits
+    -- a blocked send
     waits : (gone : PublisherPort T U) → Comes false gone (machine.Delivers choices name publisher send.left send before)
         → Finished (sent_answer false gone.progress) (concluded false gone)
     waits gone to =
@@ -434,7 +434,7 @@ module _ {T U : Type 0} (choices : Choices T) (names : Naming) (lent after_lent 
     by_end true gone to = arrives gone to
     by_end false gone to = waits gone to
 
-    -- A send that began goes over the places that are left in both, and is answered alike.
+    -- A send that began goes through the remaining places in both, and has the same answer in both.
     pub finishes : (answer : Result Sent SendError) (last : PublisherPort T U) → Finishes may started answer last → Finished answer last
     finishes answer last goes =
         subst (λ (one : PublisherPort T U). Finished answer one) (sym goes.4)

@@ -1,4 +1,4 @@
--- How a publisher of the machine follows the list of subscribers doesn't depend on what is lent.
+-- How a publisher of the machine follows the list of subscribers doesn't depend on its loans.
 use Rattle.std.proofs.Common.{◌≡◌, [], ◌∷◌, ℕ, Bool, true, false, List, refl, sym, ap, ◌∙◌, if◌then◌else◌}
 use Rattle.std.specs.Option.{option_map_or}
 use Rattle.std.specs.Prelude.{filter, fold, is_some, not}

@@ -1,4 +1,4 @@
--- What a send of a loan tells is of the message of which the machine's command begins the send.
+-- What a send of a loan reports is of the message whose send the machine's command begins.
 use Rattle.std.proofs.Common.{◌≡◌, ◌==◌, ◌&&◌, ◌∷◌, [], ℕ, Bool, false, cond, if◌then◌else◌, List, map, is_some, Option, None, Some}
 use Rattle.std.proofs.Common.{Result, Ok, Err, refl, sym, ap, ◌∙◌, ⊎_elim}
 use Rattle.std.proofs.lemmas.Bool.{cases_Bool, eq-eqb, eqb-true}

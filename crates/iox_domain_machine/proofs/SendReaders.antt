@@ -1,4 +1,4 @@
--- Somebody reads at a connection of a publisher exactly if the machine's subscriber stands and is connected to the publisher.
+-- A subscriber reads at a connection of a publisher exactly if the machine's subscriber exists and is connected to the publisher.
 use Rattle.std.proofs.Common.{◌≡◌, ◌≢◌, ◌∷◌, [], ◌++◌, ◌&&◌, ℕ, zero, suc, Bool, true, false, List, get_or, map, Option, None, Some, refl}
 use Rattle.std.proofs.Common.{sym, ap, subst, ◌∙◌}
 use Rattle.std.proofs.Math.Logic.{⊎_elim}

@@ -47,7 +47,7 @@ module _ {T U : Type 0} (ports : ServicePorts T U) (roomy : AreRoomy ports) (num
   pub within_limit : (index : ℕ) → length (connection_of index port).waiting ≤ (connection_of index port).limit
   within_limit index = (allowed.1 index).0
 
--- What sees to it that a message is sent alike in a domain and in the machine, whatever the message is.
+-- What ensures that each message is sent alike in a domain and in the machine.
 pub record IsReadyToSend {T U : Type 0} (choices : Choices T) (may : BackpressureInfo → BackpressureDecision → Type 0) (reader : ℕ → ℕ)
     (number : ℕ)
     (publisher : Publisher T) (service : Service T) (port : PublisherPort T U) : Type 0 where

@@ -1,4 +1,4 @@
--- A send goes over the places that are left, of a domain and of the machine.
+-- A send goes through the remaining places, in a domain and in the machine.
 use Rattle.std.proofs.Common.{◌≡◌, ◌⊎◌, inl, inr, ◌≢◌, ◌≤◌, ◌<◌, ◌+◌, ◌-◌, ◌∷◌, [], ◌&&◌, ℕ, Bool, true, false, List, length, get_or}
 use Rattle.std.proofs.Common.{set, drop, map}
 use Rattle.std.proofs.Common.{nat_lt, Option, None, Some, refl, sym, ap, subst, ◌∙◌, arith, if◌then◌else◌}
@@ -93,7 +93,7 @@ module _ {T U : Type 0} (choices : Choices T) (may : BackpressureInfo → Backpr
       × (subscriber ∷ more ≡ readers_of (drop progress.place port.ties.items))
       × (index : ℕ) × (get_or port.ties.items progress.place None ≡ Some index)
 
-  -- What comes of a send, in the domain and in the machine.
+  -- The effect of a send, in the domain and in the machine.
   pub record EndsAlike (arrived : Bool) (gone : PublisherPort T U) (Found : Send T → Service T → Type 0) : Type 0 where
     pub connections : List (Connection (domain.Message T U))
     pub progress : ProgressState
@@ -104,7 +104,7 @@ module _ {T U : Type 0} (choices : Choices T) (may : BackpressureInfo → Backpr
     pub is_at : IsAsFar connections progress mailboxes send
     pub ends : Ends arrived progress send
 
-  -- A send that is as far in both goes over these places in both.
+  -- A send that is as far in the domain as in the machine goes through these places in both.
   abbrev pub WalksAlike : List (Option ℕ) → Type 0
   WalksAlike rest =
       (connections : List (Connection (domain.Message T U))) (progress : ProgressState) (mailboxes : ℕ → ℕ → Option (Mailbox T))

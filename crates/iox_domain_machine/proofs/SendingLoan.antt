@@ -1,4 +1,4 @@
--- A loan that goes by a number is sent, of a domain and of the machine.
+-- The loan with a given number is sent, in a domain and in the machine.
 use Rattle.std.proofs.Common.{◌≡◌, ◌&&◌, ◌||◌, ℕ, Bool, true, false, not, List, Option, None, Some, Result, Ok, Err, refl, sym, ap, subst}
 use Rattle.std.proofs.Common.{◌∙◌, if◌then◌else◌}
 use Rattle.std.proofs.Math.Logic.{⊎_elim}
@@ -144,7 +144,7 @@ module _ {T U : Type 0} (types : MessageTypeDetails) (choices : Choices T) (buff
       (SendsNumbered (shorthands.is_used_up was.0.last_sequence) answered after)
       (IsRefused {T = T} (refusal.Send error.ConnectionBrokenSinceSenderNoLongerExists) before answered after)
 
-  -- and where the loan is written and no send waits, or isn't and one does
+  -- and where the loan is written and no send is blocked, or it isn't and one is
   abbrev Does : Bool → Reply T → Service T → Type 0
   Does may_send answered after =
       MatchBool may_send (SendsIt was.0.stands answered after) (IsSkipped {T = T} service answered after)
@@ -172,7 +172,7 @@ module _ {T U : Type 0} (types : MessageTypeDetails) (choices : Choices T) (buff
   written_alike : run_laws.is_written lent_loan ≡ domain.is_written there.loan
   written_alike = ap (list_all is_some) (same_values names lent held buffer old service loan out stands goes)
 
-  -- and a send waits of both, or of neither
+  -- and a send is blocked of both, or of neither
   blocked_by : (waiting : Option (domain.Message T U)) → port.sender.uses.sending ≡ waiting → is_some was.0.blocked ≡ is_some waiting
   blocked_by None free =
       ap is_some (none_blocked (names.message out.publisher) was.0.connected port.progress port.sender.uses.sending was.0.blocked free

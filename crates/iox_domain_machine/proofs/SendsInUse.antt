@@ -1,4 +1,4 @@
--- What holds of each message in use of a publisher, by its header: through each loan, and each step of a send.
+-- What is true of the header of each message in use of a publisher, after each loan and after each step of a send.
 use Rattle.std.proofs.Common.{◌≡◌, ◌-◌, ◌==◌, ◌||◌, ◌∷◌, [], ◌++◌, ℕ, zero, suc, Bool, true, false, not, List, length, nat_lt, nat_le}
 use Rattle.std.proofs.Common.{slice_get, is_some, get_or, Option, None, Some, Result, Ok, Err, refl, sym, ap, subst, ◌∙◌, inl, inr}
 use Rattle.std.proofs.Common.{if◌then◌else◌}

@@ -1,4 +1,4 @@
--- What messages in use tell is what was told as their sends began.
+-- The headers of messages in use say what was reported when their sends began.
 use Rattle.std.proofs.Common.{◌≡◌, ◌≢◌, ◌⊎◌, ◌<◌, ◌≤◌, ◌+◌, ◌==◌, ◌&&◌, ◌∷◌, [], ◌++◌, ℕ, Bool, true, false, cond, if◌then◌else◌, List}
 use Rattle.std.proofs.Common.{map, Option, None, Some, Result, Ok, Err, Equal, refl, sym, ap, subst, inl, inr, ◌∙◌, All, Contains}
 use Rattle.std.proofs.Common.{arith}
@@ -376,7 +376,7 @@ module _ {T U : Type 0} where
       found_by A test (test one) one message (find test more) refl (All-head A one more all)
       (λ rest. found_holds A test more message (All-tail A one more all) rest) is
 
-  -- What is read of a sample was told: its header, and its user header, of a message that was in its slot.
+  -- What is read of a sample was reported when it was sent: its header and its user header, of a message that was in its slot.
   pub record IsTold (names : Naming) (sent : List (SentHeader T U)) (ports : ServicePorts T U) (taken : Taken) (message : Message T U)
       : Type 0 where
     pub port : PublisherPort T U

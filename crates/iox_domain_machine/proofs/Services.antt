@@ -1,4 +1,4 @@
--- Domains that stand for the services of a machine, one of which does something.
+-- Domains that represent the services of a machine, one of which makes a step.
 use Rattle.std.proofs.Common.{◌≡◌, ◌≢◌, ◌≤◌, ◌<◌, ℕ, Bool, true, false, cond, ◌||◌, List, [], ◌∷◌, ◌++◌, map, Option, None, Some, refl}
 use Rattle.std.proofs.Common.{sym, ap, subst, ◌∙◌, arith, true≢false}
 use Rattle.std.proofs.Math.Logic.{⊎_elim}
@@ -57,7 +57,7 @@ comes_in : {V : Type 0} (number : ℕ) (v : V) (before behind : List (ℕ × V))
 comes_in number v [] behind = omega (arith, counts_itself number)
 comes_in number v (entry ∷ before) behind = omega (arith, comes_in number v before behind)
 
--- where a number comes once, it doesn't come before or behind
+-- where a number comes once, it doesn't come before or after
 comes_not : {V : Type 0} (number : ℕ) (v : V) (before behind : List (ℕ × V))
     → how_often number (keys_of (before ++ (number, v) ∷ behind)) ≤ 1
     → (how_often number (keys_of before) ≡ 0) × (how_often number (keys_of behind) ≡ 0)
@@ -122,7 +122,7 @@ module _ {T U : Type 0} (names : ℕ → Naming) (lent : List (ℕ × (ℕ × Le
   abbrev pub Stands : ℕ × ServicePorts T U → Service T → Type 0
   Stands domain service = StandsFor (names domain.0) (those_of domain.0 lent) (those_of domain.0 held) buffer domain.1 service
 
-  -- the services of the domains before one, its own, and those of the domains behind it
+  -- the services of the domains before one, its own, and those of the domains after it
   pub parted : (before behind : List (ℕ × ServicePorts T U)) (domain : ℕ × ServicePorts T U) (services : List (Service T))
       → StandInTurn names lent held buffer (before ++ domain ∷ behind) services
       → (first : List (Service T)) × (service : Service T) × (last : List (Service T)) × (services ≡ first ++ service ∷ last)
@@ -379,7 +379,7 @@ module _ (T U : Type 0) (choices : Choices T) (steps_among : StepsAmong choices)
         },
       )
 
-  -- What a domain's own ports match may have other names, given at its service: its ports have those that they had.
+  -- What a domain's own ports match may have other names at its service: its ports keep theirs.
   pub among_others_named : ((first : List (Service T)) (service : Service T) (last : List (Service T))
       → state.services ≡ first ++ service ∷ last
       → StandsFor (names domain) (those_of domain lent) (those_of domain held) buffer old service

@@ -181,7 +181,7 @@ module _ {T U : Type 0} (names : Naming) (lent : List (ℕ × LentSlot)) (held :
   may_refuse publisher =
       contains (those service.publisher_list.places) publisher && not (is_some (service.mailboxes publisher (names.subscriber number)))
 
-  -- What is known in the middle of the update, of what parted and who was refused.
+  -- What is true in the middle of the update, of the parted connections and of the publishers that were refused.
   pub record Body (reader : ℕ → ℕ → ℕ) (port : SubscriberPort) (ports : List (ℕ × PublisherPort T U))
       (mailboxes : ℕ → ℕ → Option (Mailbox T)) (parted : Parted) (refused : List ℕ) : Type 0 where
     pub mid : Mid reader port ports mailboxes
@@ -192,7 +192,7 @@ module _ {T U : Type 0} (names : Naming) (lent : List (ℕ × LentSlot)) (held :
     pub refused_all : list_all may_refuse refused ≡ true
     pub seen : port.seen ≡ begun.seen
 
-  -- Ports and the machine after some places were gone over.
+  -- Ports and the machine after some places were visited.
   pub record Walked (done : ℕ → Bool) (port : SubscriberPort) (ports : List (ℕ × PublisherPort T U)) (parted : Parted) : Type 0 where
     pub reader : ℕ → ℕ → ℕ
     pub mailboxes : ℕ → ℕ → Option (Mailbox T)
@@ -205,7 +205,7 @@ module _ {T U : Type 0} (names : Naming) (lent : List (ℕ × LentSlot)) (held :
   abbrev pub parts_from : Parted → ℕ → Parted
   parts_from = part buffer (names.subscriber number) service
 
-  -- What comes of a place that is gone over.
+  -- The effect of visiting a place.
   pub record HasStepped (leaving : List Place → List ℕ) (place : ℕ) (then_done : ℕ → Bool) (port new : SubscriberPort)
       (new_ports : List (ℕ × PublisherPort T U)) (parted : Parted) (outcome : Result (Unit {0}) ZeroCopyCreationError) : Type 0 where
     pub after : Parted
@@ -232,7 +232,7 @@ module _ {T U : Type 0} (names : Naming) (lent : List (ℕ × LentSlot)) (held :
     nobody_stays = no_stayer before listed apart_before apart_listed place done then_done now now parted.staying parted.staying
         walked.refused walked.refused not_done walked.along
 
-    -- What is known where the place has no connection, or none any longer.
+    -- What is true if the place has no connection, or no longer has one.
     record IsVacant (vacated : SubscriberPort) (vacated_ports : List (ℕ × PublisherPort T U)) (then_parted : Parted) : Type 0 where
       body : Body walked.reader vacated vacated_ports walked.mailboxes then_parted walked.refused
       none : get_or vacated.places.items place None ≡ None
@@ -240,7 +240,7 @@ module _ {T U : Type 0} (names : Naming) (lent : List (ℕ × LentSlot)) (held :
       staying : then_parted.staying ≡ parted.staying
       again : vacated.again ≡ port.again
 
-    -- What comes of a publisher that is listed there.
+    -- The effect at a publisher that is listed there.
     record IsMet (then_parted : Parted) (new : SubscriberPort) (new_ports : List (ℕ × PublisherPort T U))
         (outcome : Result (Unit {0}) ZeroCopyCreationError) : Type 0 where
       walked_on : Walked then_done new new_ports then_parted

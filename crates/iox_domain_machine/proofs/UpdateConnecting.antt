@@ -12,7 +12,8 @@ use Rattle.iox_domain.proofs.Fitting.{goes_connected, key_left}
 use Rattle.iox_domain.proofs.Keys.{often_there}
 use Rattle.iox_domain.proofs.ListKeeps.{held_walks}
 use Rattle.iox_domain.proofs.Numbered.{at_number, found_of_all, same_set}
-use Rattle.iox_domain.proofs.TiedWell.{connects_made, found_leads, long_enough, ok_same, still_there}
+use Rattle.iox_domain.proofs.TiedWell.{long_enough, still_there}
+use Rattle.iox_domain.proofs.TiedUpdates.{connects_made, found_leads, ok_same}
 use Rattle.iox_domain.proofs.WellKept.{well_walks}
 use Rattle.iox_domain.specs.Container.declared.container.Member.{Member}
 use Rattle.iox_domain.specs.DomainPorts.Following.{Connects, ConnectsBy, kept_at, lacks_connection}

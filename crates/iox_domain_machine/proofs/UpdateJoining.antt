@@ -8,7 +8,8 @@ use Rattle.std.specs.List.{position, position_or_len}
 use Rattle.std.specs.Prelude.{filter, is_some, option_map, if◌then◌else◌}
 use Rattle.iox_domain.proofs.DomainPorts.Naming.{placed_by}
 use Rattle.iox_domain.proofs.DomainSlots.Counts.{times_append}
-use Rattle.iox_domain.proofs.TiedWell.{MadeAt, connects_made, still_there, long_enough}
+use Rattle.iox_domain.proofs.TiedWell.{still_there, long_enough}
+use Rattle.iox_domain.proofs.TiedUpdates.{MadeAt, connects_made}
 use Rattle.iox_domain.specs.DomainPorts.Messages.{Message}
 use Rattle.iox_domain.specs.DomainPorts.MessagesSending.{slots_of}
 use Rattle.iox_domain.specs.DomainPorts.Places.{reached, leads_to}

@@ -1,4 +1,4 @@
--- Lists by their places, and by the names of what is in them.
+-- Lists by their places, and by the names of their members.
 use Rattle.std.proofs.Common.{◌≡◌, ◌≢◌, ◌<◌, ◌⊎◌, ◌∷◌, [], ◌++◌, ◌||◌, ◌==◌, ℕ, zero, suc, Bool, true, false, not, List, length, map}
 use Rattle.std.proofs.Common.{get_or, remove, slice_get, Option, None, Some, refl, ap, ◌∙◌, inl, inr, arith}
 use Rattle.std.proofs.lemmas.Bool.{eq-eqb, eqb-true, ne_eqb, or_cases, or_from, or_right}
@@ -32,7 +32,7 @@ those_at (Some one ∷ places) port is = elim (or_cases (one == port) (contains 
   | inr more ↦ let it = those_at places port more in (suc it.0, it.1)
 ]
 
--- Of a list of keys so many are met before the first that passes a test.
+-- The first key of a list that passes a test is preceded by this many other keys.
 abbrev pub Meets : (ℕ → Bool) → List ℕ → ℕ → Type 0
 Meets test keys met =
     ((place : ℕ) → place < met → test (get_or keys place 0) ≡ false)

@@ -1,4 +1,4 @@
--- In the middle of a subscriber's update: ports of a domain, and the service of the machine for which they stand there.
+-- The ports of a domain in the middle of a subscriber's update, and the machine's service that they represent then.
 use Rattle.std.proofs.Common.{◌≡◌, ◌≢◌, ◌≤◌, ◌⊎◌, ◌∷◌, ◌==◌, ◌&&◌, [], ℕ, true, List, length, map, get_or, not, nat_lt, Option, None}
 use Rattle.std.proofs.Common.{Some, refl, sym, ap, subst, inl, inr, ◌∙◌, arith}
 use Rattle.std.proofs.lemmas.Bool.{cases_eq, lt-ltb, ne_eqb}
@@ -119,7 +119,7 @@ module _ {T U : Type 0} (names : Naming) (lent : List (ℕ × LentSlot)) (held :
   Stands reader port ports mailboxes =
       StandsFor (record names { reader = reader }) lent held buffer (with_both number port ports old) (service_at port mailboxes)
 
-  -- Ports in the middle of the update: they stand for the service there, and are in order.
+  -- Ports in the middle of the update: they represent the service at that moment, and are in order.
   pub record Midway (reader : ℕ → ℕ → ℕ) (port : SubscriberPort) (ports : List (ℕ × PublisherPort T U))
       (mailboxes : ℕ → ℕ → Option (Mailbox T)) : Type 0 where
     pub stands : Stands reader port ports mailboxes

@@ -79,7 +79,7 @@ place_once port one other key fit is also = elim (cases_eq other one) [
     at_most None = omega arith
     at_most (Some attached) = omega arith
 
--- a key that a list has room for comes behind the others
+-- a key that a list has room for comes after the others
 last_is : (key : ℕ) (keys : KeysState) → nat_lt (length keys.items) keys.room ≡ true
     → with_last key keys ≡ record keys { items = keys.items ++ key ∷ [] }
 last_is key keys room = ap (λ b. if b then record keys { items = keys.items ++ key ∷ [] } else keys) room
@@ -357,7 +357,7 @@ module _ {T U : Type 0} (names : Naming) (lent : List (ℕ × LentSlot)) (held :
         ∙ ap (λ n. nat_lt n (max buffer service.settings.subscriber_max_borrowed_samples)) (length-map items by_key)
         ∙ ap (λ n. nat_lt (length items) n) most_is
 
-    -- What a place is after its connection parted.
+    -- What a place is after the parting of its connection.
     pub record IsFreed (new : SubscriberPort) (new_ports : List (ℕ × PublisherPort T U)) : Type 0 where
       pub mid : Mid new new_ports
       pub parts : part buffer its_name service parted leaver
@@ -528,7 +528,7 @@ module _ {T U : Type 0} (names : Naming) (lent : List (ℕ × LentSlot)) (held :
           again = ap (λ (one : SubscriberPort). one.again) is;
         }
 
-    -- What came of a connection that was to part.
+    -- The effect of the parting of a connection.
     pub record HasPartedSo (is_free : Bool) (new : SubscriberPort) (new_ports : List (ℕ × PublisherPort T U)) : Type 0 where
       pub freed : is_free ≡ true → IsFreed (unplaced place new) new_ports
       pub stays : is_free ≡ false → (new ≡ port) × (new_ports ≡ ports)

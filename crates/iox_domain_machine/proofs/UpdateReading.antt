@@ -21,8 +21,8 @@ use Rattle.iox_domain.specs.Roomy.{IsListOnce, IsAttached}
 use Rattle.iox_domain.specs.Tries.{how_often}
 use Rattle.iox_domain_machine.proofs.Found.{other_found}
 
--- A subscriber reads from each connection that it has, no two of its keys are for one publisher, and the key of the connection to a
--- publisher that is listed is that of its place.
+-- A subscriber reads from each of its connections, no two of its keys belong to the same publisher, and the key of the connection to
+-- a listed publisher is the key of its place.
 pub record IsReading {T U : Type 0} (subscriber : ℕ) (places : List (Option (Member PublisherEntry))) (port : SubscriberPort)
     (ports : List (ℕ × PublisherPort T U)) : Type 0 where
   pub named : port.number ≡ subscriber

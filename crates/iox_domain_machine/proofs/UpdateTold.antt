@@ -1,4 +1,4 @@
--- What an update of a subscriber tells of the connections that failed, of a domain and of the machine.
+-- What a subscriber's update reports of the connections that failed, in a domain and in the machine.
 use Rattle.std.proofs.Common.{◌≡◌, ◌≢◌, ◌<◌, ◌⊎◌, ◌+◌, ◌∷◌, [], ℕ, zero, suc, List, length, get_or, Option, None, Some, Err, refl, sym}
 use Rattle.std.proofs.Common.{ap, inl, inr, ◌∙◌, arith}
 use Rattle.std.proofs.lemmas.Bool.{cases_eq}
@@ -14,8 +14,8 @@ use Rattle.iox_domain_machine.proofs.Found.{never_some, same_some}
 use Rattle.iox_domain_machine.proofs.UpdatePlaces.{Place}
 use Rattle.iox_machine.specs.PublisherUpdate.{failure_at, UpdateAnswers}
 
--- What is told of the places below one, where this may be done at a connection that failed: nothing, and each may be passed over; or the
--- failure at one where the port is to fail, and each lower one may be passed over.
+-- What an update reports of the first `count` places, given what is permitted at a connection that failed: nothing, and each failure
+-- may be passed over; or a failure where the port may fail, and each failure at a lower place may be passed over.
 pub record ToldBelow (May : DegradationAction → Type 0) (fails : ℕ → Option ZeroCopyCreationError) (count : ℕ)
     (found : Option ConnectionFailure) : Type 0 where
   pub passes : found ≡ None → (place : ℕ) (why : ZeroCopyCreationError) → place < count → fails place ≡ Some why → May Warn ⊎ May Ignore
@@ -98,7 +98,7 @@ module _ (May : DegradationAction → Type 0) where
   abbrev pub failures : List Place → ℕ → Option ZeroCopyCreationError
   failures places place = failure_at (get_or places place (None, None)).0 (get_or places place (None, None)).1
 
-  -- what is told of the places behind the first, where nothing is told
+  -- what is told of the places after the first, where nothing is told
   behind_none : (first : Place) (more : List Place) → ToldBelow May (failures (first ∷ more)) (length (first ∷ more)) None
       → ToldBelow May (failures more) (length more) None
   behind_none first more told = record {
@@ -106,7 +106,7 @@ module _ (May : DegradationAction → Type 0) where
     tells = λ failure is. never_some failure is;
   }
 
-  -- and where one behind it is told
+  -- and where one after it is told
   behind_some : (more : List Place) (failure : ConnectionFailure) (place : ℕ) (why : ZeroCopyCreationError) → place < length more
       → failures more place ≡ Some why → failure ≡ FailedToEstablishConnection why → May DegradeAndFail
       → ((lower : ℕ) (other : ZeroCopyCreationError) → lower < place → failures more lower ≡ Some other → May Warn ⊎ May Ignore)
@@ -116,7 +116,7 @@ module _ (May : DegradationAction → Type 0) where
     tells = λ other some. (place, why, below, there, sym (same_some failure other some) ∙ is, fails, lower);
   }
 
-  -- What is told of all places is what the machine's update may answer.
+  -- What is reported of all places is what the machine's update may answer.
   pub answers_told : (places : List Place) (found : Option ConnectionFailure) → ToldBelow May (failures places) (length places) found
       → UpdateAnswers May places (domain.update_answer found)
   answers_told [] None told = refl

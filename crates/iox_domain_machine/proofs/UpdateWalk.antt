@@ -122,7 +122,7 @@ module _ {T U : Type 0} (names : Naming) (lent : List (ℕ × LentSlot)) (held :
       (acts : (info : DegradationInfo) (action : DegradationAction) → may info action → May action) (zipped : List Place)
       (zipped_at : (place : ℕ) → get_or zipped place (None, None) ≡ (was_at place, listed_at place))
       (zipped_long : length zipped ≡ old.sizes.max_publishers) where
-    -- What comes of the places that list a publisher.
+    -- The effect of an update at the places that list a publisher.
     pub record WentFirst (new : SubscriberPort) (new_ports : List (ℕ × PublisherPort T U)) (parted : Parted) (from : ℕ)
         (found : Option ConnectionFailure) : Type 0 where
       pub after : Parted
@@ -248,7 +248,7 @@ module _ {T U : Type 0} (names : Naming) (lent : List (ℕ × LentSlot)) (held :
             (told_here May (fails_at port) (fails_at next) from same_fails found why (is ∙ ap (λ f. Some f) (sym same_why)) action
             (acts _ action may_so) told_so)
 
-    -- What comes of the places that list none.
+    -- The effect of an update at the places that list none.
     pub record WentThen (port new : SubscriberPort) (new_ports : List (ℕ × PublisherPort T U)) (parted : Parted) (from most : ℕ)
         : Type 0 where
       pub after : Parted

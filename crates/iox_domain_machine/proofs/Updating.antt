@@ -125,7 +125,7 @@ module _ {T U : Type 0} (types : MessageTypeDetails) (choices : Choices T) (buff
       here : found.0.stands ≡ true
       here = found.2.stands ∙ standing
 
-      -- a publisher of which no send waits updates first
+      -- a publisher of which no send is blocked updates first
       does_free : (answered : Reply T) (later : Service T)
           → UpdatesFirst choices name refusal.Connection IsDone found.0 service answered later
           → Does found.0 service answered later

@@ -59,7 +59,7 @@ use Rattle.iox_machine.specs.Service.{Service, Subscriber}
 use Rattle.iox_machine.specs.SubscriberUpdate.{Follows, Parted}
 use Rattle.iox_machine.specs.Table.{at, changed, contains}
 
--- Ports where the subscriber of a number is in order: its keys, its connections, and the publishers.
+-- Ports in which the subscriber with this number is in order: its keys, its connections, and the publishers.
 pub record IsReady {T U : Type 0} (number : ℕ) (port : SubscriberPort) (ports : ServicePorts T U) : Type 0 where
   pub fit : KeysFit port
   pub room : port.places.room ≡ ports.sizes.max_publishers
@@ -251,7 +251,7 @@ module _ {T U : Type 0} (names : Naming) (lent : List (ℕ × LentSlot)) (held :
     again = record { stuck = λ so. never_true so; free = λ so place is. never_true (sym (none_done place) ∙ is) };
   }
 
-  -- What the machine does, and what its ports stand for then.
+  -- What the machine does, and what the ports represent afterwards.
   pub record HasUpdated (May : DegradationAction → Type 0) (outcome : Result (Unit {0}) ConnectionFailure) (after : SubscriberPort)
       (ports_after : List (ℕ × PublisherPort T U))
       : Type 0 where
@@ -493,7 +493,7 @@ module _ {T U : Type 0} (names : Naming) (lent : List (ℕ × LentSlot)) (held :
         stands_after = final.body.mid.stands;
       }
 
-    -- A subscriber that is to follow the list does what the machine's subscriber does.
+    -- A subscriber that must follow the list does what the machine's subscriber does.
     pub update_stands : FollowsList may items begun old.publishers outcome after ports_after → HasUpdated May outcome after ports_after
     update_stands (found, between, between_ports, firsts, nones, is_answer) =
         let long = both_long was.connected service.publisher_list.places was_long listed_long in

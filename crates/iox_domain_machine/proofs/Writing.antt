@@ -46,7 +46,7 @@ not_both b is isn't = absurd (wrong (sym is ∙ isn't))
     wrong : true ≡ false → ⊥
     wrong e = cc
 
--- A loan that goes by a number is there: whose, and which. And no other loan of that publisher is in its slot.
+-- The loan with this number exists, at this publisher; and no other loan of the publisher is in its slot.
 pub record IsThere {T U : Type 0} (ports : ServicePorts T U) (out : LentSlot) : Type 0 where
   pub port : PublisherPort T U
   pub there : port_of out.publisher ports.publishers ≡ Some port

@@ -25,12 +25,12 @@ use Rattle.iox_machine.specs.Service.{Service}
 use Rattle.iox_machine.specs.State.{State, Factory, is_service_of}
 use Rattle.iox_machine.specs.Table.{at}
 
--- The reply after a subscriber was created under this number, or wasn't.
+-- The reply to the creation of a subscriber: it was created under this number, or refused.
 abbrev pub came_or_refused : {T : Type 0} → ℕ → Result ℕ SubscriberCreateError → Reply T
 came_or_refused name (Ok number) = reply.SubscriberMade name
 came_or_refused name (Err why) = reply.Refused (refusal.Subscriber why)
 
--- The names after the subscriber with number `number`, if it was created, got this name.
+-- The names after the creation of a subscriber: if the one with number `number` was created, it got this name.
 abbrev pub with_came : ℕ → ℕ → Result ℕ SubscriberCreateError → Naming → Naming
 with_came number name (Ok came) names = record names { subscriber = with_name number name names.subscriber }
 with_came number name (Err why) names = names

@@ -25,12 +25,12 @@ use Rattle.iox_machine.specs.Service.{Service}
 use Rattle.iox_machine.specs.State.{State, Factory, is_service_of}
 use Rattle.iox_machine.specs.Table.{at}
 
--- The reply after a publisher was created under this number, or wasn't.
+-- The reply to the creation of a publisher: it was created under this number, or refused.
 abbrev pub publisher_came_or_refused : {T : Type 0} → ℕ → Result ℕ PublisherCreateError → Reply T
 publisher_came_or_refused name (Ok number) = reply.PublisherMade name
 publisher_came_or_refused name (Err why) = reply.Refused (refusal.Publisher why)
 
--- The names after the publisher with number `number`, if it was created, got this name.
+-- The names after the creation of a publisher: if the one with number `number` was created, it got this name.
 abbrev pub with_publisher_came : ℕ → ℕ → Result ℕ PublisherCreateError → Naming → Naming
 with_publisher_came number name (Ok came) names = record names { publisher = with_name number name names.publisher }
 with_publisher_came number name (Err why) names = names

@@ -28,14 +28,14 @@ lent_or_not loan None = reply.Skipped
 lent_or_not loan (Some (Ok slot)) = reply.LoanMade loan
 lent_or_not loan (Some (Err why)) = reply.Refused (refusal.Loan why)
 
--- The names after the message in the slot that the publisher loaned, if it did, got this name.
+-- The names after a loan: if one was made, the message in its slot got this name.
 abbrev pub with_lent_name : ℕ → ℕ → Option (Result ℕ LoanError) → Naming → Naming
 with_lent_name number name None names = names
 with_lent_name number name (Some (Ok slot)) names =
     record names { message = with_name number (with_name slot name (names.message number)) names.message }
 with_lent_name number name (Some (Err why)) names = names
 
--- The loans with their numbers after the loan that was made, if one was, was added with this number.
+-- The numbered loans after a loan: if one was made, it was added with this number.
 abbrev pub with_lent : ℕ → ℕ → Option (Result ℕ LoanError) → List (ℕ × LentSlot) → List (ℕ × LentSlot)
 with_lent loan number None lent = lent
 with_lent loan number (Some (Ok slot)) lent = lent ++ (loan, record { publisher = number; slot = slot }) ∷ []

@@ -4,6 +4,7 @@ pub mod Mailboxes
 pub mod Subscribers
 pub mod Tables
 pub mod Standing
+pub mod ConnectionCounts
 pub mod Laws
 pub mod ReleaseLaws
 pub mod LeaveLaws

@@ -33,9 +33,9 @@ BlockedStandsFor name connected progress None blocked = blocked ≡ None
 BlockedStandsFor {T} name connected progress (Some message) blocked =
     (send : Send T) × (blocked ≡ Some send) × SendStandsFor name connected progress message send
 
--- The messages of a publisher that are in use have names by their slots, each its own, below the name of the next message. A
--- message is of the current segment by its name exactly if it is by its slot, and no slot is behind that segment. A loaned slot
--- has no other use. The next message is of the current segment.
+-- The messages of a publisher that are in use have names by their slots, each its own, below the name of the next message. By its
+-- name a message is of the current segment exactly if it is by its slot, and no slot lies after that segment. A loaned slot has no
+-- other use. The next message is of the current segment.
 pub record NamesSlots (name : ℕ → ℕ) (uses : Uses ℕ ℕ) (first next : ℕ) : Type 0 where
   pub apart : (one other : ℕ) → 0 < times one (in_use uses) → 0 < times other (in_use uses) → name one ≡ name other → one ≡ other
   pub below : (slot : ℕ) → 0 < times slot (in_use uses) → name slot < next

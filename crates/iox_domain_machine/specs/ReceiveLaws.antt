@@ -1,4 +1,4 @@
--- A subscriber's question for samples, and its receive, in a domain match the machine's commands.
+-- `has_samples` and `receive` of a subscriber in a domain match the machine's commands.
 use Rattle.std.specs.Prelude.{ℕ, ◌+◌, ◌<◌, ◌≡◌, ◌≢◌, ◌^◌, ◌-◌, Bool, List, [], ◌∷◌, ◌++◌, Option, None, Some, Result, Ok, Err}
 use Rattle.std.specs.Global.{Vec}
 use Rattle.std.specs.Vec.{vec_items}
@@ -40,7 +40,7 @@ received_or_not sample values (Some (Ok (Some taken))) = reply.Received sample v
 received_or_not sample values (Some (Ok None)) = reply.NothingWaits
 received_or_not sample values (Some (Err why)) = reply.Refused (refusal.Receive why)
 
--- These are the values of the sample that was received, if one was.
+-- These are the values of the received sample, if one was received.
 abbrev pub AreReceived : {T U : Type 0} → Vec T → Option (Result (Option Taken) ReceiveError) → ServicePorts T U → Type 0
 AreReceived values None ports = Unit {0}
 AreReceived {T} {U} values (Some (Ok (Some taken))) ports =
@@ -48,7 +48,7 @@ AreReceived {T} {U} values (Some (Ok (Some taken))) ports =
 AreReceived values (Some (Ok None)) ports = Unit {0}
 AreReceived values (Some (Err why)) ports = Unit {0}
 
--- The samples with their numbers after the sample that was received, if one was, was added with this number.
+-- The numbered samples after a receive: if a sample was received, it was added with this number.
 abbrev pub with_held : ℕ → Option (Result (Option Taken) ReceiveError) → List (ℕ × Taken) → List (ℕ × Taken)
 with_held sample None held = held
 with_held sample (Some (Ok (Some taken))) held = held ++ (sample, taken) ∷ []

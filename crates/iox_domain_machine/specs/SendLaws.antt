@@ -34,7 +34,7 @@ sent_or_skipped (Some (Ok (sent.Delivered count))) = reply.Delivered count
 sent_or_skipped (Some (Ok sent.Blocked)) = reply.Blocked
 sent_or_skipped (Some (Err why)) = reply.Refused (refusal.Send why)
 
--- The loans with their numbers after a send of the loan with this number: it is removed, unless the send was skipped.
+-- The numbered loans after a send of the loan with this number: it is removed, unless the send was skipped.
 abbrev pub lent_after_send : ℕ → Option (Result Sent SendError) → List (ℕ × LentSlot) → List (ℕ × LentSlot)
 lent_after_send loan None lent = lent
 lent_after_send loan (Some result) lent = removed loan lent

@@ -89,7 +89,7 @@ module _ {T U : Type 0} where
       headed_at_port names (port_of number old.publishers) (sent_by number (Sends number slot answer) old)
   headed_as_sent names call old = []
 
-  -- The message that values become that are put into this slot: all of them are written, with the publisher's user header and
+  -- The message that is sent if these values are put into this slot: all of them are written, with the publisher's user header and
   -- its next sequence number.
   abbrev pub put_from : ℕ → List T → PublisherPort T U → domain.Message T U
   put_from slot values port =
@@ -161,7 +161,7 @@ pub record HeadersAreAsSent (T U : Type 0) (overrides : ℕ → ℕ → Type 0) 
   pub calls : (service : ℕ) (sizes : ServiceSizes) (calls : List (PortCall T U × ServicePorts T U)) (new : ServicePorts T U)
       → Happen overrides may decide calls (no_ports service sizes) new
       → TellAsSent own_numbers (headed_in calls (no_ports service sizes)) new
-  -- A put, which loans, writes and sends values, is such a call, too.
+  -- The same holds of a put, which loans, writes and sends values.
   pub puts : (names names_then : Naming) (sent : List (SentHeader T U)) (number : ℕ) (values : List T) (old new : ServicePorts T U)
       (answer : Option (Result Sent SendError))
       → PutsBy may decide number values old answer new → AreStillNamed names names_then old → TellAsSent names sent old

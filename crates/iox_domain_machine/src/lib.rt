@@ -16,6 +16,7 @@ ghost use Rattle.iox_domain_values.specs.declared.degradation.DegradationCause.T
 ghost use Rattle.iox_machine.specs.Choices.{Handed, chosen_by};
 ghost use Rattle.iox_domain_machine.specs.Laws.{NewStands, SetMatches, FillMatches, DropMatches, ReadMatches, SequenceMatches};
 ghost use Rattle.iox_domain_machine.specs.Laws.{GiveUpMatches};
+ghost use Rattle.iox_domain_machine.specs.ConnectionCounts.{ConnectionsAreFew};
 ghost use Rattle.iox_domain_machine.specs.HeaderLaws.{HeaderMatches, UserHeaderStands};
 ghost use Rattle.iox_domain_machine.specs.SentHeaders.{HeadersAreAsSent, NamesStay};
 ghost use Rattle.iox_domain_machine.specs.ReleaseLaws.{ReleaseMatches};
@@ -31,6 +32,7 @@ ghost use Rattle.iox_domain_machine.specs.ComingLaws.{SubscriberComesMatches};
 ghost use Rattle.iox_domain_machine.specs.ComingPublisherLaws.{PublisherComesMatches};
 
 use iox_domain_values::{Decides, Degrades, Overrides};
+use iox_machine::a_publisher_is_connected_as_listed;
 
 /// The ports of a new domain represent a new service, which has no ports yet.
 pub fn new_ports_stand<T, U>()
@@ -71,8 +73,8 @@ pub fn telling_a_sequence_number_matches<T: Default, U, B: Decides + Degrades, D
         (λ who. B.degrades who) (λ who. D.degrades who) handed) }
 {}
 
-/// After the user header of a loan was written, if its publisher passes a test, the ports represent the same service. That
-/// covers a user header that changes behind a reference, for which the test always holds.
+/// If a publisher passes a test, the user header of one of its loans is written; otherwise nothing changes. In both cases the ports
+/// represent the same service as before. A user header that is changed through a reference is the case in which the test always holds.
 pub fn writing_a_user_header_stands<T, U>()
     ensures { UserHeaderStands T U }
 {}
@@ -96,8 +98,18 @@ pub fn headers_are_as_sent<T, U, O: Overrides, B: Decides + Degrades>(
         (B.decides _handlers.now) }
 {}
 
-/// The names by which the ports represent a service after a call are the same as before for all that is in use: if no port or
-/// message gets another name, if a loan is made, and if a publisher is created.
+/// An open publisher has at most twice as many live connections as subscribers may be listed. Once the publisher has seen all changes of
+/// the list, as after each update, it has at most as many as may be listed, if the service is one of a run of the machine. No two places
+/// may be tied to one connection, as it is after any calls (`iox_domain::port_laws::messages::at_most_once`).
+pub fn connections_are_few<T: Default, U, B: Decides + Degrades, D: Degrades>()
+    ensures { (handed : Handed B D) → ConnectionsAreFew T U (chosen_by T.is_default (λ who. B.decides who)
+        (λ who. B.degrades who) (λ who. D.degrades who) handed) }
+{
+    a_publisher_is_connected_as_listed::<T, B, D>();
+}
+
+/// After a call, everything that was in use has the same name in the service that the ports represent. This holds for a call that gives no
+/// publisher or message a new name, for one that makes a loan, and for one that creates a publisher.
 pub fn names_in_use_stay<T, U>()
     ensures { NamesStay T U }
 {}
@@ -179,12 +191,12 @@ pub fn asking_for_samples_matches<T: Default, U, B: Decides + Degrades, D: Degra
         (λ who. B.degrades who) (λ who. D.degrades who) handed) (D.degrades _handler.now cause.FailedToEstablishConnection) }
 {}
 
-/// Updating a publisher matches the command: connections of closed subscribers end, and each listed subscriber gets a
-/// connection, with as much of the history as may wait if the connection is new, or the connection fails because memory runs
-/// out. An update that the handler lets fail returns the first failure. The command is skipped if a send is blocked or the publisher
-/// is closed, and nothing changes if the list didn't. Each answer of the handler must be a choice of the machine's
-/// publisher. Ties must be apart, and sizes those allowed, as they are after any calls
-/// (`iox_domain::port_laws::messages::at_most_once`, `iox_domain::port_laws::service::sizes_agree`).
+/// Updating a publisher matches the command: connections of closed subscribers end, and each listed subscriber gets a connection, with as
+/// much of the history as may wait if the connection is new, or the connection fails because memory runs out. An update that the handler
+/// lets fail returns the first failure. The command is skipped if a send is blocked or the publisher is closed, and nothing changes if the
+/// list didn't. Each answer of the handler must be a choice of the machine's publisher. No two places may be tied to one connection, and
+/// the sizes must be those that the service allows, as they are after any calls (`iox_domain::port_laws::messages::at_most_once`,
+/// `iox_domain::port_laws::service::sizes_agree`).
 pub fn updating_a_publisher_matches<T: Default, U, B: Decides + Degrades, D: Degrades>(_handler: &D)
     ensures { (handed : Handed B D) → PublisherUpdateMatches T U (chosen_by T.is_default (λ who. B.decides who)
         (λ who. B.degrades who) (λ who. D.degrades who) handed) (D.degrades _handler.now cause.FailedToEstablishConnection) }
@@ -192,8 +204,8 @@ pub fn updating_a_publisher_matches<T: Default, U, B: Decides + Degrades, D: Deg
 
 /// Retrying a blocked send matches the command: in both the send comes to the same subscribers in the same order, makes the
 /// same decisions at full mailboxes, and is blocked again, is finished or fails. If no send is blocked, or the publisher is closed,
-/// nothing happens. The ports must be roomy, as they are after any calls
-/// (`iox_domain::allowances::samples::samples_left_by_calls`), and each decision at a full mailbox must be a choice of the
+/// nothing happens. The ports must be roomy (`AreRoomy`): one subscriber borrows from each connection, no more than the limit. They are so
+/// after any calls (`iox_domain::allowances::samples::samples_left_by_calls`). Each decision at a full mailbox must be a choice of the
 /// machine's publisher.
 pub fn retrying_a_send_matches<T: Default, U, B: Decides + Degrades, D: Degrades>(_handlers: &B)
     ensures { (handed : Handed B D) → RetryMatches T U (chosen_by T.is_default (λ who. B.decides who)
@@ -224,14 +236,14 @@ pub fn putting_matches<T: Default, U, B: Decides + Degrades, D: Degrades>(_handl
         (B.degrades _handlers.now cause.FailedToEstablishConnection) }
 {}
 
-/// Receiving matches the command; the subscriber updates first. It borrows the oldest message of the first expired connection
-/// that may give, or otherwise of another connection that may, as a sample with the next number and its values. If no
-/// connection may give, the reply is that nothing waits, or that each connection with data is at the limit of borrowed
-/// messages. The idle expired connections that were examined before end, and a closed publisher of which nothing else is in use
-/// is then removed from the domain. If the subscriber isn't open nothing happens. The subscriber must hold fewer than 2^64 - 1
-/// samples, no sample may have the next number, the ports must be roomy, as they are after any calls
-/// (`iox_domain::allowances::samples::samples_left_by_calls`), and each answer of the handler for a failed connection must be a
-/// choice of the machine's subscriber.
+/// Receiving matches the command; the subscriber updates first. A connection may give a message if it has one and is below the limit of
+/// borrowed messages. The subscriber borrows the oldest message of the first expired connection that may give, or otherwise of another
+/// connection that may, as a sample with the next number and the message's values. If no connection may give, the reply is that nothing
+/// waits, or that each connection with data is at the limit of borrowed messages. The idle expired connections that were examined before
+/// end, and a closed publisher of which nothing else is in use is then removed from the domain. If the subscriber isn't open nothing
+/// happens. The subscriber must hold fewer than 2^64 - 1 samples, no sample may have the next number, the ports must be roomy, as they are
+/// after any calls (`iox_domain::allowances::samples::samples_left_by_calls`), and each answer of the handler for a failed connection must
+/// be a choice of the machine's subscriber.
 pub fn receiving_matches<T: Default, U, B: Decides + Degrades, D: Degrades>(_handler: &D)
     ensures { (handed : Handed B D) → ReceiveMatches T U (chosen_by T.is_default (λ who. B.decides who)
         (λ who. B.degrades who) (λ who. D.degrades who) handed) (D.degrades _handler.now cause.FailedToEstablishConnection) }
@@ -250,12 +262,12 @@ pub fn coming_of_a_subscriber_matches<T: Default, U, B: Decides + Degrades, D: D
         (λ who. B.degrades who) (λ who. D.degrades who) handed) (D.degrades _handler.now cause.FailedToEstablishConnection) }
 {}
 
-/// Creating a publisher, through a factory of the service, matches the command: it is connected to the listed subscribers; or
-/// the call fails if it needs 2^32 slots or more or slots for as many values, if no place is free, or if memory runs out. The
+/// Creating a publisher, through a factory of the service, matches the command: it is connected to the listed subscribers; or the
+/// call fails if it needs 2^32 slots or more, or slots for 2^32 values or more, if no place is free, or if memory runs out. The
 /// command must ask for what the domain is asked for: the owner's number is that of the factory; loans, values and allocation
-/// strategy are those of the command, or the domain's defaults; an element is one value; and the override answers as many slots
-/// as the command says, or as the worst case needs. No publisher of the service may have the next number yet; one more port and
-/// one more change of the list of publishers must be countable; and the ports must be roomy, as they are after any calls
+/// strategy are those of the command, or the domain's defaults; an element is one value; and the override answers as many slots as
+/// the command says, or as the worst case needs. No publisher of the service may have the next number yet; one more port and one more
+/// change of the list of publishers must be countable; and the ports must be roomy, as they are after any calls
 /// (`iox_domain::allowances::samples::samples_left_by_calls`).
 pub fn coming_of_a_publisher_matches<
     T: Default,

@@ -32,7 +32,7 @@ all_cut owner number count limit (x ∷ xs) =
     ap (λ n. n ∷ map (λ y. counted owner (number y) (min (count y) limit)) xs) (counted_cut owner (number x) (count x) limit)
     ∙ ap (λ rest. min (counted owner (number x) (count x)) limit ∷ rest) (all_cut owner number count limit xs)
 
--- so many live of an owner
+-- n live of an owner
 pub living_owned : {X : Type 0} (limit : ℕ) (owner : Option ℕ) (number count : X → ℕ) (xs : List X)
     → fold (λ n m. min (n + m) limit) 0 (map (λ x. counted owner (number x) (min (count x) limit)) xs)
     ≡ min (sum_by (λ x. counted owner (number x) (count x)) xs) limit

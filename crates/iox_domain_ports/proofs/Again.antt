@@ -1,4 +1,4 @@
--- A message is sent again, in a slot in which nothing stands but this message.
+-- A message is sent again, in a slot that contains nothing except this message.
 use Rattle.std.proofs.Common.{rules, arith, ◌≡◌, ◌≢◌, ◌+◌, ◌<◌, ◌∷◌, [], ℕ, zero, suc, Bool, false, ◌||◌, List, length, map, set, None}
 use Rattle.std.proofs.Common.{Some, refl, sym, subst, ap, ◌∙◌}
 use Rattle.std.specs.List.{All, list_any}

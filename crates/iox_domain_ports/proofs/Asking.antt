@@ -20,15 +20,15 @@ abbrev pub IsOneBelow : (ℕ → Bool) → ℕ → Option ℕ → Type 0
 IsOneBelow test count None = NonePasses test count
 IsOneBelow test count (Some key) = test key ≡ true
 
--- How far all connections are gone over by key, where so many expired ones were met: none gave, and which has data, among them and
--- those.
+-- How far the walk through all connections by key is, after `met` expired ones: none gave a message, and which of them and of the
+-- expired ones has data.
 pub record LookedSoFar {T U : Type 0} (port : SubscriberPort) (ports : List (ℕ × PublisherPort T U)) (met key : ℕ) (unread : Option ℕ)
     : Type 0 where
   pub none : NonePasses (gives port ports) key
   pub below : IsOneBelow (has_data port ports) key unread
   pub expired : IsOneAmong (has_data port ports) port.expired.items met unread
 
--- How far the expired connections are gone over: none gave, which was idle first, and which has data.
+-- How far the walk through the expired connections is: none gave a message; which one was idle first, and which one has data.
 pub record MetSoFar {T U : Type 0} (port : SubscriberPort) (ports : List (ℕ × PublisherPort T U)) (place : ℕ) (idle unread : Option ℕ)
     : Type 0 where
   pub none : NonePasses (λ at. gives port ports (get_or port.expired.items at 0)) place

@@ -44,7 +44,7 @@ none_given_without port ports key none = both (is_below port ports key) (has_dat
     both true b is = is
     both false b is = refl
 
--- none of the first so many of a list passes
+-- none of the first n of a list passes
 abbrev pub NoneMet : (ℕ → Bool) → List ℕ → ℕ → Type 0
 NoneMet test keys count = (place : ℕ) → place < count → test (get_or keys place 0) ≡ false
 

@@ -9,7 +9,8 @@ use Rattle.iox_domain_values.specs.declared.degradation.DegradationAction.{Degra
 use Rattle.iox_domain_values.specs.declared.degradation.DegradationInfo.{DegradationInfo}
 use Rattle.iox_domain_slots.specs.Container.declared.container.Member.{Member}
 use Rattle.iox_domain_ports.specs.Ports.{with_connections}
-use Rattle.iox_domain_ports.specs.PublisherUpdating.{Follows, Asks, FollowsAll, OnlyConnections, untied, untied_from, update_answer}
+use Rattle.iox_domain_ports.specs.PublisherUpdating.{Follows, Asks, FollowsAll, OnlyConnections, untied, untied_from}
+use Rattle.iox_domain_ports.specs.PublisherUpdating.{update_answer, let_go_of}
 use Rattle.iox_domain_ports.specs.declared.publisher_port.PublisherPort.{PublisherPort}
 use Rattle.iox_domain_ports.specs.declared.subscriber_entry.SubscriberEntry.{SubscriberEntry}
 
@@ -21,7 +22,7 @@ only_still {T} {U} first now next one two = two ∙ ap (changed next) one where
   changed after before = record (with_connections after.sender.uses.connections before)
       { seen = after.seen; ties = after.ties; readers = after.readers }
 
--- Where an update stands before a place: whatever comes of the places that are left comes of all of them.
+-- The state of an update before it reaches a place: what the rest of the places results in is the result of all places.
 pub record Following {T U : Type 0} (may : DegradationInfo → DegradationAction → Type 0)
     (listed : List (Option (Member SubscriberEntry))) (first : PublisherPort T U)
     (found : Option ConnectionFailure) (now : PublisherPort T U) (place : ℕ) : Type 0 where
@@ -64,7 +65,7 @@ followed may listed first now new place found answer so_far within over is_answe
     let same : length listed ≡ place = omega (arith, within, over) in
     so_far.rest answer new (rw (drop_all place listed over) (is_answer, rw same at is_new))
 
--- Where the untying stands before a place: whatever comes of the places that are left comes of all of them.
+-- The state of the untying before it reaches a place: what the rest of the places results in is the result of all places.
 pub record Untying {T U : Type 0} (whole first now : PublisherPort T U) (count place : ℕ) : Type 0 where
   pub rest : untied_from (count - place) place now ≡ whole
   pub only : OnlyConnections first now
@@ -92,3 +93,16 @@ pub untying_over : {T U : Type 0} (whole first now : PublisherPort T U) (count p
 untying_over whole first now count place so_far over =
     let left : count - place ≡ zero = omega (arith, over) in
     sym (ap (λ n. untied_from n place now) left) ∙ so_far.rest
+
+-- places that are tied to none stay as they are
+none_untied : {T U : Type 0} (count place : ℕ) (port : PublisherPort T U)
+    → ((other : ℕ) → place ≤ other → get_or port.ties.items other None ≡ None) → untied_from count place port ≡ port
+none_untied zero place port none = refl
+none_untied (suc count) place port none =
+    ap (λ tie. untied_from count (place + 1) (let_go_of place tie port)) (none place (omega arith))
+    ∙ none_untied count (place + 1) port (λ other past. none other (omega (arith, past)))
+
+-- no place from one on is tied
+pub untying_past : {T U : Type 0} (whole first now : PublisherPort T U) (count place : ℕ) → Untying whole first now count place
+    → ((other : ℕ) → place ≤ other → get_or now.ties.items other None ≡ None) → now ≡ whole
+untying_past whole first now count place so_far none = sym (none_untied (count - place) place now none) ∙ so_far.rest

@@ -4,7 +4,7 @@ use Rattle.std.proofs.Common.{refl, ap, ◌∙◌}
 use Rattle.std.specs.List.{list_any}
 use Rattle.iox_domain_slots.specs.Uses.{Connection, nobody, is_there}
 
--- none of the first so many is there
+-- none of the first n is there
 abbrev pub NoneBelow : {X : Type 0} → List (Connection X) → ℕ → Type 0
 NoneBelow connections count = (index : ℕ) → index < count → is_there (get_or connections index nobody) ≡ false
 

@@ -45,7 +45,7 @@ vacant : {X : Type 0} (connections : List (Connection X)) (index at other : ℕ)
 vacant connections index at other new message nobody_is held = still_there connections index at other new message held
     (λ there. let wrong = sym (ap (λ connection. slice_get connection.borrowed at) nobody_is) ∙ there in search (rules, wrong))
 
--- behind the others
+-- after the others
 joined : {X : Type 0} (connections : List (Connection X)) (index at : ℕ) (new : Connection X) (message : X)
     → slice_get (get_or connections index nobody).borrowed at ≡ Some message
     → slice_get (get_or (connections ++ new ∷ []) index nobody).borrowed at ≡ Some message

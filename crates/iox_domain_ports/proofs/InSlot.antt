@@ -1,4 +1,4 @@
--- The loan that stands in a slot.
+-- The loan that a slot contains.
 use Rattle.std.proofs.Common.{◌≡◌, ◌≢◌, ◌<◌, ◌==◌, ◌&&◌, ◌||◌, ◌∙◌, ℕ, Bool, true, false, if◌then◌else◌, not, List, [], ◌∷◌, length}
 use Rattle.std.proofs.Common.{get_or, map, is_some, nat_lt, position, None, Some, refl, sym, ap, arith}
 use Rattle.std.specs.List.{list_any, find}

@@ -1,4 +1,4 @@
--- What is borrowed, waits or is remembered stands in a slot that there is.
+-- Each borrowed, waiting or remembered message is in an existing slot.
 use Rattle.std.proofs.Common.{arith, ℕ, zero, suc, ◌≡◌, ◌+◌, ◌<◌, ◌≤◌, ◌==◌, ◌∷◌, [], ◌++◌, List, length, get_or, option_to_list}
 use Rattle.std.proofs.Common.{None, Some, Bool, true, false, cond, is_some, nat_lt, position, slice_get, rules, refl, sym, ◌∙◌}
 use Rattle.std.specs.List.{position_or_len}

@@ -1,4 +1,4 @@
--- What holds of a publisher holds after each step.
+-- What is true of a publisher is still true after each step.
 use Rattle.std.proofs.Common.{rules, arith, ◌≡◌, ◌+◌, ◌-◌, ◌<◌, ◌≤◌, ◌∷◌, [], ◌++◌, ℕ, zero, suc, Bool, true, false, nat_lt, is_some}
 use Rattle.std.proofs.Common.{List, length, get_or, set, take, drop, remove, Option, None, Some, Result, Ok, Err, IfOk, OnErr, ◌==◌, refl}
 use Rattle.std.proofs.Common.{sym, subst, ap, ◌∙◌}
@@ -50,7 +50,7 @@ fewer_dropped zero k xs = omega arith
 fewer_dropped (suc n) k [] = omega arith
 fewer_dropped (suc n) k (x ∷ xs) = omega (arith, times_cons k x xs, fewer_dropped n k xs)
 
--- of a connection that changed more may be held, by so many
+-- of a connection that changed more may be held, by n
 held_change : (connections : List (Connection ℕ)) (index : ℕ) (connection : Connection ℕ) (k more : ℕ)
     → times k (held_by connection) ≤ times k (held_by (get_or connections index nobody)) + more
     → times k (held (set connections index connection)) ≤ times k (held connections) + more

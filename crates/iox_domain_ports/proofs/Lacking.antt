@@ -1,4 +1,4 @@
--- Where attaching to a publisher may fail.
+-- When attaching to a publisher may fail.
 use Rattle.std.proofs.Common.{arith, ◌≡◌, ◌≢◌, ◌<◌, ◌==◌, ◌||◌, ◌∷◌, [], ℕ, Bool, true, false, nat_le, List, length, Result, Ok, Err}
 use Rattle.std.proofs.Common.{Option, None, Some, refl}
 use Rattle.std.specs.declared.alloc.AllocError.{AllocError}

@@ -1,4 +1,4 @@
--- What a loan comes to.
+-- What a loan results in.
 use Rattle.std.proofs.Common.{rules, arith, ◌≡◌, inl, inr, ◌+◌, ◌<◌, ◌≤◌, ◌∙◌, ℕ, Bool, true, false, length, nat_lt, nat_le, is_some}
 use Rattle.std.proofs.Common.{Option, None, Some, Result, Ok, Err, refl, ap, if◌then◌else◌}
 use Rattle.std.proofs.Math.Logic.{⊎_elim}
@@ -161,7 +161,7 @@ may_be_lent : {T U : Type 0} (allocation : AllocationStrategy) (values elements 
 may_be_lent allocation values elements port is static =
     let short : is_too_long strategy.Static values elements port ≡ false = rw static at is in grind (arith, short)
 
--- a loan where no send waits
+-- a loan where no send is blocked
 unless : {T U : Type 0} (allocation : AllocationStrategy) (values elements : ℕ) (long room : Bool) (old new : PublisherPort T U)
     (answer : Result ℕ LoanError)
     → old.sender.uses.sending ≡ None → is_too_long allocation values elements old ≡ long
@@ -177,7 +177,7 @@ unless allocation values elements false true old new answer idle long left lends
     where_to allocation values elements (nat_le (extent old.unit values elements) old.sender.room) old new answer
     (record { idle = idle; may = may_be_lent allocation values elements old long; room = grind (arith, left) }) refl lends
 
--- whether a send waits
+-- whether a send is blocked
 waiting : {T U : Type 0} (allocation : AllocationStrategy) (values elements : ℕ) (waits : Bool) (old new : PublisherPort T U)
     (answer : Option (Result ℕ LoanError))
     → is_some old.sender.uses.sending ≡ waits → LoansIf waits allocation values elements old answer new

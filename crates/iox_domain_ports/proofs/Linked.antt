@@ -1,4 +1,4 @@
--- What a connection of slots tells of the messages that stand in them.
+-- What a connection of slots says of the messages in them.
 use Rattle.std.proofs.Common.{◌≡◌, ℕ, Bool, true, false, Option, None, Some, option_copied, IfSome, IfNone, length, refl, sym, ap, ◌∙◌}
 use Rattle.std.proofs.Common.{if◌then◌else◌}
 use Rattle.std.proofs.lemmas.List.{length-map}

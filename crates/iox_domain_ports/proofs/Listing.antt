@@ -1,4 +1,4 @@
--- An update goes by who is listed where, wherever its list ends.
+-- An update follows the list by the place of each port, wherever its list ends.
 use Rattle.std.proofs.Common.{arith, ◌≡◌, ◌≢◌, ◌+◌, ◌-◌, ◌<◌, ◌≤◌, ◌==◌, ℕ, zero, suc, Bool, true, false, List, [], ◌∷◌, length, get_or}
 use Rattle.std.proofs.Common.{set, Result, Ok, Err, Option, None, Some, refl, sym, ap, ◌∙◌, if◌then◌else◌, inl, inr}
 use Rattle.std.proofs.lemmas.Bool.{cases_lt, eqb-true}
@@ -180,7 +180,7 @@ none_still place other port none = elim (cases_lt other place) [
     away not = ap (λ all. get_or all other None) (untied_ties place port) ∙ get_or-set_other port.ties.items place other None None not ∙
         none not
 
--- places behind the end of the list aren't tied in the end
+-- places after the end of the list aren't tied in the end
 cleared : {T U : Type 0} (count first other : ℕ) (port : PublisherPort T U) → length port.ties.items ≤ first + count
     → (other < first → get_or port.ties.items other None ≡ None)
     → get_or (untied_from count first port).ties.items other None ≡ None

@@ -1,4 +1,4 @@
--- A loan is made in a slot in which nothing in use stands.
+-- A loan is made in a slot that contains nothing in use.
 use Rattle.std.proofs.Common.{arith, ◌≡◌, ◌≢◌, ◌+◌, ◌<◌, ◌∷◌, [], ℕ, zero, suc, Bool, false, List, length, get_or, set, replicate, None}
 use Rattle.std.proofs.Common.{Some, refl, sym, subst, ap, ◌∙◌}
 use Rattle.std.proofs.Math.Logic.{⊎_elim}
@@ -42,7 +42,7 @@ set_twice [] index a b = refl
 set_twice (x ∷ xs) zero a b = refl
 set_twice (x ∷ xs) (suc index) a b = ap (λ ys. x ∷ ys) (set_twice xs index a b)
 
--- marks of which there are so many are all the same then
+-- marks of which there are n are all the same then
 pub marks_are : (old between new : PayloadsState Bool) (slot count : ℕ) (mark : Bool) → length (payload_at slot between) ≡ count
     → between ≡ with_payload slot (payload_at slot between) old
     → new ≡ with_payload slot (replicate (length (payload_at slot between)) mark) between

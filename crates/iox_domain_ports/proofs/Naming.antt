@@ -1,4 +1,4 @@
--- Each step goes with the names that loans and messages go by.
+-- Each step agrees with the names of loans and messages.
 use Rattle.std.proofs.Common.{◌≡◌, ◌+◌, ◌-◌, ◌∷◌, [], ◌++◌, ℕ, zero, suc, Bool, true, false, nat_lt, if◌then◌else◌, List, length, get_or}
 use Rattle.std.proofs.Common.{map, take, drop, remove, position, ◌==◌, cond, not, Some, refl, sym, ap, ◌∙◌}
 use Rattle.std.proofs.lemmas.List.{map-set, map-append, length-map}

@@ -14,7 +14,7 @@ use Rattle.iox_domain_ports.proofs.Segments.{with_segment}
 use Rattle.iox_domain_ports.proofs.Agreeing.{uses_agree, slots_seen}
 use Rattle.iox_domain_ports.proofs.Putting.{loan_of, message_of}
 
--- a segment without a value behind the others
+-- a segment without a value after the others
 abbrev pub one_more_segment : {T : Type 0} → ℕ → PayloadsState T → PayloadsState T
 one_more_segment room payloads = record payloads
     { segments = payloads.segments + 1; room = room; payloads = payloads.payloads ++ replicate payloads.size [] }

@@ -1,4 +1,4 @@
--- What stands in the slots once something was put into one.
+-- What the slots contain after something was put into one of them.
 use Rattle.std.proofs.Common.{◌≡◌, ◌≢◌, ◌<◌, ℕ, Bool, List, [], length, get_or, set, Option, ap, ◌∙◌}
 use Rattle.std.proofs.lemmas.List.{get_or-set_same, get_or-set_other}
 use Rattle.iox_domain_ports.specs.Payloads.{PayloadsState, payload_at, with_payload}

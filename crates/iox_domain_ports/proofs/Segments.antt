@@ -128,7 +128,7 @@ pub seen_row : {T : Type 0} (state : PayloadsState T) (size most : ℕ) (segment
 seen_row state size most segments slot is all place
     = ap (payload_at slot) (sym is) ∙ read size segments slot (slot / size) (slot % size) all place
 
--- a segment behind others
+-- a segment after others
 rows_behind : {T : Type 0} (segment : RowsState T) (xs : List (RowsState T)) → all_rows (xs ++ segment ∷ []) ≡ all_rows xs ++ segment.rows
 rows_behind segment [] = append-nil segment.rows
 rows_behind segment (x ∷ xs) = ap (λ rows. x.rows ++ rows) (rows_behind segment xs) ∙ sym (append_assoc x.rows (all_rows xs) segment.rows)
@@ -138,11 +138,11 @@ last_behind segment xs =
     let count : length (xs ++ segment ∷ []) - 1 ≡ length xs = omega (arith, length-append xs (segment ∷ [])) in
     rw count (get_or-append_seam xs segment [] no_rows)
 
--- a segment comes behind the others
+-- a segment comes after the others
 abbrev pub with_segment : {T : Type 0} → RowsState T → PayloadsState T → PayloadsState T
 with_segment segment state = record state { segments = state.segments + 1; room = segment.room; payloads = state.payloads ++ segment.rows }
 
--- a segment is added behind the others
+-- a segment is added after the others
 pub segment_added : {T : Type 0} (state : PayloadsState T) (size most : ℕ) (old new : List (RowsState T)) (added : RowsState T)
     → seen_of size most old ≡ state
     → new ≡ old ++ added ∷ []

@@ -7,7 +7,7 @@ use Rattle.iox_domain_ports.specs.Receiving.{is_idle_at, dropped_port, dropped_p
 use Rattle.iox_domain_ports.specs.declared.attached.Attached.{Attached}
 use Rattle.iox_domain_ports.specs.declared.subscriber_port.SubscriberPort.{SubscriberPort}
 
--- How far the expired connections are gone over: what is left comes to the whole.
+-- How far the walk through the expired connections is: the rest of it has the result of the whole.
 pub record Sweeping {T U : Type 0} (count : ℕ) (whole now : SubscriberPort × List (ℕ × PublisherPort T U)) (place done : ℕ) : Type 0 where
   pub rest : swept place (count - done) now ≡ whole
   pub few : place ≤ done

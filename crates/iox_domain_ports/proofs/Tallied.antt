@@ -1,4 +1,4 @@
--- Counts of what lives by owner, where a port that was lent has changed, one comes, and one goes.
+-- Counts by owner of what exists, after a borrowed port has changed, after a port is added, and after one is removed.
 use Rattle.std.proofs.Common.{rules, arith, ◌≡◌, ◌+◌, ◌<◌, ◌==◌, ◌∙◌, ℕ, min, List, [], ◌∷◌, Option, None, Some, Bool, true, false, cond}
 use Rattle.std.proofs.Common.{is_some, refl, sym, ap, if◌then◌else◌}
 use Rattle.std.specs.Prelude.{sum_by, unwrap_or, option_map}

@@ -1,6 +1,6 @@
 -- An update goes from place to place.
-use Rattle.std.proofs.Common.{arith, ◌≡◌, ◌+◌, ◌-◌, ◌<◌, ◌≤◌, ℕ, zero, suc, List, ◌∷◌, length, drop, get_or, Result, Option, None, refl}
-use Rattle.std.proofs.Common.{sym, ap, ◌∙◌}
+use Rattle.std.proofs.Common.{arith, ◌≡◌, ◌+◌, ◌-◌, ◌<◌, ◌≤◌, ℕ, zero, suc, Bool, true, false, List, ◌∷◌, length, drop, get_or, Result}
+use Rattle.std.proofs.Common.{Option, None, refl, sym, ap, subst, ◌∙◌}
 use Rattle.std.proofs.lemmas.List.{drop_more, drop_all, get_or_default}
 use Rattle.iox_domain_values.specs.declared.connection_failure.ConnectionFailure.{ConnectionFailure}
 use Rattle.iox_domain_values.specs.declared.connection_failure.ZeroCopyCreationError.{ZeroCopyCreationError}
@@ -8,11 +8,12 @@ use Rattle.iox_domain_values.specs.declared.degradation.DegradationAction.{Degra
 use Rattle.iox_domain_values.specs.declared.degradation.DegradationInfo.{DegradationInfo}
 use Rattle.iox_domain_slots.specs.Container.declared.container.Member.{Member}
 use Rattle.iox_domain_ports.specs.declared.publisher_port.PublisherPort.{PublisherPort}
+use Rattle.iox_domain_ports.specs.Following.{FollowsNoneAt}
 use Rattle.iox_domain_ports.specs.SubscriberUpdating.{is_listed, FollowsOne, AsksOf, FollowsFrom, FollowsNoneIf, FollowsNones}
 use Rattle.iox_domain_ports.specs.declared.publisher_entry.PublisherEntry.{PublisherEntry}
 use Rattle.iox_domain_ports.specs.declared.subscriber_port.SubscriberPort.{SubscriberPort}
 
--- Where an update stands before a place: whatever comes of the places that are left comes of all of them.
+-- The state of an update before it reaches a place: what the rest of the places results in is the result of all places.
 pub record Following {T U : Type 0} (may : DegradationInfo → DegradationAction → Type 0)
     (listed : List (Option (Member PublisherEntry))) (first : SubscriberPort) (first_ports : List (ℕ × PublisherPort T U))
     (found : Option ConnectionFailure) (now : SubscriberPort) (now_ports : List (ℕ × PublisherPort T U)) (place : ℕ) : Type 0 where
@@ -55,7 +56,7 @@ pub followed : {T U : Type 0} (may : DegradationInfo → DegradationAction → T
 followed may listed first now first_ports now_ports place found so_far over
     = so_far.rest found now now_ports (rw (drop_all place listed over) (refl, refl, refl))
 
--- Where the places that list none stand before one.
+-- The state of the second walk, at the places without a listed publisher, before it reaches a place.
 abbrev pub Clearing : {T U : Type 0} → List (Option (Member PublisherEntry)) → ℕ → SubscriberPort → List (ℕ × PublisherPort T U)
     → SubscriberPort → List (ℕ × PublisherPort T U) → ℕ → Type 0
 Clearing {T} {U} listed count first first_ports now now_ports place = (new : SubscriberPort) (new_ports : List (ℕ × PublisherPort T U))
@@ -78,3 +79,26 @@ pub cleared : {T U : Type 0} (listed : List (Option (Member PublisherEntry))) (c
 cleared listed count first now first_ports now_ports place so_far over =
     let none : count - place ≡ zero = omega (arith, over) in
     so_far now now_ports (rw none (refl, refl))
+
+-- places that are tied to none stay as they are
+none_cleared : {T U : Type 0} (listed : List (Option (Member PublisherEntry))) (place count : ℕ) (port : SubscriberPort)
+    (ports : List (ℕ × PublisherPort T U)) → ((other : ℕ) → place ≤ other → get_or port.places.items other None ≡ None)
+    → FollowsNones listed place count port ports port ports
+none_cleared listed place zero port ports none = (refl, refl)
+none_cleared {T} {U} listed place (suc count) port ports none =
+    let further : FollowsNones listed (place + 1) count port ports port ports
+    = none_cleared listed (place + 1) count port ports (λ other past. none other (omega (arith, past))) in
+    (port, ports, here (is_listed listed place), further)
+  where
+    here : (is_there : Bool) → FollowsNoneIf is_there place port ports port ports
+    here true = (refl, refl)
+    here false = subst (λ tie. FollowsNoneAt tie place port ports port ports) (sym (none place (omega arith))) (refl, refl)
+
+-- no place from one on is tied
+pub cleared_past : {T U : Type 0} (listed : List (Option (Member PublisherEntry))) (count : ℕ) (first now : SubscriberPort)
+    (first_ports now_ports : List (ℕ × PublisherPort T U)) (place : ℕ)
+    → Clearing listed count first first_ports now now_ports place
+    → ((other : ℕ) → place ≤ other → get_or now.places.items other None ≡ None)
+    → FollowsNones listed 0 count first first_ports now now_ports
+cleared_past listed count first now first_ports now_ports place so_far none =
+    so_far now now_ports (none_cleared listed place (count - place) now now_ports none)

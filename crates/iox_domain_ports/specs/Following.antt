@@ -24,7 +24,7 @@ abbrev pub is_of : ℕ → Option Attached → Bool
 is_of number None = false
 is_of number (Some attached) = attached.publisher == number
 
--- The subscriber after the connection with this key was put behind its expired ones.
+-- The subscriber after the connection with this key was appended to its expired ones.
 abbrev pub expired_port : ℕ → SubscriberPort → SubscriberPort
 expired_port key port = record port { expired = with_last key port.expired }
 
@@ -72,8 +72,8 @@ PartsFull key port ports is_free new new_ports =
     (place : ℕ) × IsMet (is_idle port ports) port.expired.items place
     × PartsOver (slice_get port.expired.items place) place key port ports is_free new new_ports
 
--- An idle connection ends. Another one expires, if the list of expired connections has room; if the list is full, `PartsFull`
--- says what happens.
+-- An idle connection ends. Another one expires, if the list of expired connections isn't full; if it is full, `PartsFull` says what
+-- happens.
 abbrev pub PartsIf : {T U : Type 0} → Bool → Bool → ℕ → SubscriberPort → List (ℕ × PublisherPort T U) → Bool → SubscriberPort
     → List (ℕ × PublisherPort T U) → Type 0
 PartsIf true is_full key port ports is_free new new_ports = (is_free ≡ true) × (new ≡ ended_key key port)
@@ -143,7 +143,8 @@ FollowsFreed false place number port ports answer new new_ports = (answer ≡ Er
     × (new ≡ record port { again = true }) × (new_ports ≡ ports)
 FollowsFreed true place number port ports answer new new_ports = Connects place number (unplaced place port) ports answer new new_ports
 
--- If the place is tied to the listed publisher, nothing changes. Otherwise the former connection parts first.
+-- If the place is tied to the listed publisher, nothing changes. Otherwise the former connection first ends or expires, as `Parts`
+-- says.
 abbrev pub FollowsKey : {T U : Type 0} → Bool → ℕ → ℕ → ℕ → SubscriberPort → List (ℕ × PublisherPort T U)
     → Result (Unit {0}) ZeroCopyCreationError → SubscriberPort → List (ℕ × PublisherPort T U) → Type 0
 FollowsKey true key place number port ports answer new new_ports = (answer ≡ Ok tt) × (new ≡ port) × (new_ports ≡ ports)
@@ -169,7 +170,8 @@ abbrev pub freed_if : Bool → ℕ → SubscriberPort → SubscriberPort
 freed_if true place port = unplaced place port
 freed_if false place port = port
 
--- What happens at a place that lists no publisher and is tied to this key, or to none: the connection of the key parts.
+-- What happens at a place that lists no publisher and is tied to this key, or to none: the connection of the key ends or expires, as
+-- `Parts` says.
 abbrev pub FollowsNoneAt : {T U : Type 0} → Option ℕ → ℕ → SubscriberPort → List (ℕ × PublisherPort T U) → SubscriberPort
     → List (ℕ × PublisherPort T U) → Type 0
 FollowsNoneAt None place port ports new new_ports = (new ≡ port) × (new_ports ≡ ports)

@@ -6,7 +6,7 @@ pub record KeysState : Type 0 where
   pub items : List ℕ
   pub room : ℕ
 
--- The keys after `key` was added behind the others, if there is room for it.
+-- The keys after `key` was appended; unchanged if there are as many as the capacity permits.
 abbrev pub with_last : ℕ → KeysState → KeysState
 with_last key keys = if nat_lt (length keys.items) keys.room then record keys { items = keys.items ++ key ∷ [] } else keys
 

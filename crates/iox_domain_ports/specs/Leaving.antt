@@ -9,8 +9,8 @@ use Rattle.iox_domain_ports.specs.Progress.{start}
 use Rattle.iox_domain_ports.specs.Ports.{ended_at}
 use Rattle.iox_domain_ports.specs.declared.publisher_port.PublisherPort.{PublisherPort}
 
--- A new publisher that is connected to nobody, with capacity for `most_subscribers` subscribers. Each of its elements has
--- `unit` values, and its first message gets the sequence number behind `last_sequence`.
+-- A new publisher that isn't connected to any subscriber, with capacity for `most_subscribers` subscribers. Each of its elements has
+-- `unit` values, and its first message gets the sequence number after `last_sequence`.
 abbrev pub new_port : {T U : Type 0} → PortIdentity → ℕ → AllocationStrategy → ℕ → Option ℕ → SenderConfig → U → PublisherPort T U
 new_port identity most_subscribers allocation unit last_sequence config user_header = record {
   service = identity.service;

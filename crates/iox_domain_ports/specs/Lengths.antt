@@ -4,22 +4,22 @@ use Rattle.iox_domain_values.specs.Segments.{SegmentLength}
 use Rattle.iox_domain_values.specs.Sizes.{within}
 use Rattle.iox_domain_values.specs.declared.data_segment.AllocationStrategy.{AllocationStrategy}
 
--- How many values' memory these elements take. An element without values takes as much as one value.
+-- How many values these elements take memory for. An element without values takes as much as one value.
 abbrev pub span : ℕ → ℕ → ℕ
 span unit elements = elements * max unit 1
 
--- How many values' memory a loan takes: that of its elements, and at least that of its values.
+-- How many values a loan takes memory for: as many as its elements, and at least as many as it has.
 abbrev pub extent : ℕ → ℕ → ℕ → ℕ
 extent unit values elements = max values (span unit elements)
 
--- For how many values the slots of a new segment have room, if they are to have room for `length` elements: at least for the
--- loan for which the segment is opened. None if that is 2^32 or more.
+-- How many values fit into a slot of a new segment that is to hold `length` elements: at least as many as the loan has for which the
+-- segment is opened. None if that is 2^32 or more.
 abbrev pub room_for : ℕ → ℕ → Option ℕ → Option ℕ
 room_for unit values None = None
 room_for unit values (Some length) = within (extent unit values length)
 
--- For how many values the slots of the segment have room that a longer loan opens: for as many elements as the strategy says,
--- if it opens one.
+-- How many values fit into a slot of the segment that a longer loan opens: enough for as many elements as the strategy says. None if
+-- no segment is opened.
 abbrev pub SegmentRoom : AllocationStrategy → ℕ → ℕ → ℕ → Option ℕ → Type 0
 SegmentRoom allocation unit values elements room =
     (length : Option ℕ) × SegmentLength allocation elements length × (room ≡ room_for unit values length)
@@ -28,9 +28,9 @@ SegmentRoom allocation unit values elements room =
 pub record CountsElements : Type 0 where
   -- A loan of elements with one value each is as long as it has values.
   pub single : (values : ℕ) → extent 1 values values ≡ values
-  -- A loan fits into a slot with room for `length` elements exactly if it has at most `length` elements.
+  -- A loan fits into a slot with capacity for `length` elements exactly if it has at most `length` elements.
   pub fits : (unit elements length : ℕ) → (extent unit (elements * unit) elements ≤ span unit length) ↔ (elements ≤ length)
-  -- A segment has room for just as many elements as the strategy says, and for fewer than 2^32 values.
+  -- A slot of a segment has capacity for just as many elements as the strategy says, and for fewer than 2^32 values.
   pub opens : (allocation : AllocationStrategy) (unit elements room : ℕ)
       → SegmentRoom allocation unit (elements * unit) elements (Some room)
       → (length : ℕ) × SegmentLength allocation elements (Some length) × (room ≡ span unit length) × (room < 2 ^ 32)

@@ -44,8 +44,8 @@ abbrev pub LendsInNew : {T U : Type 0} → ℕ → ℕ → ℕ → PublisherPort
 LendsInNew room values elements old answer new =
     LendsHere values elements (with_sender (opened_for room old.sender) old) answer new ⊎ LacksMemory old answer new
 
--- A loan is made in a new segment with room for so many values, if the strategy allows that length and the publisher may have
--- one more segment.
+-- A loan is made in a new segment whose slots have capacity for `room` values each, if the strategy allows that length and the
+-- publisher may have one more segment.
 abbrev pub LendsBeyond : {T U : Type 0} → Option ℕ → Bool → ℕ → ℕ → PublisherPort T U → Result ℕ LoanError → PublisherPort T U → Type 0
 LendsBeyond None more values elements old answer new = LacksMemory old answer new
 LendsBeyond (Some room) false values elements old answer new = LacksMemory old answer new

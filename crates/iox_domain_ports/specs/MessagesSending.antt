@@ -21,7 +21,7 @@ pub record SenderState (T U : Type 0) : Type 0 where
 abbrev pub with_uses : {T U : Type 0} → Uses (Loan T U) (Message T U) → SenderState T U → SenderState T U
 with_uses uses sender = record sender { uses = uses }
 
--- The connection with each message replaced by its name.
+-- The connection with this function applied to each message.
 abbrev pub connection_by : {X Y : Type 0} → (X → Y) → Connection X → Connection Y
 connection_by name connection = record {
   stage = connection.stage;
@@ -30,7 +30,7 @@ connection_by name connection = record {
   borrowed = map name connection.borrowed;
 }
 
--- The uses with each loan and each message replaced by its name.
+-- The uses with these functions applied to each loan and each message.
 abbrev pub uses_by : {L X M Y : Type 0} → (L → M) → (X → Y) → Uses L X → Uses M Y
 uses_by loan message uses = record {
   first = uses.first;
@@ -129,7 +129,7 @@ masked [] values = []
 masked (written ∷ marks) [] = []
 masked (written ∷ marks) (value ∷ values) = (if written then Some value else None) ∷ masked marks values
 
--- The message that the contents of this slot are.
+-- The contents of this slot as a message.
 abbrev pub message_in : {T U : Type 0} → Store T U → ℕ → Message T U
 message_in store slot = record {
   slot = slot;
@@ -139,7 +139,7 @@ message_in store slot = record {
   values = payload_at slot store.values;
 }
 
--- The loan that the contents of this slot are.
+-- The contents of this slot as a loan.
 abbrev pub loan_in : {T U : Type 0} → Store T U → ℕ → Loan T U
 loan_in store slot = record {
   slot = slot;
@@ -162,7 +162,7 @@ sender_of payloads blank uses = record {
 abbrev pub seen_sender : {T U : Type 0} → Store T U → Uses ℕ ℕ → SenderState T U
 seen_sender store uses = sender_of store.values store.blank (uses_by (loan_in store) (message_in store) uses)
 
--- The publisher after a segment with room for so many values in each slot was opened.
+-- The publisher after a segment was opened whose slots have capacity for `room` values each.
 abbrev pub opened_for : {T U : Type 0} → ℕ → SenderState T U → SenderState T U
 opened_for room sender = record sender { room = room; segments = sender.segments + 1; uses = segment_opened sender.uses }
 

@@ -2,8 +2,8 @@
 use Rattle.std.specs.Prelude.{ℕ, ◌-◌, ◌<◌, ◌≡◌, List, [], ◌∷◌, ◌++◌, length, get_or, set, replicate}
 use Rattle.iox_domain_ports.specs.Rows.{RowsState}
 
--- The values of each slot. Slots come in segments of `size` slots, at most `most_segments` segments; each slot of the last one
--- has room for `room` values.
+-- The values of each slot. Slots come in segments of `size` slots, at most `most_segments` segments; each slot of the last one has
+-- capacity for `room` values.
 pub record PayloadsState (T : Type 0) : Type 0 where
   pub size : ℕ
   pub segments : ℕ
@@ -24,7 +24,7 @@ payload_at slot state = get_or state.payloads slot []
 abbrev pub with_payload : {T : Type 0} → ℕ → List T → PayloadsState T → PayloadsState T
 with_payload slot values state = record state { payloads = set state.payloads slot values }
 
--- No rows, with no room.
+-- No rows, of capacity 0.
 abbrev pub no_rows : {T : Type 0} → RowsState T
 no_rows = record { room = 0; rows = [] }
 

@@ -1,5 +1,5 @@
 -- Values at places, and to whom a connection leads.
-use Rattle.std.specs.Prelude.{ℕ, ◌-◌, ◌==◌, ◌++◌, Bool, false, List, length, replicate, Option, None, Some, if◌then◌else◌}
+use Rattle.std.specs.Prelude.{ℕ, ◌-◌, ◌==◌, ◌≤◌, ◌++◌, Bool, false, List, length, replicate, Option, None, Some, if◌then◌else◌}
 use Rattle.iox_domain_ports.specs.declared.reader.Reader.{Reader}
 use Rattle.iox_domain_ports.specs.declared.meeting.Meeting.{Meeting}
 use Rattle.iox_domain_ports.specs.declared.meeting.Meeting.TheVariants as meeting
@@ -27,3 +27,8 @@ is_attached (Some reader) = reader.attached
 abbrev pub unheard : Option Reader → Meeting
 unheard None = meeting.Passed
 unheard (Some reader) = if reader.attached then meeting.Full reader.subscriber else meeting.Passed
+
+-- A reader, if there is one, is a subscriber with at most this number.
+abbrev pub IsUpTo : ℕ → Option Reader → Type 0
+IsUpTo newest None = Unit {0}
+IsUpTo newest (Some reader) = reader.subscriber ≤ newest

@@ -1,5 +1,5 @@
 -- How far a send is.
-use Rattle.std.specs.Prelude.{ℕ, ◌+◌, ◌-◌, ◌^◌, Bool, true, false, min}
+use Rattle.std.specs.Prelude.{zero, suc, ℕ, ◌+◌, ◌-◌, ◌^◌, Bool, true, false, min}
 
 -- How far a send is: the next place of the list of subscribers, how often and for how long it was tried, how many connections
 -- took the message so far, and whether the send will fail.
@@ -17,6 +17,11 @@ start = record { place = 0; retries = 0; elapsed = 0; delivered = 0; fails = fal
 -- The progress after the place was skipped or done; the next place hasn't been tried yet.
 abbrev pub passed : ProgressState → ProgressState
 passed progress = record progress { place = progress.place + 1; retries = 0; elapsed = 0 }
+
+-- The progress after this many places were skipped.
+abbrev pub passed_all : ℕ → ProgressState → ProgressState
+passed_all zero progress = progress
+passed_all (suc count) progress = record progress { place = progress.place + suc count; retries = 0; elapsed = 0 }
 
 -- The progress after the connection of the place took the message.
 abbrev pub counted : ProgressState → ProgressState

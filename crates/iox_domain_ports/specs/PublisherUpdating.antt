@@ -48,7 +48,7 @@ abbrev pub may_fail : {T U : Type 0} → ℕ → ℕ → PublisherPort T U → B
 may_fail place subscriber port = nat_le port.ties.room place || is_none (connection_to subscriber port)
 
 -- The place is tied to the connection of its subscriber, which is made if there is none. As many messages may wait there as the
--- subscriber asks for, up to the publisher's limit. It fails only where `may_fail` says so, and then nothing changes.
+-- subscriber asks for, up to the publisher's limit. It fails only if `may_fail` says so, and then nothing changes.
 abbrev pub Ties : {T U : Type 0} → ℕ → SubscriberEntry → PublisherPort T U → Result (Unit {0}) AllocError → PublisherPort T U → Type 0
 Ties place entry old (Err error) new = (may_fail place entry.subscriber old ≡ true) × (new ≡ old)
 Ties {T} {U} place entry old (Ok done) new =
@@ -57,7 +57,8 @@ Ties {T} {U} place entry old (Ok done) new =
     (within_reach place old) (Ok index) joined)
     × (new ≡ tied place index joined)
 
--- A tie to the listed subscriber stays; otherwise the place is untied first and then tied anew.
+-- If the place is tied to the listed subscriber, nothing changes; otherwise the place is untied first and then tied to that
+-- subscriber.
 abbrev pub FollowsTo : {T U : Type 0} → ℕ → SubscriberEntry → Bool → PublisherPort T U → Result (Unit {0}) AllocError
     → PublisherPort T U → Type 0
 FollowsTo place entry true old answer new = (answer ≡ Ok tt) × (new ≡ old)
@@ -98,8 +99,8 @@ Asks may None port found false after = after ≡ found
 Asks may (Some member) port found false after =
     (action : DegradationAction) × may (told_of member.value port) action × (after ≡ first_failure found no_memory action)
 
--- The places from `place` on are followed one after the other; places behind the end of the list are followed as empty ones.
--- The call returns the first failure that the handler let fail.
+-- The places from `place` on are followed one after the other; places past the end of the list are followed as empty ones. The call
+-- returns the first failure that the handler let fail.
 abbrev pub FollowsAll : {T U : Type 0} → (DegradationInfo → DegradationAction → Type 0) → ℕ → List (Option (Member SubscriberEntry))
     → Option ConnectionFailure → PublisherPort T U → Result (Unit {0}) ConnectionFailure → PublisherPort T U → Type 0
 FollowsAll may place [] found old answer new = (answer ≡ update_answer found)

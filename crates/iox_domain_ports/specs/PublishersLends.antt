@@ -7,6 +7,6 @@ use Rattle.iox_domain_ports.specs.Publishers.{with_port}
 use Rattle.iox_domain_ports.specs.contracts.publishers.Publishers.{the_row}
 
 module _ (T U : RattleType) where
-  -- The publishers end with the last publisher behind the reference under this number; if none was lent, they are unchanged.
+  -- When the reference ends, its last publisher is stored under this number; if there was no reference, the publishers are unchanged.
   abbrev pub LendsPort : MutBor (List (ℕ × PublisherPort T.Denot U.Denot)) → ℕ → Option (MutBor (PublisherPort T.Denot U.Denot)) → Fml
   LendsPort ports number answer = LendsIf (the_row T U) (port.the_row T U) ports answer (with_port number ports.now) ports.now

@@ -130,7 +130,7 @@ Receives port ports answer port_after ports_after =
     (taken : Option Taken) × Serves port ports taken port_after ports_after
     × IsReceiveAnswer taken (has_data port_after ports_after) answer
 
--- how many of the keys from one on have a connection
+-- How many of the keys from this one on have a connection.
 abbrev pub unmet_from : ℕ → List (Option Attached) → ℕ
 unmet_from key connections = count_by is_some (drop key connections)
 

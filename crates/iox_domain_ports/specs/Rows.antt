@@ -1,4 +1,4 @@
--- Rows of values, each with the same room.
+-- Rows of values, each with the same capacity.
 use Rattle.std.specs.Prelude.{ℕ, ◌≤◌, List, [], ◌∷◌, get_or, set, take, drop}
 
 -- Rows of at most `room` values.
@@ -14,7 +14,7 @@ row_at row state = get_or state.rows row []
 abbrev pub with_row : {T : Type 0} → ℕ → List T → RowsState T → RowsState T
 with_row row values state = record state { rows = set state.rows row values }
 
--- The rows of these lengths in one list of values, each at the start of its room.
+-- The rows of these lengths, which lie in one list of values: each row begins a block of `room` values.
 abbrev pub rows_in : {T : Type 0} → ℕ → List ℕ → List T → List (List T)
 rows_in room [] values = []
 rows_in room (count ∷ lengths) values = take count values ∷ rows_in room lengths (drop room values)

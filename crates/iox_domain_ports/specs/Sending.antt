@@ -103,7 +103,7 @@ Steps may (meeting.Full subscriber) port went new =
     (decision : BackpressureDecision) × may (info_of subscriber port) decision × (went ≡ goes_on_by decision)
     × (new ≡ decided_by decision port)
 
--- If the send stops at this place, it hasn't arrived, and the state stays; otherwise it continues.
+-- If the send stops at this place, it hasn't visited all places, and the state stays; otherwise it continues.
 abbrev pub GoesOn : {T U : Type 0} → Bool → Bool → PublisherPort T U → PublisherPort T U → Type 0 → Type 0
 GoesOn false arrived next new further = (arrived ≡ false) × (new ≡ next)
 GoesOn true arrived next new further = further
@@ -117,14 +117,14 @@ Delivers {T} {U} may (suc places) old arrived new =
     × (Steps may (meeting_at old.progress.place old) (met old.progress.place old) went next)
     × (GoesOn went arrived next new (Delivers may places next arrived new))
 
--- What a send answers: an error if it arrived and is to fail, how many connections took the message if it arrived, and
--- `Blocked` if it is blocked.
+-- What a send answers: an error if it visited all places and is to fail; how many connections took the message if it visited all
+-- places otherwise; and `Blocked` if it is blocked.
 abbrev pub sent_answer : Bool → ProgressState → Result Sent SendError
 sent_answer arrived progress =
     if arrived then (if progress.fails then Err sending.UnableToDeliver else Ok (sent.Delivered progress.delivered)) else Ok sent.Blocked
 
--- The publisher after the send was finished, if it arrived; its message stays in use only where the history or a connection has
--- it.
+-- The publisher after the send was finished, if it visited all places; its message stays in use only where the history or a
+-- connection has it.
 abbrev pub concluded : {T U : Type 0} → Bool → PublisherPort T U → PublisherPort T U
 concluded arrived port = if arrived then record port { sender = with_uses (finished port.sender.uses) port.sender } else port
 

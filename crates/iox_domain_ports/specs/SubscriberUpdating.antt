@@ -60,7 +60,7 @@ abbrev pub FollowsNoneIf : {T U : Type 0} → Bool → ℕ → SubscriberPort �
 FollowsNoneIf true place port ports new new_ports = (new ≡ port) × (new_ports ≡ ports)
 FollowsNoneIf false place port ports new new_ports = FollowsNone place port ports new new_ports
 
--- Those of `count` places from `place` on that list no publisher are followed, one after the other.
+-- Of the `count` places from `place` on, those that list no publisher are followed, one after the other.
 abbrev pub FollowsNones : {T U : Type 0} → List (Option (Member PublisherEntry)) → ℕ → ℕ → SubscriberPort → List (ℕ × PublisherPort T U)
     → SubscriberPort → List (ℕ × PublisherPort T U) → Type 0
 FollowsNones listed place zero port ports new new_ports = (new ≡ port) × (new_ports ≡ ports)
@@ -86,7 +86,7 @@ UpdatesIf true may listed changes port ports answer new new_ports = (answer ≡ 
 UpdatesIf false may listed changes port ports answer new new_ports
     = FollowsList may listed (record port { seen = changes; again = false }) ports answer new new_ports
 
--- What an update answers and changes: nothing, if the list of publishers didn't change since the last update and that refused
+-- What an update answers and changes: nothing, if the list of publishers didn't change since the last update and that update refused
 -- no publisher; otherwise the list is followed.
 abbrev pub Updates : {T U : Type 0} → (DegradationInfo → DegradationAction → Type 0) → List (Option (Member PublisherEntry)) → ℕ
     → SubscriberPort → List (ℕ × PublisherPort T U) → Result (Unit {0}) ConnectionFailure → SubscriberPort

@@ -8,7 +8,7 @@ use Rattle.iox_domain_ports.specs.PublisherUpdating.{Updates}
 use Rattle.iox_domain_ports.specs.declared.publisher_port.PublisherPort.{PublisherPort}
 use Rattle.iox_domain_ports.specs.declared.subscriber_entry.SubscriberEntry.{SubscriberEntry}
 
--- Both lists have the same entry at each place; a place behind the end of a list is empty.
+-- Both lists have the same entry at each place; a place past the end of a list is empty.
 abbrev pub TellTheSame : List (Option (Member SubscriberEntry)) → List (Option (Member SubscriberEntry)) → Type 0
 TellTheSame one other = (place : ℕ) → get_or one place None ≡ get_or other place None
 

@@ -7,14 +7,13 @@ use Rattle.iox_domain_ports.specs.declared.publisher_port.PublisherPort.{Publish
 use Rattle.iox_domain_ports.specs.contracts.publisher_port.PublisherPort.{the_row}
 
 module _ (T U : RattleType) where
-  -- The publisher ends with the last value behind the reference written at this place of the loan in this slot; if nothing was
-  -- lent, it is unchanged.
+  -- When the reference ends, its last value is written at this place of the loan in this slot; if there was no reference, the
+  -- publisher is unchanged.
   abbrev pub LendsValue : MutBor (PublisherPort T.Denot U.Denot) → ℕ → ℕ → Option (MutBor T.Denot) → Fml
   LendsValue port slot place answer = LendsIf (the_row T U) T port answer
       (λ value. changed_there slot (write_value place value) port.now) port.now
 
-  -- The publisher ends with the last user header behind the reference in the loan in this slot; if nothing was lent, it is
-  -- unchanged.
+  -- When the reference ends, its last user header is in the loan in this slot; if there was no reference, the publisher is unchanged.
   abbrev pub LendsUserHeader : MutBor (PublisherPort T.Denot U.Denot) → ℕ → Option (MutBor U.Denot) → Fml
   LendsUserHeader port slot answer = LendsIf (the_row T U) U port answer
       (λ user_header. changed_there slot (write_user_header user_header) port.now) port.now

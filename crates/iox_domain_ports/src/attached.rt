@@ -47,7 +47,7 @@ pub(crate) struct Asked {
 /// The expired connections that a receive meets before one that gives.
 #[derive(Clone, Copy)]
 pub(crate) struct Met {
-    /// How many they are.
+    /// The number of these connections.
     pub count: usize,
     /// The place of the first of them that is idle, or `count` if none is.
     pub idle: usize,

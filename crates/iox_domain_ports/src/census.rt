@@ -1,5 +1,5 @@
 //! How much of each owner is alive, counted as ports change.
-ghost use Rattle.std.specs.Prelude.{◌≡◌, ℕ, ◌+◌, ◌==◌, ◌<◌, ◌^◌, Option, IfSome, true, false, if◌then◌else◌, []};
+ghost use Rattle.std.specs.Prelude.{◌≡◌, ℕ, ◌+◌, ◌==◌, ◌<◌, ◌≤◌, ◌^◌, Option, IfSome, IsSome, true, false, if◌then◌else◌, []};
 ghost use Rattle.iox_domain_ports.specs.Census.{amount, no_share, count_under, tallied, Exchanges};
 
 use crate::living::counted;
@@ -159,11 +159,13 @@ impl Census {
     }
 
     /// How much of the owner is alive, or of all owners if none is named, if the current share of the port handed out last is
-    /// `now`. None if the counts aren't valid.
+    /// `now`. None only if the counts aren't valid, or their sum with that share isn't below 2^64.
     pub fn told(&self, owner: Option<u64>, now: Share) -> Option<u64>
         ensures holds { IfSome result (λ count. self.now.holds ≡ true) }
         ensures fits { IfSome result (λ count. count < 2 ^ 64) }
         ensures counts { IfSome result (λ count. count + amount owner self.now.noted ≡ tallied owner self.now + amount owner now) }
+        ensures valid { self.now.holds ≡ true → tallied owner self.now + amount owner now < 2 ^ 64
+            → amount owner self.now.noted ≤ tallied owner self.now + amount owner now → IsSome result }
     {
         if !self.holds {
             return None;

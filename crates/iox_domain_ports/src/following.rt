@@ -40,8 +40,8 @@ impl SubscriberPort {
         self.expired.push(key);
     }
 
-    // Ends the connection with this key if nothing of it is borrowed. Otherwise the connection expires in place of an expired
-    // one of which nothing is borrowed, if there is one. Answers whether its place is free then.
+    // Ends the connection with this key if nothing of it is borrowed. Otherwise the connection expires in place of an expired one of
+    // which nothing is borrowed, if there is one. Answers whether its place is free then.
     fn part_borrowed<T: Copy, U: Copy>(
         &mut self,
         key: usize,

@@ -1,5 +1,7 @@
 //! The keys of connections in an order.
-ghost use Rattle.std.specs.Prelude.{◌≡◌, ◌≢◌, ◌≤◌, ℕ, length, nat_le, slice_get, get_or, remove, [], IfOk, true, false};
+ghost use Rattle.std.specs.Prelude.{◌≡◌, ◌≢◌, ◌<◌, ◌≤◌, ◌==◌, ℕ, length, nat_le, slice_get, get_or, remove, [], IfOk, true, false};
+ghost use Rattle.std.specs.List.{list_any};
+ghost use Rattle.std.specs.Vec.{vec_capacity};
 ghost use Rattle.iox_domain_ports.specs.Keys.{KeysState, with_last, IsKeyOf};
 
 use std::alloc::{AllocError, Global};
@@ -7,7 +9,7 @@ use std::marker::Model;
 
 /// Keys in the order in which they were added, up to a maximum. `new` allocates all memory for them.
 ///
-/// A flag for each key that was reached says whether the key is among them, so no search is needed for that.
+/// A flag for each key below a maximum says whether the key is among them, so no search is needed for that.
 #[derive(Drop)]
 pub struct Keys {
     items: Vec<usize>,
@@ -17,7 +19,7 @@ pub struct Keys {
 }
 
 impl Model for Keys {
-    ghost use Rattle.std.specs.Prelude.{◌≡◌, ◌≤◌, ℕ, length, get_or, vec_capacity, true, false};
+    ghost use Rattle.std.specs.Prelude.{◌≡◌, ◌<◌, ◌≤◌, ℕ, length, get_or, vec_capacity, true, false};
     ghost use Rattle.iox_domain_ports.specs.Keys.{KeysState, IsKeyOf};
 
     ghost Value = { KeysState };
@@ -25,7 +27,9 @@ impl Model for Keys {
     ghost view = { λ k. record { items = k.items.items; room = k.room } };
 
     ghost invariant = { λ k. (k.room ≤ vec_capacity k.items) × (length k.items.items ≤ k.room)
-        × ((key : ℕ) → get_or k.flags.items key false ≡ true → IsKeyOf key k.items.items) };
+        × ((key : ℕ) → get_or k.flags.items key false ≡ true → IsKeyOf key k.items.items)
+        × ((key : ℕ) → key < k.most_flags → IsKeyOf key k.items.items → get_or k.flags.items key false ≡ true)
+        × (length k.flags.items ≤ k.most_flags) × (k.most_flags ≤ vec_capacity k.flags) };
 }
 
 impl Keys {
@@ -50,7 +54,7 @@ impl Keys {
         self.items.len()
     }
 
-    /// Whether there is no room for one more key.
+    /// Whether there are as many keys as the capacity permits.
     pub fn is_full(&self) -> bool
         ensures { result ≡ nat_le self.now.room (length self.now.items) }
     {
@@ -64,15 +68,19 @@ impl Keys {
         self.items.get(place).copied()
     }
 
-    /// Whether the key's flag says that it is among the keys. Only keys below `most_flags` of `new` have flags; for others the
-    /// answer is false.
-    pub fn is_flagged(&self, key: usize) -> bool
-        ensures { result ≡ true → IsKeyOf key self.now.items }
+    /// Whether the key is among the keys. Keys below `most_flags` of `new` have flags; only others are searched for.
+    pub fn has(&self, key: usize) -> bool
+        ensures there { result ≡ true → IsKeyOf key self.now.items }
+        ensures all { IsKeyOf key self.now.items → result ≡ true }
     {
-        key < self.flags.len() && self.flags[key]
+        if key < self.most_flags {
+            key < self.flags.len() && self.flags[key]
+        } else {
+            is_in(self.items.as_slice(), key)
+        }
     }
 
-    /// Adds a key behind the others, if there is room; otherwise nothing happens.
+    /// Appends a key; if there are as many keys as the capacity permits, nothing happens.
     pub fn push(&mut self, key: usize)
         ensures { self.new ≡ with_last key self.old }
     {
@@ -87,15 +95,29 @@ impl Keys {
         ensures { self.new ≡ record self.old { items = remove self.old.items place } }
     {
         if place < self.items.len() {
-            unflag(&mut self.flags, self.items[place]);
-            let _ = self.items.remove(place);
+            let key = self.items.remove(place);
+            if !is_in(self.items.as_slice(), key) {
+                unflag(&mut self.flags, key);
+            }
         }
     }
 }
 
+// Whether the key is one of these.
+fn is_in(keys: &[usize], key: usize) -> bool
+    ensures { result ≡ list_any (λ other. other == key) keys.now }
+{
+    keys.iter().any(|other| *other == key)
+}
+
 // Sets the flag of the key, if the key is below `most`.
 fn flag(flags: &mut Vec<bool>, key: usize, most: usize)
-    ensures { (other : ℕ) → other ≢ key → get_or flags.new.items other false ≡ get_or flags.old.items other false }
+    requires short { length flags.old.items ≤ most }
+    requires room { most ≤ vec_capacity flags.old }
+    ensures set { key < most → get_or flags.new.items key false ≡ true }
+    ensures short { length flags.new.items ≤ most }
+    ensures room { vec_capacity flags.old ≤ vec_capacity flags.new }
+    ensures others { (other : ℕ) → other ≢ key → get_or flags.new.items other false ≡ get_or flags.old.items other false }
 {
     if most <= key {
         return;
@@ -112,6 +134,8 @@ fn flag(flags: &mut Vec<bool>, key: usize, most: usize)
 // Clears the flag of the key.
 fn unflag(flags: &mut Vec<bool>, key: usize)
     ensures none { get_or flags.new.items key false ≡ false }
+    ensures short { length flags.new.items ≡ length flags.old.items }
+    ensures room { vec_capacity flags.old ≤ vec_capacity flags.new }
     ensures others { (other : ℕ) → other ≢ key → get_or flags.new.items other false ≡ get_or flags.old.items other false }
 {
     if key < flags.len() {

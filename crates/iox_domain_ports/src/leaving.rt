@@ -3,17 +3,17 @@ ghost use Rattle.std.specs.Prelude.{◌≡◌, ◌<◌, ◌^◌, IfOk, true, [],
 ghost use Rattle.iox_domain_ports.specs.Leaving.{new_port, parted_at, departed};
 
 use crate::messages::{Sender, SenderConfig};
-use crate::places::Places;
 use crate::progress::Progress;
 use crate::publisher_port::PublisherPort;
+use crate::readers::Readers;
 use crate::ties::Ties;
 use iox_domain_values::{AllocationStrategy, PortIdentity};
 use std::alloc::{AllocError, Global};
 
 impl<T: Copy, U: Copy> PublisherPort<T, U> {
-    /// A publisher that is connected to nobody yet, and is to be listed at its place. It has capacity for `most_subscribers`
-    /// places of the list of subscribers, and its elements have `unit` values each. Its first message gets the sequence number
-    /// behind `last_sequence`; messages aren't numbered if that is None. The call fails only if an allocation fails.
+    /// A publisher that isn't connected to any subscriber yet, and is to be listed at its place. It has capacity for
+    /// `most_subscribers` places of the list of subscribers, and its elements have `unit` values each. Its first message gets the
+    /// sequence number after `last_sequence`; messages aren't numbered if that is None. The call fails only if an allocation fails.
     pub fn new(
         alloc: Global,
         identity: PortIdentity,
@@ -43,7 +43,7 @@ impl<T: Copy, U: Copy> PublisherPort<T, U> {
             seen: 0,
             last_sequence,
             ties: Ties::new(alloc, most_subscribers)?,
-            readers: Places::new(alloc),
+            readers: Readers::new(alloc),
             progress: Progress::start(),
             sender: Sender::new(alloc, config, blank, user_header)?,
         })

@@ -4,8 +4,8 @@ ghost use Rattle.iox_domain_ports.specs.Lengths.{span, extent, room_for, Segment
 
 use iox_domain_values::AllocationStrategy;
 
-/// How many values' memory these elements take, of `unit` values each. An element without values takes as much as one value, so
-/// that lengths are counted for such elements, too.
+/// How many values these elements take memory for, if each has `unit` values. An element without values takes as much as one value,
+/// so that lengths are counted for such elements, too.
 ///
 /// Ported from `iceoryx2::service::static_config::message_type_details::MessageTypeDetails::sample_layout`, in values.
 pub fn span(unit: usize, elements: u64) -> u128
@@ -14,14 +14,14 @@ pub fn span(unit: usize, elements: u64) -> u128
     elements as u128 * unit.max(1) as u128
 }
 
-// How many values' memory a loan takes.
+// How many values a loan takes memory for.
 fn extent(unit: usize, values: usize, elements: u64) -> u128
     ensures { result ≡ extent unit values elements }
 {
     span(unit, elements).max(values as u128)
 }
 
-// Whether a loan of so many values and elements fits into a slot with room for `room` values.
+// Whether a loan of these values and elements fits into a slot with capacity for `room` values.
 pub(crate) fn fits(unit: usize, values: usize, elements: u64, room: usize) -> bool
     ensures fits { result ≡ nat_le (extent unit values elements) room }
     ensures values { result ≡ true → values ≤ room }
@@ -29,8 +29,8 @@ pub(crate) fn fits(unit: usize, values: usize, elements: u64, room: usize) -> bo
     extent(unit, values, elements) <= room as u128
 }
 
-// For how many values the slots of a segment have room that is opened for a loan of so many values and elements; None if no
-// such segment may be opened.
+// How many values fit into a slot of the segment that is opened for a loan of these values and elements; None if no such segment may
+// be opened.
 pub(crate) fn segment_room(
     allocation: AllocationStrategy,
     unit: usize,
@@ -44,7 +44,7 @@ pub(crate) fn segment_room(
     room_for(unit, values, length)
 }
 
-// For how many values the slots of a segment have room that is to have room for `length` elements and for these values.
+// How many values fit into a slot that is to hold `length` elements, and at least these values.
 fn room_for(unit: usize, values: usize, length: usize) -> Option<usize>
     ensures room { result ≡ room_for unit values (Some length) }
     ensures fits { IfSome result (λ room. values ≤ room) }

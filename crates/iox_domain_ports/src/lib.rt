@@ -1,10 +1,10 @@
 //! One publisher with its messages and connections, and one subscriber over the publishers of its service.
 //!
 //! - [`messages`]: a publisher's messages and loans by their contents, over the slots that they are in.
-//! - [`places`]: values at places, allocated when a place is first needed.
 //! - [`ties`]: which connection each place of a list is tied to.
 //! - [`meeting`]: what a message meets at a place, and what a send answers.
 //! - [`reader`]: to whom a connection leads.
+//! - [`readers`]: to whom each connection of a publisher leads.
 //! - [`subscriber_entry`]: an entry of the list of subscribers.
 //! - [`progress`]: how far a send is.
 //! - [`publisher_port`]: a publisher.
@@ -60,7 +60,6 @@ pub mod living;
 pub mod loaning;
 pub mod meeting;
 pub mod messages;
-pub mod places;
 pub mod progress;
 pub mod publisher_entry;
 pub mod publisher_laws;
@@ -68,6 +67,7 @@ pub mod publisher_port;
 pub mod publisher_updating;
 pub mod publishers;
 pub mod reader;
+pub mod readers;
 pub mod reading;
 pub mod receiving;
 pub mod sending;
@@ -83,12 +83,12 @@ pub use census::{Census, Share};
 pub use keys::Keys;
 pub use meeting::{Meeting, Sent};
 pub use messages::{Member, SenderConfig};
-pub use places::Places;
 pub use progress::Progress;
 pub use publisher_entry::PublisherEntry;
 pub use publisher_port::PublisherPort;
 pub use publishers::Publishers;
 pub use reader::Reader;
+pub use readers::Readers;
 pub use subscriber_entry::SubscriberEntry;
 pub use subscriber_port::SubscriberPort;
 pub use ties::Ties;

@@ -15,8 +15,8 @@ pub fn living_of_publisher<T: Copy, U: Copy>(port: &PublisherPort<T, U>) -> u64
     u64::from(port.stands).saturating_add(loans)
 }
 
-/// How much of a subscriber is alive: itself while it is open, and each sample that it received and that is held. At most 2^64
-/// - 1 is answered.
+/// How much of a subscriber is alive: itself while it is open, and each sample that it received and that is held.
+/// At most 2^64 - 1 is answered.
 pub fn living_of_subscriber(port: &SubscriberPort) -> u64
     ensures { result ≡ min (living_of_subscriber port.now) (2 ^ 64 - 1) }
 {

@@ -13,14 +13,14 @@ impl<T: Copy, U: Copy> PublisherPort<T, U> {
     /// Loans a slot for `values` values, of which none is written, and answers the slot; the message's header says `elements`
     /// elements. The call answers None, and nothing happens, while a send of this publisher is blocked.
     ///
-    /// The call fails with the first of these errors that applies: `ExceedsMaxLoanSize` if the strategy is static and the loan
-    /// is longer than a slot; `ExceedsMaxLoans` if as many loans exist as the limit allows; `OutOfMemory` if each slot of the
-    /// current segment is in use. Other strategies open a new segment for a longer loan, and for nothing else. Then
-    /// `OutOfMemory` means that the slots of the segment would have room for more than 2^32 - 1 values, that as many segments
-    /// exist as the limit allows, or that an allocation failed. The length of a loan is that of all values of its elements, or
-    /// `values` if that is more. A loan that fits allocates nothing. With at least as many slots in a segment as the worst case
-    /// needs, a loan that fits always finds a slot, and an error changes nothing; with fewer slots a new segment may stay
-    /// although nothing is loaned. `blank` fills a new segment.
+    /// The call fails with the first of these errors that applies: `ExceedsMaxLoanSize` if the strategy is static and the loan is
+    /// longer than a slot; `ExceedsMaxLoans` if as many loans exist as the limit allows; `OutOfMemory` if each slot of the current
+    /// segment is in use. Other strategies open a new segment for a longer loan, and for nothing else. Then `OutOfMemory` means that
+    /// a slot of the segment would need capacity for more than 2^32 - 1 values, that as many segments exist as the limit allows, or
+    /// that an allocation failed. The length of a loan is that of all values of its elements, or `values` if that is more. A loan
+    /// that fits allocates nothing. With at least as many slots in a segment as the worst case needs, a loan that fits always finds a
+    /// slot, and an error changes nothing; with fewer slots a new segment may stay although nothing is loaned. `blank` fills a new
+    /// segment.
     ///
     /// Ported from `iceoryx2::port::publisher::Publisher::loan_slice_uninit`.
     pub fn loan(

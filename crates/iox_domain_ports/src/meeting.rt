@@ -15,10 +15,10 @@ pub enum Meeting {
 
 /// What a send answers.
 ///
-/// Ported from what `iceoryx2::port::publisher::Publisher::send` answers, which waits itself.
+/// Ported from what `iceoryx2::port::publisher::Publisher::send` answers; there the call blocks its caller at a full mailbox.
 #[derive(Clone, Copy, PartialEq, Eq)]
 pub enum Sent {
-    /// The send is finished, and so many connections took the message.
+    /// The send is finished; the number says how many connections took the message.
     Delivered(usize),
     /// The send is blocked at a full mailbox.
     Blocked,

@@ -1,6 +1,6 @@
 //! How far a send is.
 ghost use Rattle.std.specs.Prelude.{◌≡◌, ◌+◌, ◌<◌, ◌^◌};
-ghost use Rattle.iox_domain_ports.specs.Progress.{start, passed, counted, failing, tried_again};
+ghost use Rattle.iox_domain_ports.specs.Progress.{start, passed, passed_all, counted, failing, tried_again};
 
 use std::marker::Model;
 
@@ -81,6 +81,19 @@ impl Progress {
         ensures { self.new ≡ passed self.old }
     {
         self.place += 1;
+        self.retries = 0;
+        self.elapsed = 0;
+    }
+
+    /// Skips this many places.
+    pub fn pass_all(&mut self, count: usize)
+        requires { self.old.place + count < 2 ^ 64 }
+        ensures { self.new ≡ passed_all count self.old }
+    {
+        if count == 0 {
+            return;
+        }
+        self.place += count;
         self.retries = 0;
         self.elapsed = 0;
     }

@@ -1,8 +1,7 @@
 //! A publisher.
 use crate::messages::Sender;
-use crate::places::Places;
 use crate::progress::Progress;
-use crate::reader::Reader;
+use crate::readers::Readers;
 use crate::ties::Ties;
 use iox_domain_values::{AllocationStrategy, PortOwner};
 
@@ -15,7 +14,7 @@ pub struct PublisherPort<T, U> {
     pub service: u64,
     /// Its own number.
     pub number: u64,
-    /// The node to which it belongs.
+    /// Its owner, and the node in which it was created.
     pub owner: PortOwner,
     /// Its place in the list of publishers.
     pub place: usize,
@@ -23,7 +22,7 @@ pub struct PublisherPort<T, U> {
     pub allocation: AllocationStrategy,
     /// How many values an element has: 1, except if the values are the bytes of a payload that only the description defines.
     pub unit: usize,
-    /// Whether it is open, and so on the list of publishers.
+    /// Whether it is open. An open publisher is on the list of publishers.
     pub stands: bool,
     /// The number of changes of the list of subscribers when it was last followed.
     pub seen: u64,
@@ -32,7 +31,7 @@ pub struct PublisherPort<T, U> {
     /// For each place of the list of subscribers the index of the connection to which messages go.
     pub ties: Ties,
     /// For each index of a connection to whom the connection leads; None if it ended.
-    pub readers: Places<Reader>,
+    pub readers: Readers,
     /// How far the current send is, if there is one.
     pub progress: Progress,
     /// Its messages, and what its connections hold.

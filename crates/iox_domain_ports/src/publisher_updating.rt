@@ -46,6 +46,9 @@ impl<T: Copy, U: Copy> PublisherPort<T, U> {
         ensures same { OnlyConnections self.old self.new }
     {
         for place in first..self.ties.len() {
+            if self.ties.top() <= place {
+                return;
+            }
             self.untie(place);
         }
     }
@@ -132,7 +135,7 @@ impl<T: Copy, U: Copy> PublisherPort<T, U> {
         )
     }
 
-    // Follows each place of the list, and ends the connections of places behind its end.
+    // Follows each place of the list, and ends the connections of places past its end.
     fn follow_all<D: Degrades>(
         &mut self,
         alloc: Global,
@@ -151,11 +154,11 @@ impl<T: Copy, U: Copy> PublisherPort<T, U> {
         answer_of(found)
     }
 
-    /// Follows the list of subscribers, if it changed since it was last followed: connections of closed subscribers end, and
-    /// new subscribers are connected and get the newest messages of the history, as many as may wait there. A place behind the
-    /// end of the list lists nobody. If a connection fails the handler decides; after all places were tried, the call returns
-    /// the first failure for which the handler said `DegradeAndFail`. A connection fails only if it must be allocated and the
-    /// allocation fails, or if its place is beyond the number of subscribers for which the publisher was made.
+    /// Follows the list of subscribers, if it changed since it was last followed: connections of closed subscribers end, and new
+    /// subscribers are connected and get the newest messages of the history, as many as may wait there. A place past the end of the
+    /// list lists no subscriber. If a connection fails the handler decides; after all places were tried, the call returns the first
+    /// failure for which the handler said `DegradeAndFail`. A connection fails only if it must be allocated and the allocation fails,
+    /// or if its place is beyond the number of subscribers for which the publisher was made.
     ///
     /// Ported from `iceoryx2::port::publisher::Publisher::update_connections`.
     pub fn update<D: Degrades>(

@@ -98,7 +98,7 @@ impl<T: Copy, U: Copy> Publishers<T, U> {
         Ok(())
     }
 
-    /// Whether the publisher with this number exists and is open, and so on the list of publishers.
+    /// Whether the publisher with this number exists and is open. An open publisher is on the list of publishers.
     pub fn stands(&self, number: u64) -> bool
         ensures { result ≡ stands_in number self.now }
     {
@@ -155,8 +155,7 @@ impl<T: Copy, U: Copy> Publishers<T, U> {
         }
     }
 
-    /// Removes the publisher with this number if it is over: it is closed, and has neither loans nor connections nor a send
-    /// that waits.
+    /// Removes the publisher with this number if it is over: it is closed, and has neither loans nor connections nor a blocked send.
     pub fn settle(&mut self, number: u64)
         ensures { self.new ≡ settled number self.old }
     {
@@ -167,8 +166,8 @@ impl<T: Copy, U: Copy> Publishers<T, U> {
         }
     }
 
-    /// How much of the publishers of the owner is alive, or of all publishers if no owner is named: open publishers, their
-    /// loans, and the messages of sends that wait. At most 2^64 - 1 is answered.
+    /// How much of the publishers of the owner is alive, or of all publishers if no owner is named: open publishers, their loans, and
+    /// the messages of blocked sends. At most 2^64 - 1 is answered.
     pub fn living(&self, owner: Option<u64>) -> u64
         ensures { result ≡ min (living_publishers owner self.now) (2 ^ 64 - 1) }
     {

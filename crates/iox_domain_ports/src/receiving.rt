@@ -33,7 +33,7 @@ impl SubscriberPort {
         }
     }
 
-    // How many connections the keys behind one have, where so many have one from it on.
+    // How many of the keys after `key` have a connection; `unmet` of the keys from `key` on have one.
     fn unmet_behind(&self, key: usize, unmet: usize) -> usize
         requires { unmet ≡ unmet_from key self.now.connections.values }
         ensures { result ≡ unmet_from (key + 1) self.now.connections.values }
@@ -111,7 +111,7 @@ impl SubscriberPort {
                     unread,
                 };
             }
-            if !self.expired.is_flagged(key) {
+            if !self.expired.has(key) {
                 let asked = self.asked(key, publishers);
                 if asked.gives {
                     return Found {

@@ -23,7 +23,7 @@ use crate::subscriber_entry::SubscriberEntry;
 use iox_domain_values::{BackpressureDecision, BackpressureInfo, Decides, Degrades, SendError};
 use std::alloc::Global;
 
-// The sequence number behind the last one; None if messages aren't numbered.
+// The sequence number after the last one; None if messages aren't numbered.
 fn next_sequence(last: Option<u64>) -> Option<u64>
     requires { is_used_up last ≡ false }
     ensures { result ≡ next_sequence last }
@@ -34,7 +34,7 @@ fn next_sequence(last: Option<u64>) -> Option<u64>
     }
 }
 
-// Whether no sequence number is left behind the last one, because it is 2^64 - 1.
+// Whether the sequence numbers are used up, because the last one is 2^64 - 1.
 fn is_used_up(last: Option<u64>) -> bool
     ensures { result ≡ is_used_up last }
 {
@@ -87,7 +87,7 @@ impl<T: Copy, U: Copy> PublisherPort<T, U> {
         }
     }
 
-    // Continues behind a full mailbox, or stays there; answers whether it continued.
+    // Skips a full mailbox or stays at it, as the decision says; answers whether the send continues at the next place.
     fn decide(&mut self, decision: BackpressureDecision) -> bool
         requires { self.old.progress.place + 1 < 2 ^ 64 }
         ensures went { result ≡ goes_on_by decision }
@@ -133,7 +133,12 @@ impl<T: Copy, U: Copy> PublisherPort<T, U> {
     fn go_on<B: Decides>(&mut self, handlers: &B) -> bool
         ensures { Delivers (B.decides handlers.now) (length self.old.ties.items - self.old.progress.place) self.old result self.new }
     {
-        for _place in self.progress.place()..self.ties.len() {
+        let count = self.ties.len();
+        for place in self.progress.place()..count {
+            if self.ties.top() <= place {
+                self.progress.pass_all(count - place);
+                return true;
+            }
             if !self.step(handlers) {
                 return false;
             }
@@ -141,8 +146,8 @@ impl<T: Copy, U: Copy> PublisherPort<T, U> {
         true
     }
 
-    // Answers for a send that has arrived, or is blocked. Once the send has arrived, its message stays in use only where the history
-    // or a connection has it.
+    // Answers for a send that has visited all places, or is blocked. Once it has visited all of them, its message stays in use only
+    // where the history or a connection has it.
     fn conclude(&mut self, arrived: bool) -> Result<Sent, SendError>
         ensures answer { result ≡ sent_answer arrived self.old.progress }
         ensures after { self.new ≡ concluded arrived self.old }
@@ -157,7 +162,7 @@ impl<T: Copy, U: Copy> PublisherPort<T, U> {
         Ok(Sent::Delivered(self.progress.delivered()))
     }
 
-    // Continues the send that is under way.
+    // Continues the send that is in progress.
     fn deliver<B: Decides>(&mut self, handlers: &B) -> Result<Sent, SendError>
         ensures sends { Finishes (B.decides handlers.now) self.old result self.new }
         ensures all { self.old.sender.uses.overflows ≡ true → is_some self.old.sender.uses.sending ≡ true → self.old.progress ≡ start
@@ -170,7 +175,7 @@ impl<T: Copy, U: Copy> PublisherPort<T, U> {
     /// Tries once more the place at which the send is blocked, and continues; answers as `send` does. `elapsed` is the number of
     /// nanoseconds since this mailbox was first found full, as the caller measured it.
     ///
-    /// Not in `iceoryx2`: `iceoryx2::port::publisher::Publisher::send` waits itself.
+    /// Not in `iceoryx2`: `iceoryx2::port::publisher::Publisher::send` blocks its caller.
     pub fn retry<B: Decides>(&mut self, elapsed: u64, handlers: &B) -> Result<Sent, SendError>
         ensures { Finishes (B.decides handlers.now) (with_progress (tried_again elapsed self.old.progress) self.old) result self.new }
     {

@@ -18,11 +18,11 @@ pub struct SubscriberPort {
     pub service: u64,
     /// Its own number.
     pub number: u64,
-    /// The node to which it belongs.
+    /// Its owner, and the node in which it was created.
     pub owner: PortOwner,
     /// Its place in the list of subscribers.
     pub place: usize,
-    /// Whether it is open, and so on the list of subscribers.
+    /// Whether it is open. An open subscriber is on the list of subscribers.
     pub stands: bool,
     /// The maximum number of messages that wait for it in a connection.
     pub buffer_size: usize,
@@ -30,8 +30,8 @@ pub struct SubscriberPort {
     pub held: usize,
     /// The number of changes of the list of publishers when it was last followed.
     pub seen: u64,
-    /// Whether the list must be followed again, since a connection failed because no expired connection could make room for the
-    /// former one.
+    /// Whether the list must be followed again, because a publisher was refused: the former connection at its place could neither end
+    /// nor expire.
     pub again: bool,
     /// For each place of the list of publishers the key of its connection.
     pub places: Ties,

@@ -114,6 +114,9 @@ impl SubscriberPort {
     {
         let count = self.places.len();
         for place in 0..count {
+            if self.places.top() <= place {
+                return;
+            }
             self.follow_if_none(place, listed, publishers);
         }
     }
@@ -134,12 +137,12 @@ impl SubscriberPort {
         answer_of(found)
     }
 
-    /// Follows the list of publishers, if it changed since it was last followed, or a connection failed then because no expired
-    /// connection could make room. The subscriber attaches to new publishers. A connection whose publisher was closed ends if
-    /// it has neither waiting nor borrowed messages, and otherwise expires. If a connection fails the handler decides; after
-    /// all places were tried, the call returns the first failure for which the handler said `DegradeAndFail`. A connection
-    /// fails if an allocation fails, if its place is beyond the capacity, if no key is free, or if the former connection at its
-    /// place can't expire.
+    /// Follows the list of publishers, if it changed since it was last followed, or if a publisher was refused then because the
+    /// former connection at its place could neither end nor expire. The subscriber attaches to new publishers. A connection whose
+    /// publisher was closed ends if it has neither waiting nor borrowed messages, and otherwise expires. If a connection fails the
+    /// handler decides; after all places were tried, the call returns the first failure for which the handler said `DegradeAndFail`.
+    /// A connection fails if an allocation fails, if its place is beyond the capacity, if no key is free, or if the former connection
+    /// at its place can't expire.
     ///
     /// Ported from `iceoryx2::port::subscriber::Subscriber::update_connections`.
     pub fn update<T: Copy, U: Copy, D: Degrades>(

@@ -1,5 +1,5 @@
 //! Which connection each place of a list is tied to.
-ghost use Rattle.std.specs.Prelude.{◌≡◌, length, take, get_or, nat_le, None, IfOk};
+ghost use Rattle.std.specs.Prelude.{◌≡◌, ◌≢◌, ◌≤◌, ◌<◌, ℕ, length, take, get_or, nat_le, None, IfOk};
 ghost use Rattle.std.specs.Bool.{OnTrue, OnFalse};
 ghost use Rattle.iox_domain_ports.specs.Ties.{no_ties, ties_reached, tie_put, ties_cut, is_tie, has_tie};
 
@@ -11,18 +11,21 @@ use std::marker::Model;
 #[derive(Drop)]
 pub struct Ties {
     items: Vec<Option<usize>>,
+    // No place from this one on is tied.
+    top: usize,
     room: usize,
 }
 
 impl Model for Ties {
-    ghost use Rattle.std.specs.Prelude.{◌≤◌, length, vec_capacity};
+    ghost use Rattle.std.specs.Prelude.{◌≡◌, ◌≤◌, ℕ, get_or, length, vec_capacity, None};
     ghost use Rattle.iox_domain_ports.specs.Ties.{TiesState};
 
     ghost Value = { TiesState };
 
     ghost view = { λ t. record { items = t.items.items; room = t.room } };
 
-    ghost invariant = { λ t. (length t.items.items ≤ t.room) × (t.room ≤ vec_capacity t.items) };
+    ghost invariant = { λ t. (length t.items.items ≤ t.room) × (t.room ≤ vec_capacity t.items)
+        × (t.top ≤ length t.items.items) × ((place : ℕ) → t.top ≤ place → get_or t.items.items place None ≡ None) };
 }
 
 impl Ties {
@@ -32,6 +35,7 @@ impl Ties {
     {
         Ok(Ties {
             items: Vec::with_capacity(alloc, room)?,
+            top: 0,
             room,
         })
     }
@@ -41,6 +45,14 @@ impl Ties {
         ensures { result ≡ length self.now.items }
     {
         self.items.len()
+    }
+
+    /// A place from which on no place is tied. Walks over the ties stop there.
+    pub fn top(&self) -> usize
+        ensures bound { result ≤ length self.now.items }
+        ensures none { (place : ℕ) → result ≤ place → get_or self.now.items place None ≡ None }
+    {
+        self.top
     }
 
     /// What this place is tied to; None also if the place isn't reached.
@@ -83,6 +95,9 @@ impl Ties {
         ensures { self.new ≡ ties_cut count self.old }
     {
         self.items.truncate(count);
+        if self.items.len() < self.top {
+            self.top = self.items.len();
+        }
     }
 
     /// Ties a place that is reached, or unties it; at other places nothing happens.
@@ -91,6 +106,7 @@ impl Ties {
     {
         if place < self.items.len() {
             self.items[place] = tie;
+            self.top = top_after(self.items.as_slice(), self.top, place);
         }
     }
 }
@@ -103,4 +119,22 @@ fn is_tie(index: usize, tie: Option<usize>) -> bool
         Some(tie) => tie == index,
         None => false,
     }
+}
+
+// A place from which on none is tied, after one changed.
+fn top_after(items: &[Option<usize>], top: usize, changed: usize) -> usize
+    requires within { top ≤ length items.now }
+    requires changed { changed < length items.now }
+    requires none { (place : ℕ) → top ≤ place → place ≢ changed → get_or items.now place None ≡ None }
+    ensures within { result ≤ length items.now }
+    ensures none { (place : ℕ) → result ≤ place → get_or items.now place None ≡ None }
+{
+    let end = if top <= changed { changed + 1 } else { top };
+    for count in 0..end {
+        let place = end - 1 - count;
+        if items[place].is_some() {
+            return place + 1;
+        }
+    }
+    0
 }

@@ -240,7 +240,7 @@ none_left_of (x ∷ rest) done k =
     one_left (Some link) back
         = omega (arith, times_all k link.waiting link.borrowed link.returned, times_append k link.waiting link.borrowed, ap (times k) back)
 
--- no publisher has so many uses of its slots that they couldn't be counted
+-- each publisher has so few uses of its slots that they can be counted
 pub all_length : (overflows : Bool) (most_waiting most_borrowed : ℕ) (links : List (Option LinkState)) → most_waiting < 2 ^ 32
     → most_borrowed < 2 ^ 32
     → ((index : ℕ) → IsOf overflows most_waiting most_borrowed (get_or links index None)) → (k : ℕ)
@@ -350,7 +350,7 @@ put_some links index link within lowest other below = ⊎_elim
     (λ apart. rw (get_or-set_other links index other (Some link) None apart.1) (lowest other (omega (arith, below, apart.1))))
     (eqb_tells other index)
 
--- one comes behind the last, where each index has one
+-- one comes after the last, where each index has one
 pub end_kinds : (links : List (Option LinkState)) (overflows : Bool) (most_waiting most_borrowed : ℕ) (link : LinkState)
     → ((other : ℕ) → IsOf overflows most_waiting most_borrowed (get_or links other None))
     → IsOf overflows most_waiting most_borrowed (Some link)

@@ -13,12 +13,12 @@ use Rattle.iox_container.specs.Links.{LinksKeys, walk}
 use Rattle.iox_container.specs.Unique.{is_among}
 use Rattle.iox_domain_slots.specs.Counting.{times}
 use Rattle.iox_domain_slots.specs.Loans.{place_in}
-use Rattle.iox_domain_slots.specs.Borrowed.{cell_behind, cell_of, slots_in, IsOldest, IsNear, IsOnce}
+use Rattle.iox_domain_slots.specs.Borrowed.{cell_behind, cell_of, slots_in, IsOldest, IsNear, IsNearBelow, IsOnce}
 use Rattle.iox_domain_slots.proofs.Counts.{one, times_cons}
 use Rattle.iox_domain_slots.proofs.Enough.{pigeons}
 use Rattle.iox_domain_slots.proofs.Loaned.{among, is_there, isnt_there, isnt_lent, not_true, reverse_step, further_on}
 
--- each cell lies so many steps behind any other
+-- each cell lies n steps after any other
 pub steps_to : (cells home cell : ℕ) → home < cells → cell < cells → (step : ℕ) × (step < cells) × (cell_behind cells home step ≡ cell)
 steps_to cells home cell low within = at (nat_lt cell home) refl
   where
@@ -384,3 +384,66 @@ taken_out slot xs there k =
 
 pub one_fewer : (slot : ℕ) (xs : List ℕ) → is_among slot xs ≡ true → length (remove xs (place_in slot xs)) + 1 ≡ length xs
 one_fewer slot xs there = length_without xs (place_in slot xs) (stands_at slot xs (among slot xs there)).1
+
+-- what holds of the taken cells below one holds still: where cells are made, where one is taken, where one is taken no longer
+pub below_made : (cells : ℕ) (slots more order : List ℕ) (reach count : ℕ) → ((at : ℕ) → get_or more at 0 ≡ get_or slots at 0)
+    → IsNearBelow cells slots order reach count → IsNearBelow cells more order reach count
+below_made cells slots more order reach count same near cell below there =
+    let (at, few, is) = near cell below there in
+    (at, few, is ∙ ap (λ s. cell_of cells s at) (sym (same cell)))
+
+pub below_pushed : (cells : ℕ) (slots order : List ℕ) (reach count further step cell slot : ℕ) → IsNearBelow cells slots order reach count
+    → is_among cell order ≡ false → cell < length slots → cell ≡ cell_of cells slot step → step ≤ further → reach ≤ further
+    → IsNearBelow cells (set slots cell slot) (order ++ cell ∷ []) further count
+below_pushed cells slots order reach count further step cell slot near free within is low more other below there =
+    elim (cases_eq other cell) as (λ _. (at : ℕ) × (at ≤ further)
+    × (other ≡ cell_of cells (get_or (set slots cell slot) other 0) at)) [
+      | inl e ↦ (
+        step,
+        low,
+        e ∙ is
+            ∙ ap (λ s. cell_of cells s step)
+            (sym (ap (λ at. get_or (set slots cell slot) at 0) e ∙ get_or-set_same slots cell slot 0 within)),
+      )
+      | inr n ↦
+          let (at, few, was) = near other below (before_push other cell order there n) in (
+            at,
+            omega (arith, few, more),
+            was ∙ ap (λ s. cell_of cells s at) (sym (get_or-set_other slots cell other slot 0 n)),
+          )
+    ]
+
+pub below_removed : (cells : ℕ) (slots order : List ℕ) (reach count at : ℕ) → IsNearBelow cells slots order reach count
+    → IsNearBelow cells slots (remove order at) reach count
+below_removed cells slots order reach count at near cell below there = near cell below (was_among cell order at there)
+
+-- one cell more is examined
+pub below_next : (cells : ℕ) (slots order : List ℕ) (reach further step count : ℕ) → IsNearBelow cells slots order reach count
+    → (is_among count order ≡ true → count ≡ cell_of cells (get_or slots count 0) step) → step ≤ further → reach ≤ further
+    → IsNearBelow cells slots order further (count + 1)
+below_next cells slots order reach further step count near here low more cell below there =
+    elim (cases_eq cell count) as (λ _. (at : ℕ) × (at ≤ further) × (cell ≡ cell_of cells (get_or slots cell 0) at)) [
+      | inl e ↦ (
+        step,
+        low,
+        e ∙ here (subst (λ at. is_among at order ≡ true) e there) ∙ ap (λ at. cell_of cells (get_or slots at 0) step) (sym e),
+      )
+      | inr n ↦ let (at, few, is) = near cell (omega (arith, below, n)) there in (at, omega (arith, few, more), is)
+    ]
+
+-- where all cells that were made were examined, what was found is a reach
+pub below_all : (cells : ℕ) (slots order : List ℕ) (reach count : ℕ) → IsNearBelow cells slots order reach count
+    → ((cell : ℕ) → is_among cell order ≡ true → cell < count) → IsNear cells slots order reach
+below_all cells slots order reach count near made cell there = near cell (made cell there) there
+
+-- how far a cell lies behind another
+pub lies_before : (cells home cell : ℕ) → home < cells → cell < home → cell ≡ cell_behind cells home (cells - home + cell)
+lies_before cells home cell low before =
+    let test : nat_lt (cells - home + cell) (cells - home) ≡ false = grind (arith, nat_tests) in
+    rw test (omega (arith, before, low))
+
+pub lies_behind : (cells home cell : ℕ) → home < cells → cell < cells → home ≤ cell → cell ≡ cell_behind cells home (cell - home)
+lies_behind cells home cell low within behind =
+    let less : cell - home < cells - home = omega (arith, behind, low, within) in
+    let test : nat_lt (cell - home) (cells - home) ≡ true = grind (arith, nat_tests, less) in
+    rw test (omega (arith, behind, low, within))

@@ -1,4 +1,4 @@
--- How often a slot stands in a list, when the list changes.
+-- How often a list contains a slot, when the list changes.
 use Rattle.std.proofs.Common.{arith, ◌≡◌, ◌+◌, ◌-◌, ◌<◌, ◌≤◌, ◌∷◌, [], ◌++◌, ℕ, Bool, true, false, cond, List, length, get_or, set, zero}
 use Rattle.std.proofs.Common.{suc, refl, ◌∙◌}
 use Rattle.std.proofs.Math.Logic.{⊎_elim}

@@ -5,7 +5,7 @@ use Rattle.std.proofs.lemmas.Bool.Decides.{eqb_tells}
 use Rattle.iox_container.specs.Unique.{UniqueSetState, is_held, freed, settled, Takes}
 use Rattle.iox_container.specs.declared.release.ReleaseMode.TheVariants.{Default}
 
--- so many of the highest places are held just where their slots have a use, and all others are held
+-- n of the highest places are held just where their slots have a use, and all others are held
 pub record Freeing (start : UniqueSetState) (references : List ℕ) (first : ℕ) (now : UniqueSetState) (count : ℕ) : Type 0 where
   pub capacity : now.capacity ≡ start.capacity
   pub unlocked : now.locked ≡ false

@@ -49,7 +49,7 @@ none_at (suc size) (suc index) = none_at size index
 pub none_used : (size index : ℕ) → nat_lt 0 (get_or (replicate size 0) (0 + index) 0) ≡ false
 none_used size index = none_at size (0 + index)
 
--- slots without a use behind others change nobody's count
+-- slots without a use after others change nobody's count
 pub count_stays : (references : List ℕ) (size slot : ℕ) → get_or (references ++ replicate size 0) slot 0 ≡ get_or references slot 0
 count_stays [] zero slot = refl
 count_stays [] (suc size) zero = refl

@@ -1,4 +1,4 @@
--- A list of slots without one of them, read from either end, and the marks of who is in it.
+-- A list of slots without one of them, read from either end, and the marks of its members.
 use Rattle.std.proofs.Common.{arith, ◌≡◌, ◌≢◌, inl, inr, ◌+◌, ◌-◌, ◌^◌, ◌<◌, ◌≤◌, ◌==◌, ◌||◌, ◌∷◌, [], ◌++◌, ℕ, suc, Bool, true, false}
 use Rattle.std.proofs.Common.{List, length, get_or, nat_lt, remove, replicate, reverse, refl, sym, ap, ◌∙◌, subst}
 use Rattle.std.proofs.Math.Logic.{⊎_elim}

@@ -1,4 +1,4 @@
--- The history comes to a new connection, entry by entry.
+-- A new connection gets the history, entry by entry.
 use Rattle.std.proofs.Common.{rules, arith, ◌≡◌, ◌+◌, ◌-◌, ◌<◌, ◌≤◌, ◌∷◌, [], ◌++◌, ℕ, zero, suc, Bool, true, false, List, length, take}
 use Rattle.std.proofs.Common.{drop, get_or, nat_lt, if◌then◌else◌, refl, sym, ap, ◌∙◌}
 use Rattle.std.proofs.lemmas.List.{take_more, get_or-drop, length-take-le, length-drop, get_or-set_same}
@@ -8,7 +8,7 @@ use Rattle.iox_domain_slots.specs.declared.stage.Stage.TheVariants as stage
 use Rattle.iox_domain_slots.proofs.AllSlots.{set_twice}
 use Rattle.iox_domain_slots.specs.Uses.{Uses, Connection, connection_at, with_connection, offered}
 
--- so many of the last entries of the history have come, up to a place of it
+-- n of the last entries of the history have come, up to a place of it
 pub record Welcoming (index : ℕ) (first now : Uses ℕ ℕ) (place : ℕ) : Type 0 where
   pub from : length first.history - (connection_at index first).limit ≤ place
   pub came : now ≡ with_connection index (record (connection_at index first) {

@@ -1,5 +1,5 @@
--- Who uses the messages of one publisher. The type `L` identifies a loan, and `X` a message: here both are the number of a
--- slot, in the crates above their contents.
+-- Who uses the messages of one publisher. The type `L` identifies a loan, and `X` a message: both are slot numbers here, and the
+-- contents of a loan or message in the crates above.
 use Rattle.std.specs.Prelude.{ℕ, ◌+◌, ◌-◌, ◌*◌, Bool, true, false, ◌||◌, ◌==◌, List, [], ◌∷◌, ◌++◌, length, drop, take, get_or, set}
 use Rattle.std.specs.Prelude.{remove, nat_lt, count_by, Option, None, Some, option_to_list, if◌then◌else◌}
 use Rattle.iox_domain_slots.specs.Waiting.{put, put_over}
@@ -55,7 +55,7 @@ newest n xs = drop (length xs - n) xs
 abbrev pub loaned : {L X : Type 0} → L → Uses L X → Uses L X
 loaned loan uses = record uses { loans = uses.loans ++ loan ∷ [] }
 
--- The publisher after a new segment of the same size was opened behind the others, which is now the current one.
+-- The publisher after a new segment of the same size was opened; it follows the others, and is the current one from now on.
 abbrev pub segment_opened : {L X : Type 0} → Uses L X → Uses L X
 segment_opened uses = record uses { first = uses.first + uses.size }
 

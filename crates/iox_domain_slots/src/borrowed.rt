@@ -9,26 +9,28 @@ use crate::loans::Loans;
 use std::alloc::{AllocError, Global};
 use std::marker::Model;
 
-/// The borrowed slots in their order, the oldest first. Each slot is found and removed without a walk over the others, in any
-/// order.
+/// The borrowed slots in their order, the oldest first. Each slot is found and removed without a walk over the others, in any order.
 ///
-/// Each slot lies in a cell: the one that its number names, or one a few steps behind it. The taken cells are linked in their
-/// order, as loans are. Cells are made when they are first reached, in memory that was allocated at the start.
+/// Each slot lies in a cell: the one that its number names, or one a few steps after it. The taken cells are linked in their order,
+/// as loans are. Cells are made when they are first reached, in memory that was allocated at the start.
 #[derive(Drop)]
 pub(crate) struct Borrowed {
     order: Loans,
     // The slots in the cells that were made.
     slots: Vec<u64>,
     cells: usize,
-    // No slot lies more than this number of steps behind the cell that its number names.
+    // No slot lies more than this number of steps after the cell that its number names.
     reach: usize,
+    // In the cells below this one, which are examined in turn, no slot lies further behind than `furthest`.
+    examined: usize,
+    furthest: usize,
     // Whether a slot may be borrowed twice.
     twice: bool,
 }
 
 impl Model for Borrowed {
     ghost use Rattle.std.specs.Prelude.{◌≡◌, ◌+◌, ◌<◌, ◌≤◌, ◌^◌, false, length, vec_capacity};
-    ghost use Rattle.iox_domain_slots.specs.Borrowed.{BorrowedState, slots_in, IsNear, IsOnce};
+    ghost use Rattle.iox_domain_slots.specs.Borrowed.{BorrowedState, slots_in, IsNear, IsNearBelow, IsOnce};
 
     ghost Value = { BorrowedState };
 
@@ -37,11 +39,12 @@ impl Model for Borrowed {
     ghost invariant = { λ b. (b.order.made ≡ length b.slots.items) × (b.cells + 1 < 2 ^ 64)
         × (b.reach < b.cells) × IsNear b.cells b.slots.items b.order.items b.reach
         × (b.twice ≡ false → IsOnce b.slots.items b.order.items)
-        × (b.order.room ≡ b.cells) × (b.cells ≤ vec_capacity b.slots) × (length b.slots.items ≤ b.cells) };
+        × (b.order.room ≡ b.cells) × (b.cells ≤ vec_capacity b.slots) × (length b.slots.items ≤ b.cells)
+        × (b.furthest < b.cells) × IsNearBelow b.cells b.slots.items b.order.items b.furthest b.examined };
 }
 
 impl Borrowed {
-    /// No slot is borrowed, and there can be `cells` cells. The call fails only if an allocation fails.
+    /// A list without borrowed slots, with capacity for `cells` cells. The call fails only if an allocation fails.
     pub(crate) fn new(alloc: Global, cells: usize) -> Result<Borrowed, AllocError>
         requires { 0 < cells }
         ensures { IfOk result (λ borrowed. borrowed ≡ record { items = []; cells = cells }) }
@@ -54,6 +57,8 @@ impl Borrowed {
             slots: Vec::with_capacity(alloc, cells)?,
             cells,
             reach: 0,
+            examined: 0,
+            furthest: 0,
             twice: false,
         })
     }
@@ -96,15 +101,27 @@ impl Borrowed {
         let step = free_step(&self.order, self.cells, slot);
         let cell = cell_of(self.cells, slot, step);
         let reach = further(self.cells, self.reach, step);
+        let furthest = further(self.cells, self.furthest, step);
         make_up_to(&mut self.order, &mut self.slots, self.cells, cell);
         self.slots[cell] = slot;
         self.order.push(cell);
         self.reach = reach;
+        self.furthest = furthest;
         self.twice = twice;
     }
 
     /// Removes the oldest borrowed slot with this number.
     pub(crate) fn remove(&mut self, slot: u64)
+        requires { is_among slot self.old.items ≡ true }
+        ensures { self.new ≡ record self.old { items = remove self.old.items (place_in slot self.old.items) } }
+    {
+        self.take_out(slot);
+        self.examine();
+        self.examine();
+    }
+
+    // Removes the oldest borrowed slot with this number.
+    fn take_out(&mut self, slot: u64)
         requires { is_among slot self.old.items ≡ true }
         ensures { self.new ≡ record self.old { items = remove self.old.items (place_in slot self.old.items) } }
     {
@@ -121,8 +138,31 @@ impl Borrowed {
         self.order.remove(cell);
         if self.order.len() == 0 {
             self.reach = 0;
+            self.examined = 0;
+            self.furthest = 0;
             self.twice = false;
         }
+    }
+
+    // Examines how far behind the slot in one cell more lies. Once all cells were examined `reach` is what was found: so it falls as slots
+    // are given back, and each that is given back examines two cells.
+    fn examine(&mut self)
+        ensures { self.new ≡ self.old }
+    {
+        if self.examined >= self.order.made() {
+            self.reach = self.furthest;
+            self.examined = 0;
+            self.furthest = 0;
+            return;
+        }
+        let step = step_at(
+            &self.order,
+            self.slots.as_slice(),
+            self.cells,
+            self.examined,
+        );
+        self.furthest = further(self.cells, self.furthest, step);
+        self.examined += 1;
     }
 }
 
@@ -146,7 +186,7 @@ fn make_up_to(order: &mut Loans, slots: &mut Vec<u64>, cells: usize, cell: usize
     }
 }
 
-// The cell `step` places behind the one that a slot's number names; the first follows the last.
+// The cell `step` places after the one that a slot's number names; the first follows the last.
 fn cell_of(cells: usize, slot: u64, step: usize) -> usize
     requires { step < cells }
     ensures value { result ≡ cell_of cells slot step }
@@ -219,6 +259,33 @@ fn will_be_twice(
     twice || near(order, slots, cells, slot, reach).is_some()
 }
 
+// How many steps behind the cell that its slot names this cell lies, if it is taken; else any number.
+fn step_at(order: &Loans, slots: &[u64], cells: usize, cell: usize) -> usize
+    requires within { cell < length slots.now }
+    requires most { length slots.now ≤ cells }
+    ensures within { result < cells }
+    ensures taken { is_among cell order.now.items ≡ true → cell ≡ cell_of cells (get_or slots.now cell 0) result }
+{
+    if !order.has(cell) {
+        return 0;
+    }
+    steps_behind(cells, slots[cell], cell)
+}
+
+// How many steps behind the cell that this slot names a cell lies.
+fn steps_behind(cells: usize, slot: u64, cell: usize) -> usize
+    requires { cell < cells }
+    ensures within { result < cells }
+    ensures value { cell ≡ cell_of cells slot result }
+{
+    let home = (slot % cells as u64) as usize;
+    if cell < home {
+        cells - home + cell
+    } else {
+        cell - home
+    }
+}
+
 // The larger of two numbers of steps.
 fn further(cells: usize, reach: usize, step: usize) -> usize
     requires reach { reach < cells }
@@ -230,7 +297,7 @@ fn further(cells: usize, reach: usize, step: usize) -> usize
     if reach < step { step } else { reach }
 }
 
-// How many steps the first free cell lies behind the one that a slot's number names.
+// How many steps the first free cell lies after the one that a slot's number names.
 fn free_step(order: &Loans, cells: usize, slot: u64) -> usize
     requires { length order.now.items < cells }
     ensures within { result < cells }

@@ -57,7 +57,7 @@ impl Model for Link {
 }
 
 impl Link {
-    /// Takes back the oldest returned slot: it loses the connection's use.
+    /// Takes back the oldest returned slot, which the connection no longer uses then.
     fn take_one_back(&mut self, slots: &mut Slots)
         requires some { 0 < length self.old.returned }
         requires covered { Covers slots.old (all_of self.old) }
@@ -83,7 +83,7 @@ impl Link {
         self.delivered = false;
     }
 
-    // Makes room for a put: takes the returned slots back if a message was put since that was last done.
+    // Prepares a put: takes the returned slots back if a message was put since they were last taken back.
     fn make_room(&mut self, slots: &mut Slots)
         requires { Covers slots.old (all_of self.old) }
         ensures room { self.new.delivered ≡ false }
@@ -109,8 +109,8 @@ impl Link {
         answer
     }
 
-    /// Puts a slot that is also used elsewhere into the mailbox, and answers whether the mailbox accepted it. A full mailbox
-    /// drops its oldest slot if it overflows; otherwise it refuses the new one.
+    /// Puts a slot that is also used elsewhere into the mailbox, and answers whether the mailbox accepted it. A full mailbox drops
+    /// its oldest slot if it overflows; otherwise it refuses the new one.
     pub fn offer(&mut self, slot: usize, slots: &mut Slots) -> bool
         requires covered { Covers slots.old (all_of self.old) }
         requires besides { times slot (all_of self.old) < uses_of slot slots.old }
@@ -167,7 +167,7 @@ impl Link {
         let _has_room = self.returned.push(slot as u64);
     }
 
-    /// Takes a borrowed slot back at once: it loses the connection's use.
+    /// Takes a borrowed slot back at once, which the connection no longer uses then.
     pub fn let_go(&mut self, slot: usize, slots: &mut Slots)
         requires there { is_among slot self.old.borrowed ≡ true }
         requires covered { Covers slots.old (all_of self.old) }

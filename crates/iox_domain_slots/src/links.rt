@@ -23,7 +23,7 @@ pub struct Links {
     items: Vec<Option<Link>>,
     // Each index below this one has a connection.
     full: usize,
-    // No connection is at this index, nor behind.
+    // No connection exists at this index or at a higher one.
     top: usize,
     overflows: bool,
     most_waiting: usize,
@@ -104,7 +104,7 @@ impl Links {
         link.give_back(slot);
     }
 
-    // Takes back a borrowed slot of a connection that ended: it loses the connection's use.
+    // Takes back a borrowed slot of a connection that ended, which the connection no longer uses then.
     fn let_go(&mut self, index: usize, slot: usize, slots: &mut Slots)
         requires there { is_some (get_or self.old.links index None) ≡ true }
         requires borrowed { is_among slot (seen (get_or self.old.links index None)).borrowed ≡ true }
@@ -278,7 +278,7 @@ impl Links {
         self.items.len()
     }
 
-    // The first index without a connection, or the one behind the last.
+    // The first index without a connection. If each index has one, this is the index after the last.
     fn vacancy(&self) -> usize
         ensures within { result ≤ length self.now.links }
         ensures vacant { get_or self.now.links result None ≡ None }
@@ -292,7 +292,7 @@ impl Links {
         self.items.len()
     }
 
-    // Puts a connection at an index below which each has one.
+    // Puts a connection at this index, below which each index has one.
     fn replace(&mut self, index: usize, link: Link)
         requires within { index < length self.old.links }
         requires lowest { (lower : ℕ) → lower < index → is_some (get_or self.old.links lower None) ≡ true }
@@ -305,7 +305,7 @@ impl Links {
         self.top = top;
     }
 
-    // Puts a connection behind the last, where each index has one.
+    // Appends a connection; each existing index has one already.
     fn append(&mut self, link: Link) -> Result<(), AllocError>
         requires lowest { (lower : ℕ) → lower < length self.old.links → is_some (get_or self.old.links lower None) ≡ true }
         requires kind { IsOf self.old.overflows self.old.most_waiting self.old.most_borrowed (Some link) }
@@ -344,8 +344,8 @@ impl Links {
         Ok(index)
     }
 
-    /// No connections yet; there can be as many as are made. In each at most `most_waiting` messages may wait, and at most
-    /// `most_borrowed` may be borrowed.
+    /// No connections yet; up to 2^29 can be made. In each at most `most_waiting` messages may wait, and at most `most_borrowed` may
+    /// be borrowed.
     pub fn new(alloc: Global, overflows: bool, most_waiting: usize, most_borrowed: usize) -> Links
         requires waiting { most_waiting < 2 ^ 32 }
         requires borrowed { most_borrowed < 2 ^ 32 }
@@ -404,7 +404,7 @@ fn larger(one: usize, other: usize) -> usize
     if one < other { other } else { one }
 }
 
-// The index behind the last connection, where none is at a top and behind.
+// The index after the last connection, if no connection exists at `top` or at a higher index.
 fn lowered(items: &[Option<Link>], top: usize) -> usize
     requires within { top ≤ length items.now }
     requires none { (index : ℕ) → top ≤ index → get_or items.now index None ≡ None }

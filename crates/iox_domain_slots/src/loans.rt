@@ -1,5 +1,5 @@
 //! The loans of a publisher by their slots.
-ghost use Rattle.std.specs.Prelude.{◌≡◌, ◌+◌, ◌^◌, ◌<◌, ◌≤◌, ◌++◌, ◌∷◌, [], length, get_or, remove};
+ghost use Rattle.std.specs.Prelude.{◌≡◌, ℕ, ◌+◌, ◌^◌, ◌<◌, ◌≤◌, ◌++◌, ◌∷◌, [], length, get_or, remove};
 ghost use Rattle.std.specs.Prelude.{IfOk, IfSome, IfNone, IsOk, OnErr, Some, true, false};
 ghost use Rattle.iox_container.specs.Unique.{is_among};
 ghost use Rattle.iox_domain_slots.specs.Loans.{LoansState, place_in};
@@ -60,7 +60,7 @@ impl Loans {
         })
     }
 
-    /// No loans and no slots yet, and memory for `room` slots. The call fails only if an allocation fails.
+    /// No loans and no slots yet, but memory for `room` slots. The call fails only if an allocation fails.
     pub(crate) fn with_room(alloc: Global, room: usize) -> Result<Loans, AllocError>
         requires { room + 1 < 2 ^ 64 }
         ensures { IfOk result (λ loans. loans ≡ record { items = []; made = 0; room = room }) }
@@ -86,6 +86,14 @@ impl Loans {
         self.len
     }
 
+    /// How many slots were made; each loan is in one of them.
+    pub(crate) fn made(&self) -> usize
+        ensures value { result ≡ self.now.made }
+        ensures all { (slot : ℕ) → is_among slot self.now.items ≡ true → slot < result }
+    {
+        self.lent.len()
+    }
+
     /// Whether a loan is in this slot.
     pub(crate) fn has(&self, slot: usize) -> bool
         ensures there { result ≡ is_among slot self.now.items }
@@ -94,7 +102,7 @@ impl Loans {
         slot < self.lent.len() && self.lent[slot]
     }
 
-    /// The oldest of those loans at whose places the list `numbers` has this number.
+    /// The oldest loan for whose slot the list `numbers` has this number.
     pub(crate) fn oldest_of(&self, numbers: &[u64], number: u64) -> Option<usize>
         requires { self.now.made ≡ length numbers.now }
         ensures some { IfSome result (λ slot. IsOldest numbers.now self.now.items number slot) }

@@ -17,7 +17,7 @@ pub enum Put {
     Refused,
 }
 
-/// Puts a slot behind those that wait. A full mailbox drops its oldest slot if it overflows; otherwise it refuses the new one.
+/// Appends a slot to those that wait. A full mailbox drops its oldest slot if it overflows; otherwise it refuses the new one.
 pub(crate) fn put_behind(waiting: &mut Queue<u64>, overflows: bool, slot: u64) -> Put
     ensures answer { result ≡ put_answer overflows waiting.old.capacity waiting.old.items slot }
     ensures after { waiting.new.items ≡ put_into overflows waiting.old.capacity waiting.old.items slot }

@@ -152,7 +152,7 @@ impl Slots {
         self.add_newest(slot);
     }
 
-    // Makes room for one more message in the history.
+    // Drops the oldest message of the history if the history is full.
     fn make_room(&mut self)
         requires { 0 < self.old.kept }
         ensures room { length self.new.history < self.new.kept }

@@ -40,8 +40,8 @@ impl Model for SlotUses {
 }
 
 impl SlotUses {
-    /// Loans a slot of the current segment that isn't in use; None if each of them is in use. Returned slots are taken back
-    /// first. With at least as many slots in a segment as the worst case needs, and no send going on, a slot is always found.
+    /// Loans a slot of the current segment that isn't in use; None if each of them is in use. Returned slots are taken back first.
+    /// With at least as many slots in a segment as the worst case needs, and no send in progress, a slot is always found.
     pub fn loan(&mut self) -> Option<usize>
         requires { length self.old.loans < self.old.most_loans }
         ensures step { LoanUse self.old result self.new }

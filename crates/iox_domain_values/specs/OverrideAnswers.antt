@@ -5,7 +5,7 @@ use Rattle.std.specs.declared.dyn_box.DynBox.{DynBox}
 use Rattle.iox_domain_values.specs.declared.samples_override.PreallocatedSamplesOverride.{PreallocatedSamplesOverride}
 use Rattle.iox_domain_values.specs.declared.samples_override.PreallocatedSamplesOverride.TheVariants as chosen
 
--- Whether `answer` may be given if the worst case needs so many slots: `WorstCase` answers that number, `Fixed` its own number,
+-- Whether `answer` may be given if the worst case needs `worst_case` slots: `WorstCase` answers that number, `Fixed` its own number,
 -- and `Boxed` what its object allows.
 abbrev pub Allowed : {X : Type 0} {F : X → Type 0} → (DynBox X Global F → ℕ → ℕ → Type 0) → PreallocatedSamplesOverride X F → ℕ → ℕ → Type 0
 Allowed objects chosen.WorstCase worst_case answer = answer ≡ worst_case

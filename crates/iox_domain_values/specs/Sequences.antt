@@ -1,11 +1,11 @@
 -- The sequence numbers that a publisher's sends give its messages.
 use Rattle.std.specs.Prelude.{ℕ, ◌+◌, ◌-◌, ◌^◌, ◌==◌, max, Bool, false, option_map, Option, None, Some, if◌then◌else◌}
 
--- The sequence number behind the last one; None if messages aren't numbered.
+-- The sequence number after the last one; None if messages aren't numbered.
 abbrev pub next_sequence : Option ℕ → Option ℕ
 next_sequence last = option_map (λ number. number + 1) last
 
--- Whether no sequence number is left behind the last one, because it is 2^64 - 1.
+-- Whether the sequence numbers are used up, because the last one is 2^64 - 1.
 abbrev pub is_used_up : Option ℕ → Bool
 is_used_up None = false
 is_used_up (Some number) = number == 2 ^ 64 - 1

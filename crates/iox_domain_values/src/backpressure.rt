@@ -14,7 +14,7 @@ use crate::backpressure_strategy::BackpressureStrategy;
 pub enum BackpressureAction {
     /// The strategy decides.
     FollowBackpressureyStrategy,
-    /// The send waits, and the handler is asked again if the mailbox is still full then.
+    /// The send blocks, and the handler is asked again if the mailbox is still full when the send is retried.
     Retry,
     /// The send skips this mailbox.
     DiscardData,
@@ -22,14 +22,14 @@ pub enum BackpressureAction {
     DiscardDataAndFail,
 }
 
-/// The same action, as it is given to a connection.
+/// A `BackpressureAction`, in the form in which iceoryx2 hands it to a connection.
 ///
 /// Ported from `iceoryx2::port::BackpressureToReceiverAction`.
 #[derive(Clone, Copy, Debug, PartialEq, Eq)]
 pub enum BackpressureToReceiverAction {
     /// The strategy decides.
     FollowBackpressureyStrategy,
-    /// The send waits, and the handler is asked again if the mailbox is still full then.
+    /// The send blocks, and the handler is asked again if the mailbox is still full when the send is retried.
     Retry,
     /// The send skips this mailbox.
     DiscardPointerOffset,
@@ -72,7 +72,7 @@ pub struct BackpressureInfo {
 /// What a send does at a full mailbox.
 #[derive(Clone, Copy, Debug, PartialEq, Eq)]
 pub enum BackpressureDecision {
-    /// The send waits here.
+    /// The send blocks at this mailbox.
     Retry,
     /// The send skips this mailbox.
     DiscardData,

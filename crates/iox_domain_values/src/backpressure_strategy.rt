@@ -16,7 +16,7 @@ use std::alloc::Global;
 /// Ported from `iceoryx2::port::backpressure_strategy::BackpressureStrategy`.
 #[derive(Clone, Copy, Debug, PartialEq, Eq)]
 pub enum BackpressureStrategy {
-    /// The send waits until the mailbox has room.
+    /// The send blocks until the mailbox has capacity for the message.
     RetryUntilDelivered,
     /// The send skips this mailbox.
     DiscardData,

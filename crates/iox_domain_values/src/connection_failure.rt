@@ -20,7 +20,7 @@ pub enum ZeroCopyCreationError {
 }
 
 impl ZeroCopyCreationError {
-    /// The text that the error displays as.
+    /// The text that `Display` prints.
     pub fn text(&self) -> &'static str
         ensures { result.now ≡ zero_copy_creation_text self.now }
     {
@@ -48,7 +48,7 @@ pub enum ConnectionFailure {
 }
 
 impl ConnectionFailure {
-    /// The text that the error displays as.
+    /// The text that `Display` prints.
     pub fn text(&self) -> &'static str
         ensures { result.now ≡ connection_text self.now }
     {

@@ -21,7 +21,7 @@ pub enum PublisherCreateError {
 }
 
 impl PublisherCreateError {
-    /// The text that the error displays as.
+    /// The text that `Display` prints.
     pub fn text(&self) -> &'static str
         ensures { result.now ≡ publisher_create_text self.now }
     {
@@ -57,7 +57,7 @@ pub enum SubscriberCreateError {
 }
 
 impl SubscriberCreateError {
-    /// The text that the error displays as.
+    /// The text that `Display` prints.
     pub fn text(&self) -> &'static str
         ensures { result.now ≡ subscriber_create_text self.now }
     {
@@ -84,7 +84,7 @@ pub enum DomainError {
 }
 
 impl DomainError {
-    /// The text that the error displays as.
+    /// The text that `Display` prints.
     pub fn text(&self) -> &'static str
         ensures { result.now ≡ domain_text self.now }
     {

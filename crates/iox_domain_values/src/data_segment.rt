@@ -14,7 +14,7 @@ pub enum DataSegmentType {
     Static,
 }
 
-/// What the loan of a slice does that is too long for the slots.
+/// What the loan of a slice that is too long for the slots does.
 ///
 /// Ported from `iceoryx2_cal::shm_allocator::AllocationStrategy`.
 #[derive(Clone, Copy, Debug, PartialEq, Eq)]

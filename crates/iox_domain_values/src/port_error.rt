@@ -24,7 +24,7 @@ pub enum LoanError {
 }
 
 impl LoanError {
-    /// The text that the error displays as.
+    /// The text that `Display` prints.
     pub fn text(&self) -> &'static str
         ensures { result.now ≡ loan_text self.now }
     {
@@ -58,7 +58,7 @@ pub enum SendError {
 }
 
 impl SendError {
-    /// The text that the error displays as.
+    /// The text that `Display` prints.
     pub fn text(&self) -> &'static str
         ensures { result.now ≡ send_text self.now }
     {
@@ -133,7 +133,7 @@ pub enum ReceiveError {
 }
 
 impl ReceiveError {
-    /// The text that the error displays as.
+    /// The text that `Display` prints.
     pub fn text(&self) -> &'static str
         ensures { result.now ≡ receive_text self.now }
     {

@@ -40,14 +40,14 @@ pub enum PreallocatedSamplesOverride {
 }
 
 impl PreallocatedSamplesOverride {
-    /// This number, each time.
+    /// An override that answers this number each time.
     pub fn new_with(number: usize) -> Self
         ensures { result ≡ chosen.Fixed number }
     {
         PreallocatedSamplesOverride::Fixed(number)
     }
 
-    /// The number that the object answers.
+    /// An override that answers what the object answers.
     pub fn boxed(object: Box<dyn PreallocatedSamplesFn>) -> Self
         ensures { result ≡ chosen.Boxed object }
     {

@@ -18,7 +18,7 @@ use Rattle.iox_hub_machine.specs.RunLaws.{names_in}
 use Rattle.iox_hub.proofs.HandledRuns.{none_turned, run_goes, whole_goes}
 use Rattle.iox_hub.proofs.HandledTurns.{never_some, same_some}
 use Rattle.iox_hub.specs.HandledLaws.{HandledRunsAnswer, HandledRunsStand}
-use Rattle.iox_hub.specs.Room.{RepliesValues, StopsInTime}
+use Rattle.iox_hub.specs.Room.{GivesValues, StopsInTime}
 use Rattle.iox_hub.specs.Steps.{HandledStep}
 use Rattle.iox_hub.specs.Turns.{Turn, answered_in, asked_in, handed_in, turns, without_places}
 use Rattle.iox_hub.specs.declared.given.GivenHandler.{GivenHandler}
@@ -35,19 +35,20 @@ module _ {T : Type 0} where
   abbrev left_plainly : ℕ → List (HandledCommand T) → List (Command T)
   left_plainly replied commands = map (λ (command : HandledCommand T). without_places command) (drop replied commands)
 
-  values_stop : (one : HandledCommand T) (rest : List (Command T)) (answers : List (Reply T)) → RepliesValues one
-      → machine.MayStop (without_places one ∷ rest) answers
-  values_stop (asked.Plain command) rest answers values = stops_so command rest answers values
-  values_stop (asked.Publisher factory options at_full at_failure) rest answers values = absurd values
-  values_stop (asked.Subscriber factory options at_failure) rest answers values = absurd values
+  values_stop : {U B D : Type 0} (one : HandledCommand T) (rest : List (Command T)) (answers : List (Reply T)) (hub : NumberedHub T U B D)
+      → GivesValues one hub → machine.MayStop (without_places one ∷ rest) answers
+  values_stop (asked.Plain command) rest answers hub values = stops_so command rest answers hub values
+  values_stop (asked.Publisher factory options at_full at_failure) rest answers hub values = absurd values
+  values_stop (asked.Subscriber factory options at_failure) rest answers hub values = absurd values
 
-  lacks_stop : (commands : List (HandledCommand T)) (replied : ℕ) (one : HandledCommand T) (answers : List (Reply T))
-      → slice_get commands replied ≡ Some one → RepliesValues one → machine.MayStop (left_plainly replied commands) answers
-  lacks_stop [] replied one answers is values = never_some one is
-  lacks_stop (command ∷ commands) zero one answers is values =
-      values_stop command (map (λ (other : HandledCommand T). without_places other) commands) answers
-      (subst (λ (it : HandledCommand T). RepliesValues it) (sym (same_some command one is)) values)
-  lacks_stop (command ∷ commands) (suc replied) one answers is values = lacks_stop commands replied one answers is values
+  lacks_stop : {U B D : Type 0} (commands : List (HandledCommand T)) (replied : ℕ) (one : HandledCommand T) (answers : List (Reply T))
+      (hub : NumberedHub T U B D)
+      → slice_get commands replied ≡ Some one → GivesValues one hub → machine.MayStop (left_plainly replied commands) answers
+  lacks_stop [] replied one answers hub is values = never_some one is
+  lacks_stop (command ∷ commands) zero one answers hub is values =
+      values_stop command (map (λ (other : HandledCommand T). without_places other) commands) answers hub
+      (subst (λ (it : HandledCommand T). GivesValues it hub) (sym (same_some command one is)) values)
+  lacks_stop (command ∷ commands) (suc replied) one answers hub is values = lacks_stop commands replied one answers hub is values
 
   never_stops : (commands : List (HandledCommand T)) → (commands ≡ [] → ⊥) → machine.MayStop (left_plainly 0 commands) []
   never_stops [] some = absurd (some refl)
@@ -100,7 +101,7 @@ module _ {T U B D P : Type 0} (terms : Terms T U B D)
       (subst (λ (all : List (Turn T P D)). machine.MayStop (left_plainly 0 commands) (answered_in all))
       (sym (none_turned commands old.1)) (never_stops commands (some_left Handles commands old new replies runs)))
   stops_there commands old new replies runs (inr (one, is, values)) =
-      lacks_stop commands (length replies) one (answered_in (turns commands replies old.1)) is values
+      lacks_stop commands (length replies) one (answered_in (turns commands replies old.1)) new.0 is values
 
   -- what is left as a run stopped, or didn't
   left_so : (commands : List (HandledCommand T)) (old new : NumberedHub T U B D × List (Option (GivenHandler P D)))

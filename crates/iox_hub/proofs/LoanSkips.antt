@@ -72,7 +72,7 @@ module _ {T U B D : Type 0} where
 
 -- ---- a loan that may not be sent
 
--- places that are as many as there are need no more behind them
+-- places that are as many as there are need no more after them
 no_more : {X : Type 0} (places : List (Option X)) → places ++ replicate (length places - length places) None ≡ places
 no_more places =
     let none : length places - length places ≡ 0 = omega arith in
@@ -128,7 +128,7 @@ module _ {T U B D : Type 0} where
 
 -- ---- what a loan has that was written
 
--- so many as there are, if each is written
+-- n as there are, if each is written
 length_written : {T : Type 0} (all : List (Option T)) → list_all is_some all ≡ true → length (written_of all) ≡ length all
 length_written [] is = refl
 length_written (Some value ∷ all) is = ap suc (length_written all is)

@@ -107,7 +107,7 @@ module _ {T U S : Type 0} (calls : Calls T) (asked : Command T) (number : Number
   loans_keep (Some (Ok loan)) at held is = one_more_keeps calls.made.loans _ at held is
   loans_keep (Some (Err why)) at held is = is
 
--- what was lent is of the publisher that lent it, with so many values
+-- what was lent is of the publisher that lent it, with n values
 module _ {T U B D : Type 0} (port : PortId) (len : ℕ) (number : Number) (old new : Hub T U B D) where
   lent_is : (answer : Result (Lent T U Slice Uninit) LoanError) (lent : Result ℕ LoanError) → answer ≡ lent_of len port lent
       → IfOk answer (λ loan. (loan.port ≡ port) × (loan.state.len ≡ len))

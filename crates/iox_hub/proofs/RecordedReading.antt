@@ -13,7 +13,7 @@ use Rattle.iox_machine.specs.RunLaws.{SamplesReadTheSame}
 use Rattle.iox_machine.specs.State.{State, new_state}
 use Rattle.iox_hub.specs.RecordedLaws.{ReadsAsReceived}
 
--- two lists that are the same in front are the same behind
+-- if two equal lists begin with parts of one length, these parts are equal, and so is what follows them
 pub cancel : {X : Type 0} (a c b d : List X) → length a ≡ length c → a ++ b ≡ c ++ d → (a ≡ c) × (b ≡ d)
 cancel [] [] b d long is = (refl, is)
 cancel [] (y ∷ c) b d long is = absurd (omega (arith, long))
@@ -27,7 +27,7 @@ module _ {T : Type 0} (choices : Choices T) (types : MessageTypeDetails) (buffer
   abbrev Goes : List (Command T) → State T → List (Reply T) → State T → Type 0
   Goes = Runs types choices buffer
 
-  -- a run, cut behind some commands
+  -- a run, cut after some commands
   pub record Cut (front back : List (Command T)) (old : State T) (answers : List (Reply T)) (new : State T) : Type 0 where
     pub early : List (Reply T)
     pub late : List (Reply T)

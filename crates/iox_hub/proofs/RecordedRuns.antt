@@ -402,7 +402,7 @@ module _ {T U B D : Type 0} (terms : Terms T U B D) (of_slices : AreOfSlices ter
       (not_waiting (publisher_stands lender.number (hub_ports lender.domain hub))
       (publisher_blocked lender.number (hub_ports lender.domain hub)) may) sends) was
 
-  -- a send that waits is tried again, or what doesn't wait is handed back
+  -- a blocked send is tried again, or what isn't blocked is handed back
   pub retry_recorded : {fit : Bool} {W : Type 0}
       → CallsGoOn terms
       → RetryIsStep Slice terms

@@ -32,7 +32,7 @@ pub never_so : {X : Type 0} (b : Bool) → b ≡ true → b ≡ false → X
 never_so true is never = cc
 never_so false is never = cc
 
--- who may lend has no send that waits
+-- who may lend has no blocked send
 pub not_waiting : (stands waits : Bool) → (stands && not waits) ≡ true → waits ≡ false
 not_waiting true true may = cc
 not_waiting true false may = refl

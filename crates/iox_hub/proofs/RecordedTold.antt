@@ -57,7 +57,7 @@ use Rattle.iox_hub.specs.Recording.{values_there}
 use Rattle.iox_hub.specs.declared.recorded.named.Named.{Named}
 use Rattle.iox_hub.specs.declared.recorded.named.Number.{Number}
 
--- A send that waits is one of this port.
+-- A blocked send is one of this port.
 abbrev pub WaitsAt : {T U : Type 0} → PortId → Sent T U → Type 0
 WaitsAt port (sent.Delivered count) = Unit {0}
 WaitsAt port (sent.Blocked blocked) = blocked.port ≡ port
@@ -80,7 +80,7 @@ module _ {S : Type 0} (number : Number) where
   handed_back it true = tt
   handed_back it false = refl
 
--- a send that waits is of the port that sent
+-- a blocked send is of the port that sent
 module _ (T U : Type 0) (port : PortId) where
   sent_waits : (outcome : Result Sending SendError) → IfOk (sent_of {T = T} {U = U} port outcome) (λ sent. WaitsAt port sent)
   sent_waits (Ok (sending.Delivered count)) = tt

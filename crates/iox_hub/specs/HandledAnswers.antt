@@ -34,7 +34,7 @@ module _ {T U B D P : Type 0} (types : MessageTypeDetails) (is_default : T → T
     (reader_degrades : D → DegradationCause → DegradationInfo → DegradationAction → Type 0) where
   -- The replies of a new hub to commands with these handed-in handlers are ones that a new machine with these handlers may give: to all
   -- commands, or, if the run stopped, to those before a command at which a run may stop. A command that doesn't find a handler that it
-  -- names is skipped, and the machine isn't given it. The premises: no two services of the names that are asked for share a hash, commands
+  -- names is skipped, and the machine isn't given it. This holds if no two services of the names that are asked for share a hash, commands
   -- and their actions of other nodes are fewer than 2 ^ 56, and handlers that are made of fixed actions decide by these.
   abbrev pub AnswersWithHandlers : HubConfig → List (HandledCommand T) → NumberedHub T U B D → List (Option (GivenHandler P D))
       → List (Reply T) → Bool → Type 0

@@ -31,7 +31,7 @@ use Rattle.iox_negotiate_machine.specs.Laws.{HaveOwnHashes}
 -- The parameters: the terms of the hub, and the handlers that are made of handed-in ones.
 module _ {T U B D P : Type 0} (terms : Terms T U B D)
     (handled : BackpressureStrategy → Option BackpressureAction → DegradationAction → Option P → Option D → B) where
-  -- Each run of a new hub that stops only where it may has replies that a new machine may give.
+  -- The replies of each run of a new hub that stops only where it may are ones that a new machine may give (`AnswersWithHandlers`).
   abbrev pub HandledRunsAnswer : Type 0
   HandledRunsAnswer = (config : HubConfig) (commands : List (HandledCommand T))
       (old new : NumberedHub T U B D × List (Option (GivenHandler P D))) (replies : List (Reply T)) (stopped : Bool)
@@ -41,7 +41,7 @@ module _ {T U B D P : Type 0} (terms : Terms T U B D)
       terms.reader_degrades config commands old.0 old.1 replies stopped
 
   -- A hub that replied to commands represents a state that a new machine, with the same handed-in handlers, reaches with the same replies.
-  -- So what holds of each state that a run of the machine reaches holds of the state that such a hub represents.
+  -- So what holds of each state that a run of the machine reaches holds of the state that this hub represents.
   abbrev pub StandsWithHandlers : HubConfig → List (HandledCommand T) → List (Option (GivenHandler P D)) → NumberedHub T U B D
       → List (Reply T) → Type 0
   StandsWithHandlers config commands given new replies =
@@ -55,7 +55,8 @@ module _ {T U B D P : Type 0} (terms : Terms T U B D)
       terms.degrades terms.decides terms.reader_degrades (names_in (map (λ command. without_places command) commands)) taken naming order
       new after
 
-  -- After each run to its end, the hub represents such a state, under the same premises.
+  -- After each run that doesn't stop, the hub represents a state that a new machine reaches with the same replies (`StandsWithHandlers`).
+  -- The premises are those of `AnswersWithHandlers`.
   abbrev pub HandledRunsStand : Type 0
   HandledRunsStand = (config : HubConfig) (commands : List (HandledCommand T))
       (old new : NumberedHub T U B D × List (Option (GivenHandler P D))) (replies : List (Reply T))

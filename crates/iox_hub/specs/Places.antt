@@ -17,13 +17,13 @@ abbrev pub emptied_if : {X : Type 0} → Option ℕ → List (Option X) → List
 emptied_if None given = given
 emptied_if (Some place) given = emptied place given
 
--- The handler for full mailboxes, if it is one.
+-- The handler, if there is one and it is for full mailboxes.
 abbrev pub backpressure_of : {P D : Type 0} → Option (GivenHandler P D) → Option P
 backpressure_of None = None
 backpressure_of (Some (Backpressure handler)) = Some handler
 backpressure_of (Some (Degradation handler)) = None
 
--- The handler for failed connections, if it is one.
+-- The handler, if there is one and it is for failed connections.
 abbrev pub degradation_of : {P D : Type 0} → Option (GivenHandler P D) → Option D
 degradation_of None = None
 degradation_of (Some (Backpressure handler)) = None

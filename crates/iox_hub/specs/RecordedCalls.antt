@@ -70,8 +70,8 @@ answered_as None asked told refused kept calls = asked_too asked reply.Skipped c
 answered_as (Some (Ok came)) asked told refused kept calls = kept came (asked_too asked (told came) calls)
 answered_as (Some (Err why)) asked told refused kept calls = asked_too asked (reply.Refused (refused why)) calls
 
--- The reply to a send: skipped if no publisher may send, or no send is blocked; how many mailboxes took the message; blocked; or the
--- refusal.
+-- The reply to a send: that the command is skipped, if no publisher may send, or no send is blocked; how many mailboxes took the message;
+-- that the send is blocked; or the refusal.
 abbrev pub told_send : {T U : Type 0} → Option (Result (Sent T U) SendError) → Reply T
 told_send None = reply.Skipped
 told_send (Some (Ok (sent.Delivered count))) = reply.Delivered count

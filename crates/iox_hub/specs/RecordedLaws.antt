@@ -40,8 +40,8 @@ use Rattle.iox_negotiate_table.specs.Describe.Within.{HasForm}
 use Rattle.iox_negotiate_table.specs.DescribeVerdict.PublishSubscribeClauses as publish_subscribe_clauses
 use Rattle.iox_negotiate_table.specs.DescribeVerdict.Verdict.{first_unmet}
 
--- A subscriber received a sample, and the sample is read after other calls. If the machine may answer so to all of them from the first one
--- on, the values that are read are those that were received.
+-- A subscriber received a sample, and the sample is read after other calls. If the machine may give these answers to all commands, from the
+-- first one on, the values that are read are those that were received.
 abbrev pub ReadsAsReceived : {T : Type 0} → Choices T → Type 0
 ReadsAsReceived {T} choices = (types : MessageTypeDetails) (buffer : ℕ) (before meanwhile : List (Command T))
     (first told : List (Reply T)) (subscriber sample : ℕ) (values read : Vec T) → length first ≡ length before
@@ -57,13 +57,13 @@ ReadsAreFollowed T fixed degrades decides fixed_reader reader_degrades = (calls 
     → AreFollowed fixed degrades decides fixed_reader reader_degrades calls → all_asked calls.asked + 1 < 2 ^ 56
     → AreFollowed fixed degrades decides fixed_reader reader_degrades (record calls { asked = calls.asked ++ command.Read sample ∷ [] })
 
--- The premises without that about handlers: no two services of the names that are asked for share a hash, the calls and the actions of
+-- The premises without the one about handlers: no two services of the names that are asked for share a hash, the calls and the actions of
 -- other nodes that they name are fewer than 2 ^ 56, and each received message fits in a vector.
 abbrev pub StandUndecided : {T : Type 0} → Calls T → Type 0
 StandUndecided calls = HaveOwnHashes (names_in calls.asked) × (all_asked calls.asked < 2 ^ 56)
     × AllByRecursion (λ values. length values < 2 ^ 63) calls.received
 
--- If the premises without that about handlers hold, all premises hold: handlers of these types decide by the fixed actions of which they
+-- If the premises without the one about handlers hold, all premises hold: handlers of these types decide by the fixed actions of which they
 -- are made.
 abbrev pub DecidesForCalls : (T : Type 0) → {B D : Type 0} → (BackpressureStrategy → Option BackpressureAction → DegradationAction → B)
     → (B → DegradationCause → DegradationInfo → DegradationAction → Type 0) → (B → BackpressureInfo → BackpressureDecision → Type 0)
@@ -80,7 +80,7 @@ IsMetOrMade types name named required service =
     ⊎ (service.description ≡ agreed_of name (options.PublishSubscribe named) types required.pairs)
 
 -- If a service is as a node asked for it, in the machine's terms, and its description has the form of one, as that of every factory has,
--- then the service is so in the terms of the code.
+-- then the service is also as asked for in the terms of the code.
 abbrev pub AsAskedIsMet : Type 0
 AsAskedIsMet = (types : MessageTypeDetails) (name : List ℕ) (named : PublishSubscribeOptions) (required : Required) (service : Opened)
     → HasForm service.description → IsAsAsked types name named required service → IsMetOrMade types name named required service

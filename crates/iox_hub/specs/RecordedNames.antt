@@ -1,5 +1,5 @@
 -- What numbers name in a recorded hub.
-use Rattle.std.specs.Prelude.{ℕ, Option, None, Some, Result, Ok, Err}
+use Rattle.std.specs.Prelude.{ℕ, max, Option, None, Some, option_map, Result, Ok, Err}
 use Rattle.std.specs.Option.{unwrap_or}
 use Rattle.iox_command.specs.declared.port.PublisherOptions.{PublisherOptions}
 use Rattle.iox_command.specs.declared.port.SubscriberOptions.{SubscriberOptions}
@@ -49,9 +49,9 @@ publisher_side options = record {
   initial_max_slice_len = unwrap_or options.initial_max_slice_len publisher_defaults.initial_max_slice_len;
 }
 
--- How many messages of one publisher may wait for a subscriber: as many as the options name, or else as many as the service allows.
+-- The buffer size of a subscriber: the one that the options name, at least 1, or else the maximum of the service.
 abbrev pub subscriber_side : ℕ → SubscriberOptions → SubscriberSide
-subscriber_side most options = record { buffer_size = unwrap_or options.buffer_size most }
+subscriber_side most options = record { buffer_size = unwrap_or (option_map (λ named. max named 1) options.buffer_size) most }
 
 -- The port that was created in a domain under a number, as a value with this side; or the error.
 abbrev pub port_made : {T U K S E : Type 0} → DomainId → S → Option (Result ℕ E) → Option (Result (Port T U K S) E)

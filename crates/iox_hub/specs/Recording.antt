@@ -91,12 +91,13 @@ abbrev pub AllFit : {T : Type 0} → List (List T) → Type 0
 AllFit received = AllByRecursion (λ values. length values < 2 ^ 63) received
 
 module _ {T : Type 0} where
-  -- The reply to a send that perhaps can't be made: skipped if no publisher may send, or no blocked send may be tried again.
+  -- The reply to a send that perhaps can't be made: that the command is skipped, if no publisher may send, or no blocked send may be tried
+  -- again.
   abbrev pub told_sent_if : {U : Type 0} → Option (Result (Sent T U) SendError) → Reply T
   told_sent_if None = reply.Skipped
   told_sent_if (Some answer) = told_sent answer
 
-  -- The reply to a send: how many mailboxes took the message, or blocked, if that is None.
+  -- The reply to a send: how many mailboxes took the message, or that the send is blocked, if the number is None.
   abbrev pub told_came : Option (Result (Option ℕ) SendError) → Reply T
   told_came None = reply.Skipped
   told_came (Some (Ok (Some count))) = reply.Delivered count
@@ -108,7 +109,7 @@ abbrev pub IsDoneIf : {A H : Type 0} → Bool → (H → A → H → Type 0) →
 IsDoneIf may does old None new = (may ≡ false) × (new ≡ old)
 IsDoneIf may does old (Some answer) new = (may ≡ true) × does old answer new
 
--- A call spends what it is handed if it may be made; otherwise nothing happens, and that is handed back.
+-- A call consumes what it is handed, if it may be made; otherwise nothing happens, and what it was handed is returned.
 abbrev pub IsDoneOrBack : {A W H : Type 0} → Bool → W → (H → A → H → Type 0) → H → Result A W → H → Type 0
 IsDoneOrBack may waits does old (Ok answer) new = does old answer new
 IsDoneOrBack may waits does old (Err back) new = (may ≡ false) × (back ≡ waits) × (new ≡ old)
@@ -133,7 +134,7 @@ newest_is_known (Some (Ok (Some sample))) hub = is_known sample hub
 newest_is_known (Some (Ok None)) hub = true
 newest_is_known (Some (Err why)) hub = true
 
--- Whether a loan is written, with so many values.
+-- Whether a loan is written, with this many values.
 abbrev pub is_written_with : {T U : Type 0} → Option (Loan T U) → ℕ → Bool
 is_written_with loan count = is_written_loan loan && (length (unwrap_or (values_at loan) []) == count)
 
@@ -152,8 +153,8 @@ abbrev pub factories_opened : {E : Type 0} → FactoryTable → Result MadeFacto
 factories_opened table (Ok factory) = inserted table factory
 factories_opened table (Err why) = table
 
--- A node asks for a service in this way, if the node was made. A failure is reported as this refusal; the factories are those that had
--- numbers before.
+-- A node asks for a service as the third argument says, if the node was made. A failure is reported as this refusal; the factories are
+-- those that had numbers before.
 abbrev pub OpensIf : {T U B D E : Type 0} → (E → Refusal) → ℕ
     → (FactoryTable → Hub T U B D → Result ℕ Refusal → FactoryTable → Hub T U B D → Type 0) → FactoryTable → Hub T U B D
     → Option (Result MadeFactory E) → Hub T U B D → Type 0

@@ -6,23 +6,23 @@ use Rattle.iox_hub_commands.specs.declared.numbered_hub.NumberedHub.{NumberedHub
 use Rattle.iox_hub.specs.declared.handled_command.HandledCommand.{HandledCommand}
 use Rattle.iox_hub.specs.declared.handled_command.HandledCommand.TheVariants as asked
 
-module _ {T : Type 0} where
-  -- The command is one whose reply has the values of a message: it receives, or reads.
-  abbrev pub RepliesValues : HandledCommand T → Type 0
-  RepliesValues (asked.Plain command) = plain.RepliesValues command
-  RepliesValues (asked.Publisher factory options at_full at_failure) = ⊥
-  RepliesValues (asked.Subscriber factory options at_failure) = ⊥
+module _ {T U B D : Type 0} where
+  -- The command would reply with the values of a message, and there is at least one. A command that names handlers replies with none.
+  abbrev pub GivesValues : HandledCommand T → NumberedHub T U B D → Type 0
+  GivesValues (asked.Plain command) hub = plain.GivesValues command hub
+  GivesValues (asked.Publisher factory options at_full at_failure) hub = ⊥
+  GivesValues (asked.Subscriber factory options at_failure) hub = ⊥
 
-  -- The command after so many replies is one whose reply has values.
-  abbrev pub LacksValues : List (HandledCommand T) → ℕ → Type 0
-  LacksValues commands replied = (asked : HandledCommand T) × (slice_get commands replied ≡ Some asked) × RepliesValues asked
+  -- The command after the first `replied` ones would reply with values that the hub has.
+  abbrev pub LacksValues : List (HandledCommand T) → ℕ → NumberedHub T U B D → Type 0
+  LacksValues commands replied hub = (asked : HandledCommand T) × (slice_get commands replied ≡ Some asked) × GivesValues asked hub
 
 module _ {T U B D X : Type 0} where
-  -- A run that stopped after so many replies never began, and nothing changed; or it stopped at a command whose reply has values.
+  -- A run that stopped after this many replies never began, and nothing changed; or it stopped at a command that would reply with values.
   abbrev pub StopsInTime : List (HandledCommand T) → NumberedHub T U B D × X → ℕ → NumberedHub T U B D × X → Type 0
-  StopsInTime commands old replied new = ((replied ≡ 0) × (new ≡ old)) ⊎ LacksValues commands replied
+  StopsInTime commands old replied new = ((replied ≡ 0) × (new ≡ old)) ⊎ LacksValues commands replied new.0
 
--- For what memory ran out at a command without a reply, if the existing ports have the capacity that they need: the same as for the command
+-- What memory ran out for at a command without a reply, if the existing ports have the capacity that they need: the same as for the command
 -- without handlers. A command that names handlers always has a reply.
 abbrev pub HandledLacks : {T U B D : Type 0} → HandledCommand T → NumberedHub T U B D → NumberedHub T U B D → Type 0
 HandledLacks (asked.Plain command) old new = LacksInRoom command old new

@@ -14,7 +14,7 @@ use iox_domain_values::{
 use iox_hub_commands::PublisherHandlers;
 
 /// Handlers of a publisher that can be made of handed-in ones: of one that decides at a full mailbox, and of one that decides at a failed
-/// connection. In the place of a missing handler there is a fixed action.
+/// connection. A fixed action takes the place of a handler that isn't handed in.
 ///
 /// Not in `iceoryx2`.
 pub trait TakesHandlers<P, D>: PublisherHandlers {

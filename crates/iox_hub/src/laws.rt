@@ -29,7 +29,7 @@ pub fn plain_commands_take_nothing<
 /// The replies of a new hub to commands with handlers are ones that a new machine may give: to all commands, or, if the run stopped, to
 /// those before a command at which a run may stop. For each port, by its number, the machine has the handlers that were handed in for it,
 /// as the replies say (`handed_in`). A command that doesn't find a handler that it names is skipped, and the machine isn't given it.
-/// `IsRun` and `StopsInTime` are what `run` ensures of its replies. The premises: no two services of the names that are asked for share a
+/// `IsRun` and `StopsInTime` are what `run` ensures of its replies. This holds if no two services of the names that are asked for share a
 /// hash, commands and actions of other nodes are fewer than 2 ^ 56, and handlers that are made of fixed actions decide by these, as
 /// `FixedHandlers` and `FixedDegradation` do.
 pub fn runs_with_handlers_answer<
@@ -47,8 +47,9 @@ pub fn runs_with_handlers_answer<
     decided_runs_go_on::<T, U, B, D>();
 }
 
-/// A hub that replied to all commands represents a state that a new machine reaches with the same replies, under the same premises. So what
-/// holds of each state that a run of the machine reaches holds of the state that such a hub represents, whichever handlers were handed in.
+/// A hub that replied to all commands represents a state that a new machine reaches with the same replies, under the same premises as
+/// [`runs_with_handlers_answer`]. So what holds of each state that a run of the machine reaches holds of the state that this hub
+/// represents, whichever handlers were handed in.
 pub fn runs_with_handlers_stand<
     T: Words + ZeroCopySend + Default,
     U: Copy + ZeroCopySend + Default,

@@ -24,7 +24,7 @@ use iox_hub_commands::{NumberedHub, RunReport, SubscriberHandler};
 use iox_queues_base::Words;
 use std::alloc::Global;
 
-/// Carries out commands, one after the other, once there is capacity for all replies. Commands that create ports take the handlers that
+/// Carries out commands, one after the other, after capacity was made for all replies. Commands that create ports take the handlers that
 /// they name by their places; all other handlers are left in their places.
 ///
 /// It stops before the first command if an allocation fails for that capacity, and then nothing has changed; or at a command that receives

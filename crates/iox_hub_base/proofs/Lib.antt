@@ -11,3 +11,4 @@ mod Lacking
 pub mod Negotiated
 pub mod SameTable
 pub mod Settled
+mod Held

@@ -28,7 +28,7 @@ module _ (number : ℕ) where
   behind key below = sym (nat_cmp_is number key Greater below)
 
 module _ {V : Type 0} where
-  -- the number at a place behind the first is above the first
+  -- the number at a place after the first is above the first
   pub first_below : (first : ℕ × V) (rest : List (ℕ × V)) (place : ℕ) (default : ℕ × V)
       → IsStrictlySortedBy nat_cmp (keys_of (first ∷ rest)) → place < length rest → first.0 < (get_or rest place default).0
   first_below first rest place default rising within =

@@ -1,4 +1,4 @@
--- The id of a table never changes, whatever its accesses and the steps of foreign nodes.
+-- The id of a table never changes, whatever its storage operations and the actions of other nodes are.
 use Rattle.std.proofs.Common.{ℕ, ◌≡◌, Bool, true, false, cond, List, [], ◌∷◌, Option, None, Some, Result, Ok, Err, ◌⊎◌, ⊎_elim, refl, ap}
 use Rattle.std.proofs.Common.{◌∙◌}
 use Rattle.std.specs.declared.alloc.AllocError.{AllocError}
@@ -81,7 +81,7 @@ removes : (b : Bool) (without old new : Contents) (answer : RemoveAnswer) → wi
 removes true without old new answer own h = is h.1 ∙ own
 removes false without old new answer own h = is h.1
 
--- an access keeps the id of its table
+-- a storage operation keeps the id of its table
 pub sight-keeps : (old : Contents) (access : Access) (new : Contents) → Sight old access new → new.id ≡ old.id
 sight-keeps old (Look hash answer) new h = is h.1
 sight-keeps old (Lock hash node answer) new h = locks-at (entry_at hash old) hash (Own node) old new answer h
@@ -199,7 +199,7 @@ stepped old (Leave hash number node answer) new h = sight-keeps old.table (Leave
 stepped old (RemoveDescription hash number answer) new h = sight-keeps old.table (RemoveDescription hash number answer) new.table h.0
 stepped old (RemoveSegment hash number answer) new h = sight-keeps old.table (RemoveSegment hash number answer) new.table h.0
 
--- any accesses, with the steps before them, keep the id of their table
+-- any storage operations, with the actions before them, keep the id of their table
 pub went-keeps : (made : List Access) (old new : Steps) → Went SteppedSight old made new → new.table.id ≡ old.table.id
 went-keeps [] old new h = ap (λ steps. steps.table.id) h
 went-keeps (access ∷ made) old new (mid, first, rest) = went-keeps made mid new rest ∙ stepped old access mid first

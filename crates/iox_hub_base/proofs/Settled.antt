@@ -8,7 +8,7 @@ use Rattle.iox_hub_base.specs.Open.{OpenServices}
 use Rattle.iox_hub_base.specs.Opening.{Made, Settles, OpensInHub}
 use Rattle.iox_hub_base.specs.declared.hub.Hub.{Hub}
 
--- what a call has before its first access: the table of a hub, and the lists of steps
+-- what a call has before its first storage operation: the table of a hub, and the lists of steps
 abbrev pub begun : {T U B D : Type 0} → List (List ForeignStep) → Hub T U B D → Steps
 begun lists hub = record { table = hub.table; lists = lists }
 

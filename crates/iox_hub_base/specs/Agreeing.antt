@@ -4,7 +4,7 @@ use Rattle.std.specs.Bool.{beq}
 use Rattle.iox_domain.specs.DescribeBase.Compatible.{same_detail}
 use Rattle.iox_domain.specs.DescribeSettings.declared.static_config.publish_subscribe.StaticConfig.{StaticConfig}
 
--- Whether two publish-subscribe settings are the same in each field; of the type details each is compared, too.
+-- Whether two publish-subscribe settings are the same in each field, and in each field of their type details.
 abbrev pub same_agreement : StaticConfig → StaticConfig → Bool
 same_agreement a b =
     beq a.enable_safe_overflow b.enable_safe_overflow

@@ -19,12 +19,14 @@ use Rattle.iox_hub_base.specs.declared.hub.Hub.{Hub}
 abbrev pub is_last : ℕ → List (ℕ × ℕ) → Bool
 is_last number counts = nat_le (factories_of number counts) 1
 
--- Whose ports, loans and samples keep a factory from being closed: those of the factory itself, or all if it is the service's last factory.
+-- The owner whose ports, loans and samples keep a factory from being closed: the factory itself, or every owner (`None`) if it is the
+-- service's last factory.
 abbrev pub who_counts : Bool → ℕ → Option ℕ
 who_counts true owner = None
 who_counts false owner = Some owner
 
--- Whether a service keeps a factory from being closed: its domain is out, or something of this owner lives in its domain.
+-- Whether a service keeps a factory from being closed: its domain is out, or a port, a loan, a blocked send or a sample of this owner
+-- exists in its domain.
 abbrev pub lives_in : {T U B D : Type 0} → Option ℕ → Option (Presence T U B D) → Bool
 lives_in owner None = false
 lives_in owner (Some (Here domain)) = nat_lt 0 (living owner domain.state.ports)
@@ -41,7 +43,7 @@ less_one number hub =
     { factory_counts = forgotten number hub.factory_counts; services = without_service number hub.services }
     else record hub { factory_counts = kept number (factories_of number hub.factory_counts - 1) hub.factory_counts }
 
--- The reply once the table has closed a factory: the factory isn't handed back.
+-- The reply after the table has closed a factory: the factory isn't handed back.
 abbrev pub spent : {F : Type 0} → Result (Unit {0}) CloseError → Result (Unit {0}) (CloseError × Option F)
 spent (Ok done) = Ok tt
 spent (Err error) = Err (error, None)

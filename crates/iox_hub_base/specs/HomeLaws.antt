@@ -13,7 +13,7 @@ use Rattle.iox_hub_base.specs.Open.{OpenServices, here_if, presence_of, domain_o
 use Rattle.iox_hub_base.specs.declared.presence.Presence.{Presence}
 use Rattle.iox_hub_base.specs.declared.presence.Presence.TheVariants.{Here, Out}
 
--- If a domain is in the hub, then it is what its number has.
+-- If a domain is found in the hub, then it is what is open under its number.
 pub here_stands : {T U B D : Type 0} (found : Option (Presence T U B D)) (domain : Domain T U B D) → here_if found ≡ Some domain
     → found ≡ Some (Here domain)
 here_stands None domain is = cc

@@ -14,6 +14,7 @@ pub mod Room
 pub mod Laws
 pub mod Hubs
 pub mod Opening
+pub mod FirstLook
 pub mod OfPattern
 pub mod Untouched
 pub mod Closing

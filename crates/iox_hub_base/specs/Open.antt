@@ -43,7 +43,7 @@ with_presence number domains presence = set_value (is_at (nat_cmp number)) domai
 abbrev pub with_domain : {T U B D : Type 0} → ℕ → List (ℕ × Presence T U B D) → Domain T U B D → List (ℕ × Presence T U B D)
 with_domain number domains domain = with_presence number domains (Here domain)
 
--- The services with one that opens under this number, at its place by rising number.
+-- The services after a service was opened under this number, in the order of rising numbers.
 abbrev pub opened : {T U B D : Type 0} → ℕ → Presence T U B D → List (ℕ × Presence T U B D) → List (ℕ × Presence T U B D)
 opened number presence domains = insert_entry nat_cmp domains number presence
 

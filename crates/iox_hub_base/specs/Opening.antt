@@ -30,13 +30,13 @@ IsClosedAgain member old new =
     closed) new.table)
     × (new ≡ record old { table = new.table })
 
--- A domain is to be made for the service: none of its number is open, and its settings fit.
+-- A domain is to be made for the service: no service of its number is open, and its settings fit.
 abbrev pub WantsDomain : {T U B D : Type 0} → Detail → Detail → Membership → Hub T U B D → Type 0
 WantsDomain payload user_header member hub =
     (is_open member.service.number hub.services ≡ false) × Fits payload user_header member.service.description.settings
 
--- A node is in a service. Either the service has one factory more, which gets the hub's next number, and its domain is made if the settings
--- fit and the service isn't open yet. Or memory runs out for the domain that is to be made, and the factory is closed again.
+-- A node is in a service. Either the service has one more factory, which gets the hub's next number, and its domain is made if the settings
+-- fit and the service isn't open yet. Or memory runs out for this domain, and the factory is closed again.
 abbrev pub Enters : {T U B D : Type 0} → Detail → Detail → Membership → Hub T U B D → Result Made Bool → Hub T U B D → Type 0
 Enters payload user_header member old (Ok made) new =
     (made ≡ (member, one_more old.factories))
@@ -60,7 +60,7 @@ Settles payload user_header lacking (Ok member) old result new =
     (entered : Result Made Bool) × Enters payload user_header member old entered new
     × (result ≡ result_map_both (λ made. made) lacking entered)
 
--- The service is negotiated over the hub's table, and these lists of actions of other nodes are done before the accesses.
+-- The service is negotiated over the hub's table, and these lists of actions of other nodes are done before the storage operations.
 pub record NegotiatesInHub {T U B D E : Type 0} (payload user_header : Detail) (lacking : Bool → E)
     (negotiates : Steps → Result Membership E → Steps → Type 0) (lists : List (List ForeignStep))
     (old : Hub T U B D) (result : Result Made E) (new : Hub T U B D) : Type 0 where
@@ -77,7 +77,7 @@ OpensInHub payload user_header can_be lacking negotiates lists old result new =
     NegotiatesInHub payload user_header lacking negotiates lists old result new
     ⊎ (can_be × (result ≡ Err (lacking false)) × (new ≡ old))
 
--- The error of a call that opens or creates, if memory runs out after its last access: of the creation, or else of the opening.
+-- The error of a call that opens or creates, if memory runs out after its last storage operation: of the creation, or else of the opening.
 abbrev pub lacking_either : {V : Type 0} → Bool → OpenOrCreateFailure V
 lacking_either true = either.Create uncreated.OutOfMemory
 lacking_either false = either.Open unopened.OutOfMemory

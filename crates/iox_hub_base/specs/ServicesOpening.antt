@@ -37,7 +37,8 @@ abbrev pub IsNewHere : {T U B D : Type 0} → DomainId → ℕ → Settings → 
 IsNewHere {T} {U} {B} {D} id buffer settings presence =
     (domain : Domain T U B D) × IsNewDomain id buffer settings domain × (presence ≡ Here domain)
 
--- Services that were taken out of the hub for a call come back with one that opened; or as they were, if memory ran out for the new domain.
+-- Services that were taken out of the hub for a call are returned with one more that was opened, or as they were if memory ran out for the
+-- new domain.
 abbrev pub OpensLent : {T U B D : Type 0} → Detail → Detail → ℕ → ℕ → Settings → OpenServices T U B D
     → Result (OpenServices T U B D) (OpenServices T U B D) → Type 0
 OpensLent payload user_header buffer number settings old (Ok new) = Opens payload user_header buffer number settings old (Ok tt) new

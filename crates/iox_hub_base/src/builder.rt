@@ -1,10 +1,11 @@
 //! How services are created and opened in a hub.
-ghost use Rattle.std.specs.Prelude.{◌≡◌, ℕ, List, nat_eq};
+ghost use Rattle.std.specs.Prelude.{◌≡◌, ℕ, List, true};
 ghost use Rattle.std.specs.Result.{result_map_both};
 ghost use Rattle.iox_delivery_factories.specs.DescribeBase.Detail.{detail};
 ghost use Rattle.iox_delivery_factories.specs.DescribeBase.Hash.{service_hash_of};
 ghost use Rattle.iox_delivery_factories.specs.DescribeBase.declared.type_detail.TypeVariant.TheVariants.{FixedSize};
 ghost use Rattle.iox_delivery_factories.specs.DescribeSettings.Agreement.{AreWithinLimits, HasNoRoomForHistory};
+ghost use Rattle.iox_hub_base.specs.Hubs.{has_made};
 ghost use Rattle.iox_hub_base.specs.OfPattern.{CreatesOfPattern, OpensJudged, EitherOfPattern};
 
 use crate::factory::PortFactory;
@@ -16,16 +17,19 @@ use iox_negotiate_table::StepList;
 use iox_queues_base::Words;
 use std::alloc::Global;
 
-/// A builder that creates or opens one service in a hub. `Hub::service_builder` returns it.
+/// A builder that creates or opens one service in a hub, for a node that the hub made. `Hub::service_builder` returns it; `holds` tests
+/// what each call demands.
 ///
-/// Each call is handed lists of actions of other nodes: the first list is done before the call's first access to the table, the second
-/// before its second, and so on. If the call opens a publish-subscribe service whose description fits the hub, it makes the domain of the
-/// service's ports, unless the hub has one. If memory runs out for that, the factory is closed again, and the call is refused with
+/// Each call is handed lists of actions of other nodes: the first list is done before the call's first storage operation, the second before
+/// its second, and so on. If the call opens a publish-subscribe service whose description fits the hub, it makes the domain of the
+/// service's ports, unless the hub has one. If memory runs out for the domain, the factory is closed again, and the call is refused with
 /// `OutOfMemory`.
 ///
 /// Capacity for the service's entry is made before the table is touched. If memory runs out there, the call is refused with `OutOfMemory`,
 /// too (`open_or_create` with the error of an opening), and nothing has changed except that there may be more capacity. A creation whose
-/// settings are impossible is refused for these first.
+/// settings are impossible is refused for its settings before that. An opening is refused before that as its first lookup decides, unless
+/// other nodes act before that lookup: with `HangsInCreation` if another node is about to create the service, and if it doesn't exist with
+/// `DoesNotExist`, or `open_or_create` for settings that are impossible.
 ///
 /// Not in `iceoryx2`: the builders of `iceoryx2` find the services of their machine by themselves.
 pub trait HubBuilder<P: Negotiated>: Sized {
@@ -46,10 +50,10 @@ pub trait HubBuilder<P: Negotiated>: Sized {
     fn builder(self) -> ServiceBuilder<P>
         ensures { result ≡ record { hub = hub_of self; node = node_of self; name = name_of self; requirement = requirement_of self } };
 
-    /// Whether the builder is of this hub.
+    /// Whether the builder is of a node that this hub made.
     /// Example: `let is_of_it = builder.holds(&hub);`
     fn holds<T: Copy, U: Copy, B: Drop, D: Drop>(&self, hub: &Hub<T, U, B, D>) -> bool
-        ensures { result ≡ nat_eq (hub_of self.now) hub.now.table.id };
+        ensures { result ≡ has_made (hub_of self.now) (node_of self.now) hub.now };
 
     /// Creates the service, with no attributes except those that were asked for. See `create_with_attributes_in`.
     /// Example: `let factory = builder.create_in(alloc, &mut hub, Vec::new(alloc))?;`
@@ -59,7 +63,7 @@ pub trait HubBuilder<P: Negotiated>: Sized {
         hub: &mut Hub<T, U, B, D>,
         steps: Vec<StepList>,
     ) -> Result<PortFactory<P>, P::CreateError>
-        requires { hub_of self ≡ hub.old.table.id }
+        requires { has_made (hub_of self) (node_of self) hub.old ≡ true }
         ensures { let config = P.adjusted (P.asked (requirement_of self)) in CreatesOfPattern
             (detail FixedSize T.name T.size T.alignment) (detail FixedSize U.name U.size U.alignment) P.pattern (P.settings config)
             (AreWithinLimits (P.settings config)) (HasNoRoomForHistory (P.settings config)) P.create_error (node_of self) (name_of self)
@@ -80,7 +84,7 @@ pub trait HubBuilder<P: Negotiated>: Sized {
         hub: &mut Hub<T, U, B, D>,
         steps: Vec<StepList>,
     ) -> Result<PortFactory<P>, P::CreateError>
-        requires { hub_of self ≡ hub.old.table.id }
+        requires { has_made (hub_of self) (node_of self) hub.old ≡ true }
         ensures { let asked = P.asked (requirement_of self) in let config = P.adjusted asked in CreatesOfPattern
             (detail FixedSize T.name T.size T.alignment) (detail FixedSize U.name U.size U.alignment) P.pattern (P.settings config)
             (AreWithinLimits (P.settings config)) (HasNoRoomForHistory (P.settings config))
@@ -98,7 +102,7 @@ pub trait HubBuilder<P: Negotiated>: Sized {
         hub: &mut Hub<T, U, B, D>,
         steps: Vec<StepList>,
     ) -> Result<PortFactory<P>, P::OpenError>
-        requires { hub_of self ≡ hub.old.table.id }
+        requires { has_made (hub_of self) (node_of self) hub.old ≡ true }
         ensures { OpensJudged (detail FixedSize T.name T.size T.alignment) (detail FixedSize U.name U.size U.alignment) P.open_error
             (service_hash_of P.pattern (name_of self)) (node_of self) (λ given. P.verdict (requirement_of self) given) steps.items hub.old
             (result_map_both (λ factory. (factory.service.membership, factory.owner)) (λ error. error) result) hub.new }
@@ -117,7 +121,7 @@ pub trait HubBuilder<P: Negotiated>: Sized {
         hub: &mut Hub<T, U, B, D>,
         steps: Vec<StepList>,
     ) -> Result<PortFactory<P>, P::OpenError>
-        requires { hub_of self ≡ hub.old.table.id }
+        requires { has_made (hub_of self) (node_of self) hub.old ≡ true }
         ensures { let required = P.with_attributes (requirement_of self) attributes in OpensJudged
             (detail FixedSize T.name T.size T.alignment) (detail FixedSize U.name U.size U.alignment) P.open_error
             (service_hash_of P.pattern (name_of self)) (node_of self) (λ given. P.verdict required given) steps.items hub.old
@@ -135,7 +139,7 @@ pub trait HubBuilder<P: Negotiated>: Sized {
         hub: &mut Hub<T, U, B, D>,
         steps: Vec<StepList>,
     ) -> Result<PortFactory<P>, P::OpenOrCreateError>
-        requires { hub_of self ≡ hub.old.table.id }
+        requires { has_made (hub_of self) (node_of self) hub.old ≡ true }
         ensures { let required = requirement_of self in let config = P.adjusted (P.asked required) in EitherOfPattern
             (detail FixedSize T.name T.size T.alignment) (detail FixedSize U.name U.size U.alignment) P.pattern (P.settings config)
             (AreWithinLimits (P.settings config)) (HasNoRoomForHistory (P.settings config))
@@ -163,7 +167,7 @@ pub trait HubBuilder<P: Negotiated>: Sized {
         hub: &mut Hub<T, U, B, D>,
         steps: Vec<StepList>,
     ) -> Result<PortFactory<P>, P::OpenOrCreateError>
-        requires { hub_of self ≡ hub.old.table.id }
+        requires { has_made (hub_of self) (node_of self) hub.old ≡ true }
         ensures { let required = P.with_attributes (requirement_of self) attributes in
             let config = P.adjusted (P.asked required) in EitherOfPattern
             (detail FixedSize T.name T.size T.alignment) (detail FixedSize U.name U.size U.alignment) P.pattern (P.settings config)
@@ -190,6 +194,6 @@ impl<P: Negotiated> HubBuilder<P> for ServiceBuilder<P> {
     }
 
     fn holds<T: Copy, U: Copy, B: Drop, D: Drop>(&self, hub: &Hub<T, U, B, D>) -> bool {
-        self.hub() == hub.id()
+        self.hub() == hub.id() && hub.has_node(self.node())
     }
 }

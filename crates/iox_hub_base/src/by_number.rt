@@ -110,7 +110,7 @@ impl<X: Drop> ByNumber<X> {
         &self.entries
     }
 
-    /// The values, with capacity for one number more; this list is empty until they are put back. It takes no memory if there is capacity.
+    /// The values, with capacity for one more number; this list is empty until they are put back. It takes no memory if there is capacity.
     /// It fails only if an allocation fails, and then nothing has changed.
     pub(crate) fn lend(&mut self, alloc: Global) -> Result<RoomyByNumber<X>, AllocError>
         ensures ok { IfOk result (λ lent. lent ≡ self.old) }
@@ -136,7 +136,7 @@ impl<X: Drop> ByNumber<X> {
     }
 }
 
-/// Values by number, with capacity for one number more.
+/// Values by number, with capacity for one more number.
 ///
 /// Contracts see them as those of `ByNumber`.
 #[derive(Drop)]

@@ -10,11 +10,11 @@ use iox_negotiate_base::errors::CloseError;
 
 impl<T: Copy, U: Copy, B: Drop, D: Drop> Hub<T, U, B, D> {
     /// Closes a factory of this hub: the factory leaves the segment of its service, and if its node was the last one in, description and
-    /// segment are removed. With the last factory of a service in the hub the service's domain ends.
+    /// segment are removed. When the hub's last factory of a service is closed, the service's domain ends.
     ///
     /// Refused with `StillInUse`, the factory handed back and nothing changed: while the domain of the service is out; while a port that
-    /// the factory made exists, or a loan or a blocked send of such a publisher, or a sample of such a subscriber; and for the last factory
-    /// of its service in the hub, while any port, loan, blocked send or sample of the domain exists. Refused with
+    /// the factory made exists, or a loan or a blocked send of a publisher that it made, or a sample of a subscriber that it made; and for
+    /// the last factory of its service in the hub, while any port, loan, blocked send or sample of the domain exists. Refused with
     /// `UnableToRemoveDescription` and `UnableToRemoveSegment` if the table reports these; the factory is consumed then.
     ///
     /// Corresponds to dropping an `iceoryx2::service::port_factory`, which the ports of `iceoryx2` keep alive.
@@ -53,7 +53,7 @@ impl<T: Copy, U: Copy, B: Drop, D: Drop> Hub<T, U, B, D> {
         self.is_kept_open(factory.number(), factory.owner())
     }
 
-    // Whether something keeps a factory from being closed, by the number of its service and its own.
+    // Whether something keeps a factory from being closed; `number` is that of its service, and `owner` its own.
     fn is_kept_open(&self, number: u64, owner: u64) -> bool
         ensures { result ≡ in_use number owner self.now }
     {
@@ -77,7 +77,7 @@ impl<T: Copy, U: Copy, B: Drop, D: Drop> Hub<T, U, B, D> {
         self.factory_counts.of(number) <= 1
     }
 
-    // Counts one factory fewer of a service; with the last its domain ends.
+    // Counts one factory fewer of a service; with the last factory, the service's domain ends.
     fn let_go(&mut self, number: u64)
         ensures { self.new ≡ less_one number self.old }
     {

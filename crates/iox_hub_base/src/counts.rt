@@ -50,7 +50,7 @@ impl Counts {
         }
     }
 
-    /// The counts, with capacity for one service more; there are none here until they are put back. It takes no memory if there is
+    /// The counts, with capacity for one more service; there are none here until they are put back. It takes no memory if there is
     /// capacity. It fails only if an allocation fails, and then nothing has changed.
     pub(crate) fn lend(&mut self, alloc: Global) -> Result<RoomyCounts, AllocError>
         ensures ok { IfOk result (λ lent. lent ≡ self.old) }
@@ -86,7 +86,7 @@ impl Counts {
     }
 }
 
-/// Counts with capacity for one service more.
+/// Counts with capacity for one more service.
 ///
 /// Contracts see them as those of `Counts`.
 #[derive(Drop)]

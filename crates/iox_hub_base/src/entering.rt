@@ -16,8 +16,8 @@ use iox_queues_base::Words;
 use std::alloc::{AllocError, Global};
 use std::mem;
 
-/// The errors of a call that negotiates a service, if memory runs out after its last access: one if the service was opened, one if it was
-/// created.
+/// The errors of a call that negotiates a service, if memory runs out after its last storage operation: one if the service was opened, one
+/// if it was created.
 #[derive(Clone, Copy)]
 pub(crate) struct Lacking<E> {
     pub(crate) opened: E,
@@ -25,7 +25,7 @@ pub(crate) struct Lacking<E> {
 }
 
 impl<E: Copy> Lacking<E> {
-    /// The same error, whether the service was opened or created.
+    /// One error for both cases: the service was opened, or it was created.
     pub(crate) fn either_way(error: E) -> Self
         ensures { result ≡ record { opened = error; created = error } }
     {
@@ -47,14 +47,14 @@ impl<E: Copy> Lacking<E> {
     }
 }
 
-// Memory ran out for a service that was negotiated; and whether that had been created.
+// Memory ran out for a service that was negotiated, and whether the service had been created by that call.
 #[derive(Clone, Copy)]
 struct NoRoom {
     was_new: bool,
 }
 
 impl<T: Copy, U: Copy, B: Drop, D: Drop> Hub<T, U, B, D> {
-    // The services and the counts of their factories, with capacity for one service more. The hub is without them until they are put back.
+    // The services and the counts of their factories, with capacity for one more service. The hub is without them until they are put back.
     // Fails only if an allocation fails, and then nothing has changed.
     fn make_room(&mut self, alloc: Global) -> Result<ServiceRoom<T, U, B, D>, AllocError>
         ensures lent { IfOk result (λ room. (room.counts ≡ self.old.factory_counts) × (room.services ≡ self.old.services)) }
@@ -71,7 +71,7 @@ impl<T: Copy, U: Copy, B: Drop, D: Drop> Hub<T, U, B, D> {
         }
     }
 
-    // The table, with these lists of actions to do before its accesses. The hub is without it until it is put back.
+    // The table, with these lists of actions to do before its storage operations. The hub is without it until it is put back.
     fn lend_table(&mut self, alloc: Global, steps: Vec<StepList>) -> Stepped
         ensures lent { result ≡ record { table = self.old.table; lists = steps.items } }
         ensures rest { self.new ≡ record self.old { table = self.new.table } }
@@ -79,9 +79,9 @@ impl<T: Copy, U: Copy, B: Drop, D: Drop> Hub<T, U, B, D> {
         Stepped::new(mem::replace(&mut self.table, Table::new(alloc, 0)), steps)
     }
 
-    /// What a call that opens a service needs: the table, with these lists of actions of other nodes to do before its accesses, and
-    /// capacity for the service. The hub is without them until they are put back. It fails only if an allocation fails, and then nothing
-    /// has changed.
+    /// What a call that opens a service needs: the table, with these lists of actions of other nodes to do before its storage operations,
+    /// and capacity for the service. The hub is without them until they are put back. It fails only if an allocation fails, and then
+    /// nothing has changed.
     pub(crate) fn lend_parts(
         &mut self,
         alloc: Global,

@@ -1,8 +1,8 @@
 //! The hub, and how it is made.
-ghost use Rattle.std.specs.Prelude.{◌≡◌, ◌-◌, ◌^◌, Ok, min, nat_eq};
+ghost use Rattle.std.specs.Prelude.{◌≡◌, ◌-◌, ◌^◌, true, Ok, min, nat_eq};
 ghost use Rattle.iox_delivery_factories.specs.DescribeBase.Hash.{service_hash_of};
 ghost use Rattle.iox_negotiate_table.specs.Contents.{entry_at};
-ghost use Rattle.iox_hub_base.specs.Hubs.{IsNewHub, one_more, is_node, hash_state};
+ghost use Rattle.iox_hub_base.specs.Hubs.{IsNewHub, one_more, is_node, has_made, hash_state};
 ghost use Rattle.iox_hub_base.specs.Room.{loans_left_in, samples_at_most_in};
 
 use crate::Services;
@@ -14,15 +14,15 @@ use iox_describe::pattern::Pattern;
 use iox_describe::{MessagingPattern, ServiceName, service_hash};
 use iox_domain_values::{DegradationHandler, Handlers};
 use iox_negotiate::Builder;
-use iox_negotiate_base::{LookAnswer, Storage};
-use iox_negotiate_table::Table;
+use iox_negotiate_base::Storage;
+use iox_negotiate_table::{Entry, Table};
 use std::alloc::Global;
 
 /// The configuration of a hub.
 #[derive(Clone, Copy, Debug, PartialEq, Eq)]
 pub struct HubConfig {
-    /// How many connections of a subscriber may stay readable after their publishers were closed. If a service lets more samples of one
-    /// connection be borrowed, that number applies instead.
+    /// The maximum number of a subscriber's connections that stay readable after their publishers were closed. If a service's borrow limit
+    /// is larger, the borrow limit applies instead.
     pub expired_connection_buffer: u32,
     /// The id of the hub, by which hubs are distinguished.
     pub id: u64,
@@ -131,12 +131,12 @@ impl<T: Copy, U: Copy, B: Drop, D: Drop> Hub<T, U, B, D> {
         1 <= number && number <= self.nodes
     }
 
-    /// Whether a node is of this hub.
+    /// Whether this hub made the node.
     /// Example: `let is_of_it = hub.holds_node(&node);`
     pub fn holds_node(&self, node: &NodeHandle) -> bool
-        ensures { result ≡ nat_eq node.now.hub self.now.table.id }
+        ensures { result ≡ has_made node.now.hub node.now.number self.now }
     {
-        node.hub == self.id()
+        node.hub == self.id() && self.has_node(node.number)
     }
 
     /// Whether a factory is of this hub.
@@ -147,19 +147,17 @@ impl<T: Copy, U: Copy, B: Drop, D: Drop> Hub<T, U, B, D> {
         factory.service.storage() == self.id()
     }
 
-    /// What lies under the hash of a pattern and a name. Nothing changes, and the answer doesn't depend on memory: the description of an
-    /// existing service is copied if there is memory for it, and dropped at once; otherwise nothing is allocated.
+    /// What lies under the hash of a pattern and a name. It doesn't allocate.
     ///
     /// Not in `iceoryx2`.
     /// Example: `let state = hub.state_under(MessagingPattern::Event, &name);`
-    pub fn state_under(&mut self, pattern: MessagingPattern, name: &ServiceName) -> HashState
-        ensures state { result ≡ hash_state (entry_at (service_hash_of pattern name.now) self.old.table) }
-        ensures same { self.new ≡ self.old }
+    pub fn state_under(&self, pattern: MessagingPattern, name: &ServiceName) -> HashState
+        ensures { result ≡ hash_state (entry_at (service_hash_of pattern name.now) self.now.table) }
     {
-        match self.table.look(&service_hash(pattern, name)) {
-            LookAnswer::Absent => HashState::Absent,
-            LookAnswer::Locked => HashState::Locked,
-            _ => HashState::Described,
+        match self.table.entry(&service_hash(pattern, name)) {
+            None => HashState::Absent,
+            Some(Entry::Locked { .. }) => HashState::Locked,
+            Some(Entry::Described { .. }) => HashState::Described,
         }
     }
 
@@ -174,7 +172,7 @@ impl<T: Copy, U: Copy, B: Drop, D: Drop> Hub<T, U, B, D> {
     }
 
     /// How many samples the subscribers of all domains in the hub may hold at once: for each open subscriber and each publisher that
-    /// exists, as many as may be borrowed of one connection. At most 2^64 - 1.
+    /// exists, as many as may be borrowed from one connection. At most 2^64 - 1.
     ///
     /// Not in `iceoryx2`.
     /// Example: `let samples = hub.samples_at_most();`
@@ -184,12 +182,12 @@ impl<T: Copy, U: Copy, B: Drop, D: Drop> Hub<T, U, B, D> {
         self.services.samples_at_most()
     }
 
-    /// A builder of the service of this name, for a node of this hub.
+    /// A builder of the service of this name, for a node that this hub made.
     ///
     /// Ported from `iceoryx2::node::Node::service_builder`.
     /// Example: `let builder = hub.service_builder(&node, name).publish_subscribe::<u64>();`
     pub fn service_builder(&self, node: &NodeHandle, name: ServiceName) -> Builder
-        requires { node.now.hub ≡ self.now.table.id }
+        requires { has_made node.now.hub node.now.number self.now ≡ true }
         ensures { result ≡ record { hub = self.now.table.id; node = node.now.number; name = name } }
     {
         Builder::of_hub(self.id(), node.number, name)

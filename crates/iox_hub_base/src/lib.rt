@@ -8,7 +8,7 @@
 //! | `services_home` | the services of a hub as a home of domains |
 //! | `laws` | theorems about these calls |
 //! | `presences` | open services by number |
-//! | `by_number` | values by number, of which one is found at once |
+//! | `by_number` | values by number; finding one takes one step while no number is missing |
 //! | `counts` | how many factories of a service are open |
 //! | `service_room` | services and counts with capacity for one more |
 //! | `node` | a node |
@@ -16,7 +16,8 @@
 //! | `hub` | the hub: nodes, and builders of services |
 //! | `builder` | how services are created and opened in a hub |
 //! | `entering` | how a service that was negotiated becomes a factory of the hub |
-//! | `untouched` | a table whose looks run out of memory |
+//! | `first_look` | what the first lookup of a call decides without memory |
+//! | `untouched` | a table whose lookups run out of memory |
 //! | `closing` | how factories are closed |
 //! | `foreign` | actions of other nodes |
 //! | `ports` | builders of ports; how domains are taken and put back |
@@ -49,6 +50,7 @@ pub mod closing;
 pub mod counts;
 mod entering;
 pub mod factory;
+mod first_look;
 pub mod foreign;
 pub mod home;
 pub mod hub;

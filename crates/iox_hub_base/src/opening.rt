@@ -14,6 +14,7 @@ ghost use Rattle.iox_hub_base.specs.Opening.{lacking_either};
 
 use crate::entering::Lacking;
 use crate::factory::PortFactory;
+use crate::first_look::{acts_first, lacking_open, lacking_open_or_create};
 use crate::hub::Hub;
 use crate::untouched::lacking_create;
 use iox_describe::{AttributeSpecifier, AttributeVerifier, ZeroCopySend};
@@ -94,8 +95,9 @@ pub(crate) fn open<
         (result_map_both (λ factory. (factory.service.membership, factory.owner)) (λ error. error) result) hub.new }
 {
     let lacking = Lacking::either_way(P::open_error(OpenFailure::OutOfMemory));
+    let acts = acts_first(steps.as_slice());
     let Ok(parts) = hub.lend_parts(alloc, steps) else {
-        return Err(lacking.opened);
+        return Err(lacking_open(hub, acts, &builder));
     };
     let mut table = parts.table;
     let room = parts.room;
@@ -146,8 +148,9 @@ pub(crate) fn open_or_create<
         (result_map_both (λ factory. (factory.service.membership, factory.owner)) (λ error. error) result) hub.new }
 {
     let lacking = lacking_either::<P>();
+    let acts = acts_first(steps.as_slice());
     let Ok(parts) = hub.lend_parts(alloc, steps) else {
-        return Err(lacking.opened);
+        return Err(lacking_open_or_create(hub, acts, builder, attributes));
     };
     let mut table = parts.table;
     let room = parts.room;
@@ -176,7 +179,7 @@ fn opened_or_created<P: Negotiated>(
     }
 }
 
-// The errors of a call that opens or creates, if memory runs out after its last access.
+// The errors of a call that opens or creates, if memory runs out after its last storage operation.
 fn lacking_either<P: Negotiated>() -> Lacking<P::OpenOrCreateError>
     ensures opened { result.opened ≡ P.open_or_create_error (lacking_either false) }
     ensures created { result.created ≡ P.open_or_create_error (lacking_either true) }

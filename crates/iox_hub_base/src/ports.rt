@@ -64,8 +64,8 @@ impl<T: Copy, U: Copy, B: Drop, D: Drop> Hub<T, U, B, D> {
     }
 }
 
-// A function that makes a builder can't call another that makes one, so these repeat what those of `iox_delivery_factories` do: a builder
-// holds an object, and a hub may hold some.
+// These functions repeat what those of `iox_delivery_factories` do, since a function that makes a builder can't call another one that makes
+// it: a builder holds an object, and a hub may hold objects, too.
 impl<T: Copy + ZeroCopySend, U: Copy, B: Drop, D: Drop> Hub<T, U, B, D> {
     /// The builder of publishers of a factory's service, with sizes from its agreement and no option set yet. None if the domain is out, or
     /// none was made.

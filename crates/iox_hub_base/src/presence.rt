@@ -11,6 +11,7 @@ ghost use Rattle.iox_hub_base.specs.declared.presence.Presence.TheVariants.{Out}
 use iox_describe_settings::publish_subscribe::StaticConfig;
 use iox_domain::Domain;
 use iox_domain::allowances::{loans, samples};
+use iox_domain::ports::ServicePorts;
 use iox_domain_values::{DegradationHandler, Handlers};
 use std::mem;
 
@@ -95,10 +96,21 @@ impl<T: Copy, U: Copy, B, D> Presence<T, U, B, D> {
         ensures { result ≡ min (counted_at (λ ports. samples_at_most ports) self.now) (2 ^ 64 - 1) }
     {
         match self {
-            Presence::Here(domain) => samples::samples_at_most(&domain.state.ports),
+            Presence::Here(domain) => most_samples(&domain.state.ports),
             Presence::Out(_) => 0,
         }
     }
+}
+
+// How many samples the subscribers of a service may hold at once. Without publishers none, so that it counts no subscribers then.
+#[tactic(auto, using(crate::proofs::Held::none_held))]
+fn most_samples<T: Copy, U: Copy>(ports: &ServicePorts<T, U>) -> u64
+    ensures { result ≡ min (samples_at_most ports.now) (2 ^ 64 - 1) }
+{
+    if samples::held_by_one(ports) == 0 {
+        return 0;
+    }
+    samples::samples_at_most(ports)
 }
 
 // Whether two agreements are the same.

@@ -136,7 +136,7 @@ impl<T: Copy, U: Copy, B: Drop, D: Drop> Presences<T, U, B, D> {
         self.entries.replace(number, presence);
     }
 
-    /// The open services, with capacity for one number more; none is open here until they are put back. It takes no memory if there is
+    /// The open services, with capacity for one more number; none is open here until they are put back. It takes no memory if there is
     /// capacity. It fails only if an allocation fails, and then nothing has changed.
     pub(crate) fn lend(
         &mut self,

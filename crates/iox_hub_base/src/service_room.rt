@@ -19,15 +19,15 @@ use iox_queues_base::Words;
 use std::alloc::Global;
 use std::marker::Model;
 
-/// What a hub hands to a call that opens a service: the table, with actions of other nodes to do before its accesses, and capacity for the
-/// service.
+/// What a hub hands to a call that opens a service: the table, with actions of other nodes to do before its storage operations, and
+/// capacity for the service.
 #[derive(Drop)]
 pub(crate) struct OpeningParts<T, U, B, D> {
     pub(crate) table: Stepped,
     pub(crate) room: ServiceRoom<T, U, B, D>,
 }
 
-/// The services of a hub and the counts of their factories, with capacity for one service more.
+/// The services of a hub and the counts of their factories, with capacity for one more service.
 #[derive(Drop)]
 pub(crate) struct ServiceRoom<T, U, B, D> {
     pub(crate) counts: RoomyCounts,
@@ -75,7 +75,7 @@ impl<T: Copy, U: Copy, B: Drop, D: Drop> RoomyServices<T, U, B, D> {
 }
 
 impl<T: Words + ZeroCopySend, U: Copy + ZeroCopySend, B: Drop, D: Drop> RoomyServices<T, U, B, D> {
-    /// The services with one that opens under a number, as `Services::open` opens it. There is capacity for its entry, so only an
+    /// The services after one was opened under a number, as `Services::open` opens it. There is capacity for its entry, so only an
     /// allocation of its domain may fail; then the services are returned as they were.
     pub(crate) fn open(
         self,

@@ -108,9 +108,9 @@ impl<T: Copy, U: Copy, B: Drop, D: Drop> Services<T, U, B, D> {
 
 impl<T: Words + ZeroCopySend, U: Copy + ZeroCopySend, B: Drop, D: Drop> Services<T, U, B, D> {
     /// Opens a service under this number: its domain is a new one of this hub and number, by the description, and has no ports. Nothing
-    /// happens if one of this number is open, with its domain in the hub or out, or if the description doesn't fit (`Domain::fits`). The
-    /// buffer is how many connections of a subscriber may stay readable after their publishers were closed; if more samples of one
-    /// connection may be held, that number applies instead.
+    /// happens if one of this number is open, with its domain in the hub or out, or if the description doesn't fit (`Domain::fits`).
+    /// `expired_connection_buffer` is the maximum number of a subscriber's connections that stay readable after their publishers were
+    /// closed; if the service's borrow limit is larger, the borrow limit applies instead.
     ///
     /// Refused with `OutOfMemory` if a domain is to be made and an allocation fails; then nothing has changed.
     pub fn open(

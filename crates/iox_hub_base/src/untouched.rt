@@ -1,4 +1,4 @@
-//! A table that runs out of memory before the first access.
+//! A table that runs out of memory before the first storage operation.
 ghost use Rattle.std.specs.Prelude.{◌≡◌, Option};
 ghost use Rattle.std.specs.Option.{unwrap_or};
 ghost use Rattle.iox_delivery_factories.specs.DescribeSettings.Agreement.{AreWithinLimits, HasNoRoomForHistory};
@@ -10,11 +10,11 @@ use iox_describe::ServiceHash;
 use iox_negotiate::{Negotiated, ServiceBuilder};
 use iox_negotiate_base::{
     LeaveAnswer, LockAnswer, LookAnswer, MakeSegmentAnswer, OpenSegmentAnswer, PublishAnswer,
-    RemoveAnswer, Storage,
+    RemoveAnswer, Storage, StoredDescription,
 };
 use std::alloc::Global;
 
-// A table that runs out of memory before the first access: a look answers that, and no call gets further.
+// A table that runs out of memory before the first storage operation: a lookup reports this, and no call gets further.
 #[derive(Drop)]
 struct Untouched;
 
@@ -47,7 +47,12 @@ impl Storage for Untouched {
         MakeSegmentAnswer::OutOfMemory
     }
 
-    fn publish(&mut self, _hash: &ServiceHash, _number: u64, _bytes: &[u8]) -> PublishAnswer {
+    fn publish(
+        &mut self,
+        _hash: &ServiceHash,
+        _number: u64,
+        _bytes: StoredDescription,
+    ) -> PublishAnswer {
         PublishAnswer::OutOfMemory
     }
 
@@ -70,8 +75,8 @@ impl Storage for Untouched {
     }
 }
 
-/// The error of a call that creates, if memory runs out before the first access; settings that are impossible are still reported. It takes
-/// no memory.
+/// The error of a call that creates, if memory runs out before the first storage operation; settings that are impossible are still
+/// reported. It takes no memory.
 // It has a stack frame of its own, so that the caller's frame, below which the deepest calls are made, doesn't grow.
 #[inline(never)]
 pub(crate) fn lacking_create<P: Negotiated>(

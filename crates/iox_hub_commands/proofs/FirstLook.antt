@@ -1,4 +1,4 @@
--- The first look of a call tells a refusal: it is the one access of the call, and changes nothing.
+-- The first lookup of a call tells a refusal: it is the one storage operation of the call, and changes nothing.
 use Rattle.std.proofs.Common.{◌≡◌, ℕ, zero, suc, ◌+◌, ◌||◌, Bool, true, false, cond, List, [], ◌∷◌, map, Option, None, Some, Result, Ok}
 use Rattle.std.proofs.Common.{◌∙◌, Err, refl, sym, ap, subst, inl, inr, arith, length, min, nat_eq}
 use Rattle.std.specs.List.{AllByRecursion, filter}
@@ -86,7 +86,7 @@ module _ (name : List ℕ) (types : MessageTypeDetails) where
       here true none later = absurd cc
       here false none later = later none
 
-  -- where none is named before the first access its list is empty
+  -- where none is named before the first storage operation its list is empty
   pub none_next : (steps : List StepBefore) → acts_first steps ≡ false → next_list (lists_of name types steps) ≡ []
   none_next steps none = here (min (last_access steps) 16)
     where
@@ -116,10 +116,10 @@ module _ (name : List ℕ) (types : MessageTypeDetails) where
       → AllByRecursion (AllByRecursion PublishesInForm) (lists_of name types steps)
   lists_formed steps formed = from_formed steps formed 1 (min (last_access steps) 16)
 
--- ---- the first look
+-- ---- the first lookup
 
 module _ {T U B D : Type 0} (asked : ServiceAsked) (steps : List StepBefore) (hub : Hub T U B D) (found : HashState) where
-  -- what a first look finds lies under the hash, and no step is named before it
+  -- what a first lookup finds lies under the hash, and no step is named before it
   parts : first_look asked steps hub ≡ Some found
       → (acts_first steps ≡ false) × (hash_state (entry_at (hash_of asked.name asked.options) hub.table) ≡ found)
   parts is = here (acts_first steps) (hash_state (entry_at (hash_of asked.name asked.options) hub.table)) is
@@ -357,7 +357,7 @@ module _ {T U B D : Type 0} (payload user_header : Detail) (types : MessageTypeD
     (table : FactoryTable) (hub new : Hub T U B D) (answer : Refusal)
     (formed : AllByRecursion (AllByRecursion PublishesInForm) (lists_of asked.name types steps)) (same : new ≡ hub) where
   module _ (attributes : Required) where
-    -- What a first look tells who opens is what the call comes to, and nothing else happens.
+    -- What a first lookup tells who opens is what the call comes to, and nothing else happens.
     unopened_at_first_look : Some answer ≡ open_told asked.options (first_look asked steps hub)
         → OpensNumbered true payload user_header types asked attributes steps table hub (Some (Err answer)) table new
     unopened_at_first_look told = among (first_look asked steps hub) refl told

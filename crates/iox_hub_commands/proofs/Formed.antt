@@ -1,4 +1,4 @@
--- What is so of each in a list, and of one behind them.
+-- What is so of each in a list, and of one after them.
 use Rattle.std.proofs.Common.{List, [], ◌∷◌, ◌++◌}
 use Rattle.std.specs.List.{AllByRecursion}
 

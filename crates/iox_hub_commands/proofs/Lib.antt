@@ -1,5 +1,6 @@
 pub mod Arrived
 mod Refused
+mod Reserved
 pub mod Misfit
 pub mod Answering
 pub mod Written

@@ -233,7 +233,7 @@ numbered_next None (Some (Ok (Some taken))) made after sample numbers = absurd n
 numbered_next (Some port) (Some (Ok (Some taken))) made after sample numbers = let is = numbers.0 in let same : sample
     ≡ made.samples.next = cc in (same, rw numbers.1 refl)
 
--- so many more are pledged where there is room
+-- n more are pledged where there is room
 pub more_pledges : {V : Type 0} (table : NumberTable V) (left more pledged all : ℕ) → all ≡ pledged + more → all < table.room
     → length table.entries + left ≤ pledged → Pledges (left + more) all table
 more_pledges table left more pledged all is fits enough = (omega (arith, is, enough), omega (arith, fits))
@@ -537,7 +537,7 @@ module _ {T U B D : Type 0} where
     lacks (command.GiveUp publisher) old new lacking step finds room = absurd step
     lacks (command.Receive subscriber) old new lacking ((received, grows, told), same) finds room
         = received_in_room subscriber old new lacking received grows told finds room.1
-    lacks (command.Read sample) old new lacking step finds room = tt
+    lacks (command.Read sample) old new lacking step finds room = step
     lacks (command.Sequence sample) old new lacking step finds room = absurd step
     lacks (command.Release sample) old new lacking step finds room = absurd step
     lacks (command.Update number) old new lacking step finds room = absurd step

@@ -1,6 +1,6 @@
 -- By no command room for numbers of loans and samples goes, and what a hub with more room is.
 use Rattle.std.proofs.Common.{arith, ◌≡◌, ◌∙◌, sym, ◌≤◌, ℕ, Bool, true, false, List, [], ◌∷◌, ◌++◌, length, Option, None, Some, Result}
-use Rattle.std.proofs.Common.{Ok, Err, refl, ap}
+use Rattle.std.proofs.Common.{Ok, Err, refl, ap, subst}
 use Rattle.std.proofs.Math.Seq.{get_or-append_seam}
 use Rattle.std.proofs.lemmas.List.{length-append}
 use Rattle.std.proofs.lemmas.Option.{slice_get_read}
@@ -28,18 +28,21 @@ use Rattle.iox_hub_commands.specs.Following.{LeaveStep}
 use Rattle.iox_hub_commands.specs.Calls.{ready}
 use Rattle.iox_hub_commands.specs.Growing.{GrowsFirst}
 use Rattle.iox_hub_commands.specs.Making.{NumbersPort, with_publisher, with_subscriber}
+use Rattle.iox_hub_commands.specs.Messages.{SomeValues}
 use Rattle.iox_hub_commands.specs.Numbering.{LendsNumbered, LendsWrittenNumbered, ReceivesNumbered, NumbersLoan, NumbersSample, removed_if}
 use Rattle.iox_hub_commands.specs.Tables.{IsFull, IsRoomier, lender, without_publisher, without_subscriber, without_loan, without_sample}
 use Rattle.iox_hub_commands.specs.declared.ports.made.Made.{Made}
 use Rattle.iox_hub_commands.specs.Lending.{LoanStep, LoanUninitStep, lent_reply}
+use Rattle.iox_hub_commands.specs.Reading.{values_under}
 use Rattle.iox_hub_commands.specs.Receiving.{ReceiveStep}
+use Rattle.iox_hub_base.specs.AsHome.{hub_ports}
 use Rattle.iox_hub_base.specs.Opening.{Made as Opened}
 use Rattle.iox_delivery.specs.Container.NumberTable.{NumberTable, Rises, value_at}
 use Rattle.iox_hub_base.specs.declared.hub.HubConfig.{HubConfig}
 use Rattle.iox_hub_commands.specs.Lives.{NumbersRise}
 use Rattle.iox_hub_commands.specs.Numbers.{IsNew}
 use Rattle.iox_hub_commands.specs.PortRoom.{LacksInRoom}
-use Rattle.iox_hub_commands.specs.Room.{RepliesValues, OnlyRoomier}
+use Rattle.iox_hub_commands.specs.Room.{GivesValues, OnlyRoomier}
 use Rattle.iox_hub_commands.specs.Services.{PublisherComes, SubscriberComes, domain_of_factory}
 use Rattle.iox_hub_commands.specs.CommandSteps.{IsReplied, Step}
 use Rattle.iox_hub_commands.specs.declared.numbered_hub.NumberedHub.{NumberedHub}
@@ -245,8 +248,8 @@ module _ {T U B D : Type 0} where
         = replied _ old new answer (λ reply does. leaves _ _ _ _ number old.made new.made old.hub new.hub reply does.0) step
     no_room_goes (command.Has subscriber) old new answer step = replied _ old new answer (λ reply does. by_hub old new does.1) step
 
-  -- a command that isn't replied to, though the ports have room, is one whose reply has values
-  pub lacks_values : (asked : Command T) (old new : NumberedHub T U B D) → LacksInRoom asked old new → RepliesValues asked
+  -- a command that isn't replied to, though the ports have room, would reply with values
+  pub lacks_values : (asked : Command T) (old new : NumberedHub T U B D) → LacksInRoom asked old new → GivesValues asked new
   lacks_values command.Node old new lacks = absurd lacks
   lacks_values (command.Create node name options attributes steps) old new lacks = absurd lacks
   lacks_values (command.Open node name options requirements steps) old new lacks = absurd lacks
@@ -264,8 +267,10 @@ module _ {T U B D : Type 0} where
   lacks_values (command.Put publisher values) old new lacks = absurd lacks
   lacks_values (command.Retry publisher nanoseconds) old new lacks = absurd lacks
   lacks_values (command.GiveUp publisher) old new lacks = absurd lacks
-  lacks_values (command.Receive subscriber) old new lacks = tt
-  lacks_values (command.Read sample) old new lacks = tt
+  lacks_values (command.Receive subscriber) old new lacks = (old.made.samples.next, lacks.0, lacks.1)
+  lacks_values (command.Read sample) old new lacks =
+      subst (λ (hub : NumberedHub T U B D). SomeValues (values_under hub_ports (value_at hub.made.samples sample) hub.hub)) (sym lacks.1)
+      lacks.0
   lacks_values (command.Sequence sample) old new lacks = absurd lacks
   lacks_values (command.Release sample) old new lacks = absurd lacks
   lacks_values (command.Update number) old new lacks = absurd lacks
@@ -313,7 +318,7 @@ module _ {T U B D : Type 0} where
     none_rise hub.made.samples is.samples,
   )
 
--- what stands behind a list
+-- what stands after a list
 pub at_seam : {A : Type 0} (xs : List A) (y : A) (ys : List A) → slice_get (xs ++ y ∷ ys) (length xs) ≡ Some y
 at_seam xs y ys =
     let long = length-append xs (y ∷ ys) in slice_get_read (xs ++ y ∷ ys) (length (xs ++ y ∷ ys)) (length xs) y refl

@@ -32,8 +32,8 @@ pub record IsAgreement {T U B D : Type 0} (number : ℕ) (agreed : Agreement) (m
   pub carried : HoldsOfFactories (λ other carries. other ≡ number → carries ≡ agreed) made
   pub served : HoldsOfDomains (λ other config. other ≡ number → agreed.settings ≡ PublishSubscribe config) hub.services.domains
 
--- Each factory carries the agreement of its service, and each domain has the settings of such an agreement. The table of services became
--- what it is by accesses and actions of other nodes.
+-- Each factory carries the agreement of its service, and each domain has the settings of its service's agreement. The table of services
+-- became what it is by storage operations and actions of other nodes.
 pub record AreOfOneAgreement {T U B D : Type 0} (made : FactoryTable) (hub : Hub T U B D) : Type 0 where
   pub is_reached : IsReached hub.table
   pub of_factories : HoldsOfFactories (λ number agreed. IsAgreement number agreed made hub) made

@@ -1,8 +1,9 @@
--- What the commands do that create ports.
-use Rattle.std.specs.Prelude.{ℕ, ◌≡◌, true, Option, Result}
+-- What the commands that create ports do.
+use Rattle.std.specs.Prelude.{ℕ, ◌≡◌, Bool, true, Option, None, Some, Result}
 use Rattle.std.specs.Option.{unwrap_or}
 use Rattle.iox_command.specs.declared.reply.Reply.{Reply}
 use Rattle.iox_delivery.specs.Domain.AtHomes.{MakesAt}
+use Rattle.iox_delivery.specs.Domain.Making.{refuses_publisher, refuses_subscriber}
 use Rattle.iox_delivery.specs.Domain.Steps.{PublisherComes, SubscriberComes, why_no_publisher, why_no_subscriber}
 use Rattle.iox_delivery.specs.Domain.declared.domain_id.DomainId.{DomainId}
 use Rattle.iox_delivery.specs.Domain.declared.ports.making.PublisherConfig.{PublisherConfig}
@@ -30,6 +31,16 @@ PublisherStep {T} {U} ports_of with_ports keeping degrades is_default domain con
     user_header) (why_no_publisher config) (ports_of domain old)) (with_publisher domain true) made.publishers.next made old came
     made_after new
     × (answer ≡ publisher_reply came)
+
+-- Whether a publisher with this configuration isn't created however much memory there is: it is refused, or its domain isn't there.
+abbrev pub no_publisher_comes : {T U : Type 0} → PublisherConfig → Option (ServicePorts T U) → Bool
+no_publisher_comes config None = true
+no_publisher_comes config (Some ports) = refuses_publisher config ports
+
+-- Whether a subscriber with this configuration isn't created however much memory there is: it is refused, or its domain isn't there.
+abbrev pub no_subscriber_comes : {T U : Type 0} → SubscriberConfig → Option (ServicePorts T U) → Bool
+no_subscriber_comes config None = true
+no_subscriber_comes config (Some ports) = refuses_subscriber config.buffer_size ports
 
 -- A subscriber is created in a domain, with this configuration and this handler, and gets the next number.
 abbrev pub SubscriberStep : {T U H D : Type 0} → (DomainId → H → Option (ServicePorts T U)) → (DomainId → ServicePorts T U → H → H)

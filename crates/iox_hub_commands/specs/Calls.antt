@@ -24,12 +24,12 @@ abbrev pub AtPort : {H A : Type 0} → (PortId → H → Option A → H → Type
 AtPort call None old answer new = (answer ≡ None) × (new ≡ old)
 AtPort call (Some port) old answer new = call port old answer new
 
--- A call at the port of a number, which says whether something happened; nothing does if the number has no port.
+-- A call at the port of a number, which returns whether something happened. Nothing happens if the number has no port.
 abbrev pub AtPortIf : {H : Type 0} → (PortId → H → Bool → H → Type 0) → Option PortId → H → Bool → H → Type 0
 AtPortIf call None old answer new = (answer ≡ false) × (new ≡ old)
 AtPortIf call (Some port) old answer new = call port old answer new
 
--- A publisher loans a slot for so many elements.
+-- A publisher loans a slot for this many elements.
 abbrev pub Lends : {T U H : Type 0} → (DomainId → H → Option (ServicePorts T U)) → (DomainId → ServicePorts T U → H → H) → ℕ → PortId
     → H → Option (Result ℕ LoanError) → H → Type 0
 Lends ports_of with_ports elements port old answer new =
@@ -46,7 +46,8 @@ abbrev pub ready : {T U H : Type 0} → (DomainId → H → Option (ServicePorts
 ready ports_of None home = None
 ready ports_of (Some port) home = if may_lend ports_of port home then Some port else None
 
--- A publisher loans a slot for so many elements, and each element is written with the same value. The loan has exactly these values then.
+-- A publisher loans a slot for this many elements, and each element is written with the same value. Afterwards the loan has exactly these
+-- values.
 abbrev pub LendsWritten : {T U H : Type 0} → (DomainId → H → Option (ServicePorts T U)) → (DomainId → ServicePorts T U → H → H) → ℕ → T
     → PortId → H → Option (Result ℕ LoanError) → H → Type 0
 LendsWritten ports_of with_ports elements value port old answer new =

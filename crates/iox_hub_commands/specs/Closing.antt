@@ -28,7 +28,7 @@ ClosesUnless true number member table old answer after new = (answer ≡ Some (E
 ClosesUnless false number member table old answer after new =
     (closed : Result (Unit {0}) CloseError) × Leaves member old closed new × (answer ≡ Some closed) × (after ≡ removed table number)
 
--- A factory of another hub counts as none: nothing happens.
+-- Nothing happens at a factory of another hub, as if the number had no factory.
 abbrev pub ClosesIfOf : {T U B D : Type 0} → Bool → ℕ → MadeFactory → FactoryTable → Hub T U B D → Option (Result (Unit {0}) CloseError)
     → FactoryTable → Hub T U B D → Type 0
 ClosesIfOf false number made table old answer after new = IsSkipped table old answer after new

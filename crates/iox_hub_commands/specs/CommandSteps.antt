@@ -37,17 +37,17 @@ StepsUnlessOfPort steps asked old (Ok reply) new = steps asked old (Ok reply) ne
 StepsUnlessOfPort steps asked old (Err of_port) new = (asked ≡ command_of of_port) × (new ≡ old)
 
 module _ {T U B D : Type 0} where
-  -- What may be answered if a connection of a publisher of the hub failed.
+  -- The actions that the handlers of a publisher of the hub may answer if a connection of the publisher failed.
   abbrev pub publisher_may_degrade : (B → DegradationCause → DegradationInfo → DegradationAction → Type 0) → DomainId → ℕ → Hub T U B D
       → DegradationInfo → DegradationAction → Type 0
   publisher_may_degrade degrades id number hub = kept_degrades degrades (publisher_handlers_in number (domain_at id hub.services))
 
-  -- What may be decided if a mailbox of a publisher of the hub is full.
+  -- The decisions that the handlers of a publisher of the hub may answer if a mailbox is full.
   abbrev pub publisher_may_decide : (B → BackpressureInfo → BackpressureDecision → Type 0) → DomainId → ℕ → Hub T U B D
       → BackpressureInfo → BackpressureDecision → Type 0
   publisher_may_decide decides id number hub = kept_decides decides (publisher_handlers_in number (domain_at id hub.services))
 
-  -- What may be answered if a connection of a subscriber of the hub failed.
+  -- The actions that the handler of a subscriber of the hub may answer if a connection of the subscriber failed.
   abbrev pub subscriber_may_degrade : (D → DegradationCause → DegradationInfo → DegradationAction → Type 0) → DomainId → ℕ → Hub T U B D
       → DegradationInfo → DegradationAction → Type 0
   subscriber_may_degrade degrades id number hub = kept_degrades degrades (subscriber_handler_in number (domain_at id hub.services))

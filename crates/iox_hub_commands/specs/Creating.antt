@@ -60,13 +60,13 @@ CreatesAs (options.RequestResponse named) payload user_header types node name at
     (CreatesAgreed payload user_header request_response.create_error (hash_of name (options.RequestResponse named)) node
     (agreed_of name (options.RequestResponse named) types attributes) lists) table old answer after new
 
--- The refusal if memory runs out before the first access.
+-- The refusal if memory runs out before the first storage operation.
 abbrev pub create_lacking : ServiceOptions → Refusal
 create_lacking (options.PublishSubscribe named) = refusal.PublishSubscribeCreate publish_subscribe_error.OutOfMemory
 create_lacking (options.Event named) = refusal.EventCreate event_error.OutOfMemory
 create_lacking (options.RequestResponse named) = refusal.RequestResponseCreate request_response_error.OutOfMemory
 
--- What follows once the lists of actions and the capacity are made, or memory ran out for them.
+-- What follows after the lists of actions and the capacity were made, or memory ran out for them.
 abbrev pub CreatesPrepared : {T U B D : Type 0} → Result (List (List ForeignStep)) AllocError → Detail → Detail → MessageTypeDetails
     → ServiceAsked → List Attribute → FactoryTable → Hub T U B D → Result ℕ Refusal → FactoryTable → Hub T U B D → Type 0
 CreatesPrepared (Err lacking) payload user_header types asked attributes table old answer after new
@@ -74,9 +74,9 @@ CreatesPrepared (Err lacking) payload user_header types asked attributes table o
 CreatesPrepared (Ok lists) payload user_header types asked attributes table old answer after new
     = CreatesAs asked.options payload user_header types asked.node asked.name attributes lists table old answer after new
 
--- What follows once it is known whether the creation is refused before anything is allocated. If it is, the refusal is the reply, and
--- nothing else happens. Otherwise the service is created, with these actions of other nodes before the accesses, once their lists and the
--- capacity are made.
+-- What follows after it is known whether the creation is refused before anything is allocated. If it is, the refusal is the reply, and
+-- nothing else happens. Otherwise the service is created, with these actions of other nodes before the storage operations, after their
+-- lists and the capacity were made.
 abbrev pub CreatesUnlessRefused : {T U B D : Type 0} → Option CreateFailure → Detail → Detail → MessageTypeDetails → ServiceAsked
     → List Attribute → List StepBefore → FactoryTable → Hub T U B D → Option (Result ℕ Refusal) → FactoryTable → Hub T U B D → Type 0
 CreatesUnlessRefused (Some failure) payload user_header types asked attributes steps table old answer after new
@@ -86,9 +86,9 @@ CreatesUnlessRefused None payload user_header types asked attributes steps table
     × Prepares asked.name types steps table prepared roomier
     × CreatesPrepared prepared payload user_header types asked attributes roomier old reply after new × (answer ≡ Some reply)
 
--- The service that is asked for is created with these attributes, with these actions of other nodes before the accesses, and its factory
--- gets a number. The creation is refused before anything is allocated if the settings are impossible; or if they are possible and the first
--- look finds that the service exists. It isn't refused this early otherwise. Nothing happens if the node wasn't made.
+-- The service that is asked for is created with these attributes, with these actions of other nodes before the storage operations, and its
+-- factory gets a number. The creation is refused before anything is allocated if the settings are impossible; or if they are possible and
+-- the first lookup finds that the service exists. Otherwise the creation is carried out. Nothing happens if the node wasn't made.
 abbrev pub CreatesNumbered : {T U B D : Type 0} → Bool → Detail → Detail → MessageTypeDetails → ServiceAsked → List Attribute
     → List StepBefore → FactoryTable → Hub T U B D → Option (Result ℕ Refusal) → FactoryTable → Hub T U B D → Type 0
 CreatesNumbered false payload user_header types asked attributes steps table old answer after new = IsSkipped table old answer after new

@@ -16,6 +16,7 @@ use Rattle.iox_negotiate_table.specs.DescribeVerdict.EventClauses as event_claus
 use Rattle.iox_negotiate_table.specs.DescribeVerdict.PublishSubscribeClauses as publish_subscribe_clauses
 use Rattle.iox_negotiate_table.specs.DescribeVerdict.RequestResponseClauses as request_response_clauses
 use Rattle.iox_negotiate_table.specs.DescribeVerdict.Verdict.{first_unmet}
+use Rattle.iox_hub_base.specs.FirstLook.{MayBeEither, acts_first, found_first}
 use Rattle.iox_hub_base.specs.Opening.{Made, OpensInHub, lacking_either}
 use Rattle.iox_hub_base.specs.declared.hub.Hub.{Hub}
 use Rattle.iox_hub_base.specs.Negotiate.Negotiation.{Either}
@@ -42,17 +43,19 @@ use Rattle.iox_hub_commands.specs.ServicesTables.{FactoryTable}
 use Rattle.iox_hub_commands.specs.declared.services.asked.ServiceAsked.{ServiceAsked}
 
 -- A node opens the service of this hash, if its agreement passes the verdict, or creates it with this agreement. A failure is reported by
--- `error`.
+-- `error`. Memory for the service's entry runs out only if what the first lookup finds doesn't decide the call.
 abbrev pub EitherJudged : {T U B D V E : Type 0} → Detail → Detail → (OpenOrCreateFailure V → E) → ServiceHash → ℕ
     → (Agreement → Result (Unit {0}) V) → Agreement → List (List ForeignStep) → Hub T U B D → Result Made E → Hub T U B D → Type 0
 EitherJudged payload user_header error hash node verdict agreed lists old opened new =
-    OpensInHub payload user_header (Unit {0}) (λ was_new. error (lacking_either was_new))
+    OpensInHub payload user_header
+    (MayBeEither (AreWithinLimits agreed.settings) (HasNoRoomForHistory agreed.settings) (found_first (acts_first lists) hash old))
+    (λ was_new. error (lacking_either was_new))
     (λ before came after. Either SteppedSight before.table.id hash node verdict agreed (AreWithinLimits agreed.settings)
     (HasNoRoomForHistory agreed.settings) error before came after)
     lists old opened new
 
--- A service is opened if it is as these options ask and has these attributes, or created so, and its factory gets a number. A failure is
--- reported as the error of the pattern.
+-- A service is opened if it is as these options ask and has these attributes; if it doesn't exist, it is created with them. Its factory
+-- gets a number. A failure is reported as the error of the pattern.
 abbrev pub EitherAs : {T U B D : Type 0} → ServiceOptions → Detail → Detail → MessageTypeDetails → ℕ → List ℕ → Required
     → List (List ForeignStep) → FactoryTable → Hub T U B D → Result ℕ Refusal → FactoryTable → Hub T U B D → Type 0
 EitherAs (options.PublishSubscribe named) payload user_header types node name attributes lists table old answer after new =
@@ -71,7 +74,7 @@ EitherAs (options.RequestResponse named) payload user_header types node name att
     (λ given. first_unmet (request_response_clauses.clauses (required_request_response named types attributes) given))
     (agreed_of name (options.RequestResponse named) types attributes.pairs) lists) table old answer after new
 
--- The refusal if memory runs out before the first access: the same as at the first look.
+-- The refusal if memory runs out before the first storage operation: the same as at the first lookup.
 abbrev pub either_lacking : ServiceOptions → Refusal
 either_lacking (options.PublishSubscribe named)
     = refusal.PublishSubscribeOpenOrCreate (publish_subscribe_either.PublishSubscribeOpenError publish_subscribe_unopened.OutOfMemory)
@@ -79,7 +82,7 @@ either_lacking (options.Event named) = refusal.EventOpenOrCreate (EventOpenError
 either_lacking (options.RequestResponse named)
     = refusal.RequestResponseOpenOrCreate (request_response_either.RequestResponseOpenError request_response_unopened.OutOfMemory)
 
--- What follows once the lists of actions and the capacity are made, or memory ran out for them.
+-- What follows after the lists of actions and the capacity were made, or memory ran out for them.
 abbrev pub EitherPrepared : {T U B D : Type 0} → Result (List (List ForeignStep)) AllocError → Detail → Detail → MessageTypeDetails
     → ServiceAsked → Required → FactoryTable → Hub T U B D → Result ℕ Refusal → FactoryTable → Hub T U B D → Type 0
 EitherPrepared (Err lacking) payload user_header types asked attributes table old answer after new
@@ -88,7 +91,7 @@ EitherPrepared (Ok lists) payload user_header types asked attributes table old a
     = EitherAs asked.options payload user_header types asked.node asked.name attributes lists table old answer after new
 
 -- The service that is asked for is opened if it has these attributes, or created with the required pairs, with these actions of other nodes
--- before the accesses, and its factory gets a number. Nothing happens if the node wasn't made.
+-- before the storage operations, and its factory gets a number. Nothing happens if the node wasn't made.
 abbrev pub EitherNumbered : {T U B D : Type 0} → Bool → Detail → Detail → MessageTypeDetails → ServiceAsked → Required → List StepBefore
     → FactoryTable → Hub T U B D → Option (Result ℕ Refusal) → FactoryTable → Hub T U B D → Type 0
 EitherNumbered false payload user_header types asked attributes steps table old answer after new = IsSkipped table old answer after new

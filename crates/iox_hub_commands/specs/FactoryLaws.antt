@@ -19,24 +19,24 @@ use Rattle.iox_hub_commands.specs.Opening.{OpensNumbered}
 use Rattle.iox_hub_commands.specs.ServicesTables.{FactoryTable, pattern_in}
 use Rattle.iox_hub_commands.specs.declared.services.asked.ServiceAsked.{ServiceAsked}
 
--- Every number names what it named.
+-- Every number names what it named before.
 abbrev pub AllStay : FactoryTable → FactoryTable → Type 0
 AllStay old new = (number : ℕ) → value_at new number ≡ value_at old number
 
--- Every number except this one names what it named.
+-- Every number except this one names what it named before.
 abbrev pub OthersStay : ℕ → FactoryTable → FactoryTable → Type 0
 OthersStay number old new = (other : ℕ) → other ≢ number → value_at new other ≡ value_at old other
 
 -- A number that is answered named nothing before, and names a factory of this pattern now. With a refusal, or without an answer, every
--- number names what it named.
+-- number names what it named before.
 abbrev pub IsFound : MessagingPattern → FactoryTable → Option (Result ℕ Refusal) → FactoryTable → Type 0
 IsFound pattern old (Some (Ok number)) new = (value_at old number ≡ None) × (option_map pattern_in (value_at new number) ≡ Some pattern)
     × OthersStay number old new
 IsFound pattern old (Some (Err refusal)) new = AllStay old new
 IsFound pattern old None new = AllStay old new
 
--- A factory that is still in use stays, and all stays if nothing is answered. With any other answer the factory's number names nothing any
--- longer.
+-- A factory that is still in use stays, and every number names what it named before if nothing is answered. With any other answer the
+-- factory's number names nothing any longer.
 abbrev pub IsGone : ℕ → FactoryTable → Option (Result (Unit {0}) CloseError) → FactoryTable → Type 0
 IsGone number old None new = AllStay old new
 IsGone number old (Some (Err StillInUse)) new = AllStay old new

@@ -1,4 +1,4 @@
--- What the commands do by which ports update, look for data, and are closed.
+-- What the commands that update ports, look for data and close ports do.
 use Rattle.std.specs.Prelude.{ℕ, ◌≡◌, Bool, Option, Result}
 use Rattle.iox_command.specs.declared.port.PortNumber.{PortNumber}
 use Rattle.iox_command.specs.declared.port.PortNumber.TheVariants as port

@@ -41,12 +41,12 @@ HasGrown number (Here domain) = (expired_connection_buffer : ℕ)
     × LeadsTo (no_ports number (sizes expired_connection_buffer domain.agreed)) domain.state.ports
 HasGrown number (Out agreed) = Unit {0}
 
--- The ports of each open service have grown in this way.
+-- The ports of each open service result from calls of ports (`HasGrown`).
 abbrev pub HaveGrown : {T U B D : Type 0} → List (ℕ × Presence T U B D) → Type 0
 HaveGrown [] = Unit {0}
 HaveGrown (service ∷ services) = HasGrown service.0 service.1 × HaveGrown services
 
--- If the ports of all services had grown in this way before, they have so after.
+-- If the ports of all services resulted from calls of ports before, they still do afterwards.
 abbrev pub GrowsOn : {T U B D : Type 0} → Hub T U B D → Hub T U B D → Type 0
 GrowsOn old new = HaveGrown old.services.domains → HaveGrown new.services.domains
 

@@ -1,4 +1,4 @@
--- What the commands do that loan, and the command that sends values at once.
+-- What the commands that loan do, and the command that sends values at once.
 use Rattle.std.specs.Prelude.{ℕ, ◌≡◌, List, length, Option, Result, Ok, Err}
 use Rattle.std.specs.declared.alloc.AllocError.{AllocError}
 use Rattle.iox_command.specs.declared.reply.Reply.{Reply}
@@ -24,7 +24,7 @@ abbrev pub lent_reply : {T : Type 0} → Result (Option (Result ℕ LoanError)) 
 lent_reply (Ok lent) = Ok (loan_reply lent)
 lent_reply (Err lacking) = Err lacking
 
--- A publisher loans so many elements, none of which is written.
+-- A publisher loans this many elements, none of which is written.
 abbrev pub LoanUninitStep : {T U H : Type 0} → (DomainId → H → Option (ServicePorts T U)) → (DomainId → ServicePorts T U → H → H) → ℕ
     → ℕ → Made → H → Result (Reply T) AllocError → Made → H → Type 0
 LoanUninitStep ports_of with_ports publisher elements made old answer made_after new =
@@ -33,7 +33,7 @@ LoanUninitStep ports_of with_ports publisher elements made old answer made_after
     made old lent made_after new
     × (answer ≡ lent_reply lent)
 
--- A publisher loans so many elements, each of which is written with a default value.
+-- A publisher loans this many elements, each of which is written with a default value.
 abbrev pub LoanStep : {T U H : Type 0} → (DomainId → H → Option (ServicePorts T U)) → (DomainId → ServicePorts T U → H → H)
     → (T → Type 0) → ℕ → ℕ → Made → H → Result (Reply T) AllocError → Made → H → Type 0
 LoanStep {T} ports_of with_ports is_default publisher elements made old answer made_after new =

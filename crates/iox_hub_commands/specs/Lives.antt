@@ -10,7 +10,7 @@ module _ {V : Type 0} where
   abbrev pub Stays : NumberTable V → NumberTable V → Type 0
   Stays old new = (new.entries ≡ old.entries) × (new.next ≡ old.next)
 
-  -- The table has one value more, under what was the next number.
+  -- The table has one more value, under the number that was next before.
   abbrev pub GetsOne : NumberTable V → NumberTable V → Type 0
   GetsOne old new = (value : V) × (new.entries ≡ old.entries ++ (old.next, value) ∷ []) × (new.next ≡ old.next + 1)
 
@@ -18,7 +18,7 @@ module _ {V : Type 0} where
   abbrev pub LosesOne : NumberTable V → NumberTable V → Type 0
   LosesOne old new = (number : ℕ) × (new.entries ≡ remove_entry (nat_eq number) old.entries) × (new.next ≡ old.next)
 
-  -- The table has one value more, one fewer, or the same.
+  -- The table has one more value, one value fewer, or the same values.
   abbrev pub ChangesOne : NumberTable V → NumberTable V → Type 0
   ChangesOne old new = Stays old new ⊎ (GetsOne old new ⊎ LosesOne old new)
 
@@ -34,7 +34,7 @@ abbrev pub AllStay : Made → Made → Type 0
 AllStay old new = Stays old.publishers new.publishers × Stays old.subscribers new.subscribers × Stays old.loans new.loans
     × Stays old.samples new.samples
 
--- Of ports, loans and samples there is one more, or one fewer, and all others stay.
+-- At most one port, loan or sample was added or removed, and all others stay.
 abbrev pub OneChanges : Made → Made → Type 0
 OneChanges old new =
     (ChangesOne old.publishers new.publishers × Stays old.subscribers new.subscribers × Stays old.loans new.loans

@@ -22,7 +22,7 @@ abbrev pub loan_under : {T U H : Type 0} → (DomainId → H → Option (Service
 loan_under ports_of None home = None
 loan_under ports_of (Some made) home = loan_found made.port.number made.slot (ports_of made.port.domain home)
 
--- The home once the ports of the numbered loan have changed. Nothing changes if the number has no loan, or the loan's domain isn't in the
+-- The home after the ports of the numbered loan have changed. Nothing changes if the number has no loan, or the loan's domain isn't in the
 -- home.
 abbrev pub changed_under : {T U H : Type 0} → (DomainId → H → Option (ServicePorts T U)) → (DomainId → ServicePorts T U → H → H)
     → (ℕ → ℕ → ServicePorts T U → ServicePorts T U) → Option MadeLoan → H → H
@@ -34,7 +34,7 @@ changed_under ports_of with_ports change (Some made) home =
 abbrev pub is_set : {T U : Type 0} → ℕ → Option (Loan T U) → Bool
 is_set place loan = is_written_loan loan && is_some (value_at place loan)
 
--- The ports once the value at a place of the loan in a slot is written.
+-- The ports after the value at a place of the loan in a slot was written.
 abbrev pub set_in : {T U : Type 0} → ℕ → T → ℕ → ℕ → ServicePorts T U → ServicePorts T U
 set_in place value number slot ports
     = written_in number (λ port. has_place slot place port.sender.uses) slot (write_value place value) ports
@@ -49,7 +49,7 @@ abbrev pub is_filled : {T U H : Type 0} → (DomainId → H → Option (ServiceP
 is_filled ports_of values None home = false
 is_filled ports_of values (Some made) home = fits_in values made.port.number made.slot (ports_of made.port.domain home)
 
--- The ports once all values of the loan in a slot are written, if there are as many.
+-- The ports after all values of the loan in a slot were written, if the loan has as many values as these.
 abbrev pub filled_in : {T U : Type 0} → List T → ℕ → ℕ → ServicePorts T U → ServicePorts T U
 filled_in values number slot ports = written_in number (λ port. has_length slot (length values) port.sender.uses) slot
     (write_all values) ports

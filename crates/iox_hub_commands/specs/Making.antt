@@ -29,8 +29,8 @@ abbrev pub MakesNumbered : {H E : Type 0} → (H → Option (Result ℕ E) → H
 MakesNumbered {H} {E} comes numbered next made old answer made_after new =
     (came : Option (Result ℕ E)) × comes old came new × NumbersPort numbered next came made answer made_after
 
--- A port is created in a home, and gets a number, once there is capacity for it; making that changes nothing else. If memory runs out for
--- the capacity, the port is refused as for any other memory.
+-- A port is created in a home, and gets a number, after there is capacity for the number; making the capacity changes nothing else. If
+-- memory runs out for the capacity, the port is refused just as if memory ran out for the port itself.
 abbrev pub MakesRoomFirst : {H E : Type 0} → (H → Option (Result ℕ E) → H → Type 0) → (ℕ → Made → Made) → ℕ → Made → H
     → Option (Result ℕ E) → Made → H → Type 0
 MakesRoomFirst comes numbered next made old answer made_after new =

@@ -13,7 +13,7 @@ use Rattle.iox_command.specs.DomainValues.declared.degradation.DegradationAction
 use Rattle.iox_command.specs.DomainValues.declared.port_owner.PortOwner.{PortOwner}
 use Rattle.iox_hub_commands.specs.declared.handlers.NamedSlots.{NamedSlots}
 
--- How many loans of a publisher with these options may be out at once.
+-- The loan limit of a publisher with these options.
 abbrev pub most_loans : PublisherOptions → ℕ
 most_loans options = unwrap_or options.max_loaned_samples publisher_defaults.max_loaned_samples
 

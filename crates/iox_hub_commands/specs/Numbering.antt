@@ -32,14 +32,14 @@ NumbersLoan port (Some (Err error)) old answer new = (answer ≡ Some (Err error
 NumbersLoan None (Some (Ok slot)) old answer new = ⊥
 NumbersLoan (Some port) (Some (Ok slot)) old answer new = (answer ≡ Some (Ok old.loans.next)) × (new ≡ with_loan port slot old)
 
--- A publisher loans a slot for so many elements, and the loan gets a number.
+-- A publisher loans a slot for this many elements, and the loan gets a number.
 abbrev pub LendsNumbered : {T U H : Type 0} → (DomainId → H → Option (ServicePorts T U)) → (DomainId → ServicePorts T U → H → H) → ℕ
     → Option PortId → Made → H → Option (Result ℕ LoanError) → Made → H → Type 0
 LendsNumbered ports_of with_ports elements port made old answer made_after new =
     (lent : Option (Result ℕ LoanError)) × AtPort (Lends ports_of with_ports elements) port old lent new
     × NumbersLoan port lent made answer made_after
 
--- A publisher loans a slot for so many elements, each written with the same value, and the loan gets a number.
+-- A publisher loans a slot for this many elements, each written with the same value, and the loan gets a number.
 abbrev pub LendsWrittenNumbered : {T U H : Type 0} → (DomainId → H → Option (ServicePorts T U)) → (DomainId → ServicePorts T U → H → H)
     → ℕ → T → Option PortId → Made → H → Option (Result ℕ LoanError) → Made → H → Type 0
 LendsWrittenNumbered ports_of with_ports elements value port made old answer made_after new =

@@ -50,13 +50,13 @@ OpensAs (options.RequestResponse named) payload user_header types node name attr
     (λ given. first_unmet (request_response_clauses.clauses (required_request_response named types attributes) given)) lists) table
     old answer after new
 
--- The refusal if memory runs out before the first access.
+-- The refusal if memory runs out before the first storage operation.
 abbrev pub open_lacking : ServiceOptions → Refusal
 open_lacking (options.PublishSubscribe named) = refusal.PublishSubscribeOpen publish_subscribe_error.OutOfMemory
 open_lacking (options.Event named) = refusal.EventOpen event_error.OutOfMemory
 open_lacking (options.RequestResponse named) = refusal.RequestResponseOpen request_response_error.OutOfMemory
 
--- What follows once the lists of actions and the capacity are made, or memory ran out for them.
+-- What follows after the lists of actions and the capacity were made, or memory ran out for them.
 abbrev pub OpensPrepared : {T U B D : Type 0} → Result (List (List ForeignStep)) AllocError → Detail → Detail → MessageTypeDetails
     → ServiceAsked → Required → FactoryTable → Hub T U B D → Result ℕ Refusal → FactoryTable → Hub T U B D → Type 0
 OpensPrepared (Err lacking) payload user_header types asked attributes table old answer after new
@@ -64,8 +64,8 @@ OpensPrepared (Err lacking) payload user_header types asked attributes table old
 OpensPrepared (Ok lists) payload user_header types asked attributes table old answer after new
     = OpensAs asked.options payload user_header types asked.node asked.name attributes lists table old answer after new
 
--- The service that is asked for is opened if it has these attributes, with these actions of other nodes before the accesses, and its
--- factory gets a number. Nothing happens if the node wasn't made.
+-- The service that is asked for is opened if it has these attributes, with these actions of other nodes before the storage operations, and
+-- its factory gets a number. Nothing happens if the node wasn't made.
 abbrev pub OpensNumbered : {T U B D : Type 0} → Bool → Detail → Detail → MessageTypeDetails → ServiceAsked → Required → List StepBefore
     → FactoryTable → Hub T U B D → Option (Result ℕ Refusal) → FactoryTable → Hub T U B D → Type 0
 OpensNumbered false payload user_header types asked attributes steps table old answer after new = IsSkipped table old answer after new

@@ -1,4 +1,4 @@
--- What the calls that create and open services have in common: their first look, and what follows if it isn't a refusal.
+-- What the calls that create and open services have in common: their first lookup, and what follows if it isn't a refusal.
 use Rattle.std.specs.Prelude.{ℕ, ◌≡◌, Bool, List, Option, Some, Result}
 use Rattle.std.specs.declared.alloc.AllocError.{AllocError}
 use Rattle.iox_command.specs.NegotiateBase.declared.failure.CreateFailure.{CreateFailure}
@@ -37,13 +37,13 @@ OpensByCall call named payload user_header types node name lists table old answe
     (λ attributes. OpensAs named payload user_header types node name attributes lists table old answer after new)
     (λ attributes. EitherAs named payload user_header types node name attributes lists table old answer after new)
 
--- The refusal of the call if memory runs out before the first access.
+-- The refusal of the call if memory runs out before the first storage operation.
 abbrev pub lacking_of : OpeningCall → ServiceOptions → Refusal
 lacking_of (opening.Create attributes) named = create_lacking named
 lacking_of (opening.Open attributes) named = open_lacking named
 lacking_of (opening.OpenOrCreate attributes) named = either_lacking named
 
--- The call opens the service that is asked for, once the lists of actions and the capacity are made; or memory ran out for them.
+-- The call opens the service that is asked for, after the lists of actions and the capacity were made; or memory ran out for them.
 abbrev pub OpensUnlessLacking : {T U B D : Type 0} → OpeningCall → Detail → Detail → MessageTypeDetails → ServiceAsked → List StepBefore
     → FactoryTable → Hub T U B D → Option (Result ℕ Refusal) → FactoryTable → Hub T U B D → Type 0
 OpensUnlessLacking call payload user_header types asked steps table old answer after new =
@@ -56,7 +56,7 @@ OpensUnlessLacking call payload user_header types asked steps table old answer a
     × (answer ≡ Some reply)
 
 -- What the call reports before anything is allocated: why it fails, or nothing. This follows from the settings, if the call may create, and
--- from what its first look finds.
+-- from what its first lookup finds.
 abbrev pub IsToldFirst : OpeningCall → MessageTypeDetails → ServiceOptions → Option HashState → Option Refusal → Type 0
 IsToldFirst (opening.Create attributes) types named found told =
     (refused : Option CreateFailure) × IsUncreated (settings_of types named) refused × (told ≡ create_told named refused found)

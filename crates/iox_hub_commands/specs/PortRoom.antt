@@ -1,6 +1,6 @@
 -- Capacity that is made when ports are created, so that memory never runs out for the number of a publisher's loan, or of a subscriber's
 -- sample.
-use Rattle.std.specs.Prelude.{ℕ, ◌≡◌, ◌+◌, ◌<◌, ◌≤◌, ◌⊎◌, [], length, Option, None, Some, IsSome}
+use Rattle.std.specs.Prelude.{ℕ, ◌≡◌, ◌+◌, ◌<◌, ◌≤◌, ◌⊎◌, [], length, max, Option, None, Some, IsSome}
 use Rattle.iox_command.specs.declared.command.Command.{Command}
 use Rattle.iox_command.specs.declared.command.Command.TheVariants as command
 use Rattle.iox_domain.specs.Samples.{held_by_one, held_of_one}
@@ -28,16 +28,21 @@ OfOthers Holds (command.Publisher factory options) = Unit {0}
 OfOthers Holds (command.Subscriber factory options) = Unit {0}
 OfOthers Holds other = Holds
 
--- The table has capacity for its entries, for so many more, and for one beside these.
+-- The table has capacity for its entries, for this many more, and for one more besides.
 abbrev pub FitsBeside : {V : Type 0} → ℕ → NumberTable V → Type 0
 FitsBeside more table = length table.entries + more < table.room
 
--- What is reserved of a table is enough for its entries and for so many more; the table has capacity for it, and for one beside.
+-- The number of entries that is reserved for a table is enough for its entries and for this many more. The table has capacity for what is
+-- reserved, and for one more.
 abbrev pub Pledges : {V : Type 0} → ℕ → ℕ → NumberTable V → Type 0
 Pledges more pledged table = (length table.entries + more ≤ pledged) × (pledged < table.room)
 
--- What is reserved of a table is enough for its entries and for so many more. If the table of ports has entries, there is capacity for what
--- is reserved, and for one beside.
+-- The table's capacity has grown at most to twice this number, plus `beside`.
+abbrev pub GrowsTwice : {V : Type 0} → ℕ → ℕ → NumberTable V → NumberTable V → Type 0
+GrowsTwice reserved beside old new = new.room ≤ max old.room (reserved + reserved + beside)
+
+-- The number of entries that is reserved for a table is enough for its entries and for this many more. If the table of ports has entries,
+-- there is capacity for what is reserved, and for one more.
 abbrev pub IsPledged : {V W : Type 0} → NumberTable V → ℕ → ℕ → NumberTable W → Type 0
 IsPledged ports more pledged table = (length table.entries + more ≤ pledged) × ((ports.entries ≡ []) ⊎ (pledged < table.room))
 
@@ -60,13 +65,13 @@ module _ {T U B D : Type 0} where
   abbrev pub most_samples_from : DomainId → NumberedHub T U B D → ℕ
   most_samples_from domain hub = most_samples_of (hub_ports domain hub.hub)
 
-  -- At least as many numbers are reserved as loans are out and publishers may still make. If there are publishers, there is capacity for
-  -- these, and for one more.
+  -- Numbers are reserved for all loans that exist and all loans that publishers may still make. If there are publishers, there is capacity
+  -- for the reserved numbers, and for one more.
   abbrev pub HasLoanRoom : NumberedHub T U B D → Type 0
   HasLoanRoom hub = IsPledged hub.made.publishers (loans_left_in hub.hub.services.domains) hub.pledged.loans hub.made.loans
 
-  -- At least as many numbers are reserved as samples are held and may still be received. If there are subscribers, there is capacity for
-  -- these, and for one more.
+  -- Numbers are reserved for all samples that are held and all samples that may still be received. If there are subscribers, there is
+  -- capacity for the reserved numbers, and for one more.
   abbrev pub HasSampleRoom : NumberedHub T U B D → Type 0
   HasSampleRoom hub = IsPledged hub.made.subscribers (samples_left_in hub.hub.services.domains) hub.pledged.samples hub.made.samples
 
@@ -74,11 +79,12 @@ module _ {T U B D : Type 0} where
   abbrev pub HasRoom : NumberedHub T U B D → Type 0
   HasRoom hub = HasLoanRoom hub × HasSampleRoom hub
 
-  -- If the ports had that capacity they still have it; for samples, if the hub's domains have grown by calls of ports.
+  -- If the ports had the capacity that they need, they still have it. For samples this holds if the hub's domains result from calls of
+  -- ports.
   abbrev pub KeepsRoom : NumberedHub T U B D → NumberedHub T U B D → Type 0
   KeepsRoom old new = (HasLoanRoom old → HasLoanRoom new) × (HaveGrown old.hub.services.domains → HasSampleRoom old → HasSampleRoom new)
 
-  -- A sample with values was received, and is held under what was the next number.
+  -- A sample with values was received, and is held under the number that was next before.
   abbrev pub CameUnread : NumberedHub T U B D → NumberedHub T U B D → Type 0
   CameUnread old new = (new.made.samples.next ≡ old.made.samples.next + 1)
       × SomeValues (values_under hub_ports (value_at new.made.samples old.made.samples.next) new.hub)
@@ -91,9 +97,9 @@ module _ {T U B D : Type 0} where
   FindsPort (command.Receive subscriber) hub = IsSome (value_at hub.made.subscribers subscriber)
   FindsPort other hub = Unit {0}
 
-  -- For what memory ran out at a command without a reply, if the ports have the capacity that they need: at a receive, for the values of
-  -- the sample that was received; at a read, for the values. Each other command has a reply.
+  -- What memory ran out for at a command without a reply, if the ports have the capacity that they need: at a receive, the values of the
+  -- sample that was received; at a read, the values. Every other command has a reply.
   abbrev pub LacksInRoom : Command T → NumberedHub T U B D → NumberedHub T U B D → Type 0
   LacksInRoom (command.Receive subscriber) old new = CameUnread old new
-  LacksInRoom (command.Read sample) old new = Unit {0}
+  LacksInRoom (command.Read sample) old new = SomeValues (values_under hub_ports (value_at old.made.samples sample) old.hub) × (new ≡ old)
   LacksInRoom other old new = ⊥

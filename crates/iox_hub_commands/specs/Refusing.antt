@@ -1,4 +1,4 @@
--- Which settings no service can be created with; and what the first look of a call decides before anything is allocated.
+-- The settings with which no service can be created, and what the first lookup of a call decides before anything is allocated.
 use Rattle.std.specs.Prelude.{◌≡◌, ◌⊎◌, List, Option, None, Some, option_map, if◌then◌else◌}
 use Rattle.iox_negotiate.specs.Asked.{IsRefusal}
 use Rattle.iox_command.specs.declared.refusal.Refusal.{Refusal}
@@ -24,17 +24,17 @@ use Rattle.iox_hub_commands.specs.Asking.{hash_of}
 use Rattle.iox_hub_commands.specs.Steps.{acts_first}
 use Rattle.iox_hub_commands.specs.declared.services.asked.ServiceAsked.{ServiceAsked}
 
--- Why no service can be created with these settings, if so.
+-- Why no service can be created with these settings; none if one can.
 abbrev pub IsUncreated : Settings → Option CreateFailure → Type 0
 IsUncreated settings failure = IsRefusal (AreWithinLimits settings) (HasNoRoomForHistory settings) failure
 
--- The refusal of a creation that fails with this, by the pattern that is asked for.
+-- The refusal that reports this failure of a creation, by the pattern that is asked for.
 abbrev pub create_refused : ServiceOptions → CreateFailure → Refusal
 create_refused (options.PublishSubscribe named) failure = refusal.PublishSubscribeCreate (publish_subscribe.create_error failure)
 create_refused (options.Event named) failure = refusal.EventCreate (event.create_error failure)
 create_refused (options.RequestResponse named) failure = refusal.RequestResponseCreate (request_response.create_error failure)
 
--- The refusal of `open_or_create` if its creation fails with this, by the pattern that is asked for.
+-- The refusal of `open_or_create` that reports this failure of its creation, by the pattern that is asked for.
 abbrev pub either_refused : ServiceOptions → CreateFailure → Refusal
 either_refused (options.PublishSubscribe named) failure
     = refusal.PublishSubscribeOpenOrCreate (publish_subscribe.open_or_create_error (Create failure))
@@ -62,17 +62,17 @@ either_locked (options.Event named) = refusal.EventOpenOrCreate (event.open_or_c
 either_locked (options.RequestResponse named)
     = refusal.RequestResponseOpenOrCreate (request_response.open_or_create_error (Open unopened.HangsInCreation))
 
--- What the first look for the service finds; none if an action is named before that look.
+-- What the first lookup of the service finds; none if an action is named before that lookup.
 abbrev pub first_look : {T U B D : Type 0} → ServiceAsked → List StepBefore → Hub T U B D → Option HashState
 first_look asked steps hub = if acts_first steps then None else Some (hash_state (entry_at (hash_of asked.name asked.options) hub.table))
 
--- Why nothing is opened, if the first look decides it: the service doesn't exist, or another node is about to create it.
+-- Why nothing is opened, if the first lookup decides it: the service doesn't exist, or another node is about to create it.
 abbrev pub open_told : ServiceOptions → Option HashState → Option Refusal
 open_told named (Some state.Absent) = Some (open_absent named)
 open_told named (Some state.Locked) = Some (open_locked named)
 open_told named found = None
 
--- Why nothing is created, if that is already decided: the settings are impossible, or the first look finds that another node is about to
+-- Why nothing is created, if that is already decided: the settings are impossible, or the first lookup finds that another node is about to
 -- create the service, or that the service exists.
 abbrev pub create_told : ServiceOptions → Option CreateFailure → Option HashState → Option Refusal
 create_told named (Some failure) found = Some (create_refused named failure)
@@ -80,15 +80,15 @@ create_told named None (Some state.Locked) = Some (create_refused named uncreate
 create_told named None (Some state.Described) = Some (create_refused named uncreated.AlreadyExists)
 create_told named None found = None
 
--- Why the creation is refused before anything is allocated: the settings are impossible; or they are possible, and the first look finds
--- that the service exists. It isn't refused exactly if the settings are possible and the first look doesn't find that.
+-- Why the creation is refused before anything is allocated: the settings are impossible; or they are possible, and the first lookup finds
+-- that the service exists. None exactly if the settings are possible and the first lookup doesn't find that the service exists.
 abbrev pub IsRefusedFirst : Settings → Option HashState → Option CreateFailure → Type 0
 IsRefusedFirst settings found (Some failure) =
     IsUncreated settings (Some failure)
     ⊎ (IsUncreated settings None × (found ≡ Some state.Described) × (failure ≡ uncreated.AlreadyExists))
 IsRefusedFirst settings found None = IsUncreated settings None × (found ≡ Some state.Described → ⊥)
 
--- Why nothing is opened or created, if the first look decides it: the service doesn't exist, and can't be created with these settings; or
+-- Why nothing is opened or created, if the first lookup decides it: the service doesn't exist, and can't be created with these settings; or
 -- another node is about to create it.
 abbrev pub either_told : ServiceOptions → Option CreateFailure → Option HashState → Option Refusal
 either_told named refused (Some state.Absent) = option_map (either_refused named) refused

@@ -3,7 +3,7 @@ use Rattle.std.specs.Prelude.{◌≡◌, ◌<◌, ◌⊎◌, Bool, true, false, 
 use Rattle.std.specs.declared.alloc.AllocError.{AllocError}
 
 module _ {C R S : Type 0} (step : C → S → Result R AllocError → S → Type 0) where
-  -- Each command is carried out on what the one before it left, and has its reply.
+  -- Each command is carried out on the state that the one before it left, and has its reply.
   abbrev pub Runs : List C → S → List R → S → Type 0
   Runs [] old replies new = (replies ≡ []) × (new ≡ old)
   Runs (command ∷ commands) old replies new =

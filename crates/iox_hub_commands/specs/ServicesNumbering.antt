@@ -1,4 +1,4 @@
--- How a factory gets a number, and what is prepared before the first access.
+-- How a factory gets a number, and what is prepared before the first storage operation.
 use Rattle.std.specs.Prelude.{ℕ, ◌≡◌, ◌<◌, ◌≤◌, ◌⊎◌, List, [], length, Option, None, Result, Ok, Err}
 use Rattle.std.specs.List.{AllByRecursion}
 use Rattle.std.specs.declared.alloc.AllocError.{AllocError}
@@ -14,12 +14,12 @@ use Rattle.iox_container.specs.NumberTable.{inserted}
 use Rattle.iox_hub_commands.specs.ServicesTables.{FactoryTable, SameNumbers, pattern_in, parts_of}
 use Rattle.iox_hub_commands.specs.declared.services.made.MadeFactory.{MadeFactory}
 
--- There is capacity for one factory more; or memory ran out for it, as there was none.
+-- There is capacity for one more factory. Or memory ran out for this capacity, since there was none.
 abbrev pub MakesRoom : FactoryTable → Result (Unit {0}) AllocError → FactoryTable → Type 0
 MakesRoom old (Ok done) new = SameNumbers old new × (length new.entries < new.room)
 MakesRoom old (Err lacking) new = (new ≡ old) × (old.room ≤ length old.entries)
 
--- There is capacity for one factory more, or nothing was done for that; the lists of actions are made, and what the actions publish has the
+-- There is capacity for one more factory, or the table is as it was; the lists of actions are made, and what the actions publish has the
 -- form of a description. Or memory ran out for one of these, since actions are named or there was no capacity.
 abbrev pub Prepares : List ℕ → MessageTypeDetails → List StepBefore → FactoryTable → Result (List (List ForeignStep)) AllocError
     → FactoryTable → Type 0
@@ -37,7 +37,7 @@ Numbers pattern refusal (Ok parts) old answer new =
     × HasForm parts.0.service.description
 Numbers pattern refusal (Err error) old answer new = (answer ≡ Err (refusal error)) × (new ≡ old)
 
--- A service is opened in this way, and its factory gets the next number.
+-- A service is opened as the third argument says, and its factory gets the next number.
 abbrev pub GetsNumber : {H E : Type 0} → MessagingPattern → (E → Refusal) → (H → Result Made E → H → Type 0) → FactoryTable → H
     → Result ℕ Refusal → FactoryTable → H → Type 0
 GetsNumber {H} {E} pattern refusal opens table old answer after new = (opened : Result Made E) × opens old opened new

@@ -30,25 +30,25 @@ PublishesInForm other = Unit {0}
 abbrev pub list_of : List ℕ → MessageTypeDetails → List Named → List ForeignStep
 list_of name types steps = map (step_of name types) steps
 
--- The actions that are named before one access, in their order.
+-- The actions that are named before one storage operation, in their order.
 abbrev pub list_before : List ℕ → MessageTypeDetails → List StepBefore → ℕ → List ForeignStep
 list_before name types steps access = map (λ before. step_of name types before.step) (filter (λ before. nat_eq before.access access) steps)
 
--- The last access before which actions are named; 0 if none are.
+-- The last storage operation before which actions are named; 0 if none are.
 abbrev pub last_access : List StepBefore → ℕ
 last_access [] = 0
 last_access (before ∷ rest) = max before.access (last_access rest)
 
--- Whether an action is named before the first access.
+-- Whether an action is named before the first storage operation.
 abbrev pub acts_first : List StepBefore → Bool
 acts_first steps = list_any (λ before. nat_eq before.access 1) steps
 
--- So many numbers in sequence, from this one on.
+-- This many numbers, one after the other, from `first` on.
 abbrev pub from : ℕ → ℕ → List ℕ
 from first zero = []
 from first (suc count) = first ∷ from (first + 1) count
 
--- A list of actions for each access, up to the last before which some are named. Actions before a seventeenth access are left out, as no
--- call makes so many accesses.
+-- A list of actions for each storage operation, up to the last before which some are named. Actions before a seventeenth storage operation
+-- are left out, since no call makes that many storage operations.
 abbrev pub lists_of : List ℕ → MessageTypeDetails → List StepBefore → List (List ForeignStep)
 lists_of name types steps = map (list_before name types steps) (from 1 (min (last_access steps) 16))

@@ -22,7 +22,7 @@ abbrev pub IsRoomier : Made → Made → Type 0
 IsRoomier old new = SameNumbers old.publishers new.publishers × SameNumbers old.subscribers new.subscribers
     × SameNumbers old.loans new.loans × SameNumbers old.samples new.samples
 
--- The table has no capacity for one value more.
+-- The table has no capacity for one more value.
 abbrev pub IsFull : {V : Type 0} → NumberTable V → Type 0
 IsFull table = table.room ≤ length table.entries
 
@@ -31,7 +31,7 @@ abbrev pub port_under : Option MadePublisher → Option PortId
 port_under None = None
 port_under (Some made) = Some made.port
 
--- The port of the publisher, if its messages may have so many elements; messages that aren't slices have one.
+-- The port of the publisher, if its messages may have this many elements; messages that aren't slices have one.
 abbrev pub lender : ℕ → Option MadePublisher → Option PortId
 lender elements None = None
 lender elements (Some made) = if made.holds_slices || (elements == 1) then Some made.port else None

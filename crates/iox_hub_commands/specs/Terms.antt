@@ -26,13 +26,13 @@ pub record Terms (T U B D : Type 0) : Type 1 where
   pub is_default_header : U → Type 0
   -- The handlers of a publisher with this strategy and these actions.
   pub fixed : BackpressureStrategy → Option BackpressureAction → DegradationAction → B
-  -- Whether these handlers of a publisher may answer so at a failed connection.
+  -- Whether these handlers of a publisher may give this answer at a failed connection.
   pub degrades : B → DegradationCause → DegradationInfo → DegradationAction → Type 0
-  -- Whether these handlers of a publisher may decide so at a full mailbox.
+  -- Whether these handlers of a publisher may make this decision at a full mailbox.
   pub decides : B → BackpressureInfo → BackpressureDecision → Type 0
   -- The handler of a subscriber with this action.
   pub fixed_reader : DegradationAction → D
-  -- Whether this handler of a subscriber may answer so at a failed connection.
+  -- Whether this handler of a subscriber may give this answer at a failed connection.
   pub reader_degrades : D → DegradationCause → DegradationInfo → DegradationAction → Type 0
 
 -- The terms of a hub whose values, and whose user headers, have this name, size, alignment and these default values. Messages are slices of

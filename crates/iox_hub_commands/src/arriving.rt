@@ -1,8 +1,8 @@
 //! The commands that create ports, over the tables of numbers and any home.
 ghost use Rattle.iox_domain.specs.Homes as homes;
-ghost use Rattle.std.specs.Prelude.{◌+◌, ◌<◌, ◌^◌};
+ghost use Rattle.std.specs.Prelude.{◌≡◌, ◌+◌, ◌<◌, ◌^◌};
 ghost use Rattle.iox_hub_commands.specs.declared.ports.made.Made.{Made};
-ghost use Rattle.iox_hub_commands.specs.Arriving.{PublisherStep, SubscriberStep};
+ghost use Rattle.iox_hub_commands.specs.Arriving.{PublisherStep, SubscriberStep, no_publisher_comes, no_subscriber_comes};
 ghost use Rattle.iox_hub_commands.specs.Naming.{publisher_config, subscriber_config};
 
 use crate::naming;
@@ -10,7 +10,7 @@ use crate::ports::making::{why_no_publisher, why_no_subscriber};
 use crate::ports::{Made, PublisherParts};
 use crate::replies::{publisher_reply, subscriber_reply};
 use iox_command::{PublisherOptions, Reply, SubscriberOptions};
-use iox_domain::{DomainId, Home};
+use iox_domain::{DomainId, Home, calls};
 use iox_domain_values::PortOwner;
 use std::alloc::Global;
 
@@ -41,8 +41,25 @@ pub fn publisher<T: Copy, U: Copy + Default, H: Home<T, U>>(
     publisher_reply(made.make_publisher(alloc, home, domain, parts))
 }
 
-/// The reply if memory runs out for a publisher: it is refused as `Made::make_publisher` refuses it, and skipped if the domain isn't in the
-/// home. Nothing changes.
+/// Whether a publisher with what the options name isn't created however much memory there is: it is refused, or its domain isn't in the
+/// home.
+pub fn refuses_publisher<T: Copy, U: Copy, H: Home<T, U>>(
+    home: &H,
+    domain: DomainId,
+    owner: PortOwner,
+    options: &PublisherOptions,
+) -> bool
+    ensures { result ≡ no_publisher_comes (publisher_config owner options.now) (homes.ports_of H.domain_of domain home.now) }
+{
+    let config = naming::publisher_config(owner, options);
+    match calls::ports(home, domain) {
+        Some(ports) => ports.refuses_publisher(&config),
+        None => true,
+    }
+}
+
+/// The reply for a publisher that isn't created, also if memory runs out: it is refused as `Made::make_publisher` refuses it, and skipped
+/// if the domain isn't in the home. Nothing changes.
 pub fn publisher_refused<T: Copy, U: Copy + Default, H: Home<T, U>>(
     home: &H,
     domain: DomainId,
@@ -79,8 +96,25 @@ pub fn subscriber<T: Copy, U: Copy, H: Home<T, U>>(
     subscriber_reply(made.make_subscriber(alloc, home, domain, config, handler))
 }
 
-/// The reply if memory runs out for a subscriber: it is refused as `Made::make_subscriber` refuses it, and skipped if the domain isn't in
-/// the home. Nothing changes.
+/// Whether a subscriber with what the options name isn't created however much memory there is: it is refused, or its domain isn't in the
+/// home.
+pub fn refuses_subscriber<T: Copy, U: Copy, H: Home<T, U>>(
+    home: &H,
+    domain: DomainId,
+    owner: PortOwner,
+    options: &SubscriberOptions,
+) -> bool
+    ensures { result ≡ no_subscriber_comes (subscriber_config owner options.now) (homes.ports_of H.domain_of domain home.now) }
+{
+    let config = naming::subscriber_config(owner, options);
+    match calls::ports(home, domain) {
+        Some(ports) => ports.refuses_subscriber(config.buffer_size),
+        None => true,
+    }
+}
+
+/// The reply for a subscriber that isn't created, also if memory runs out: it is refused as `Made::make_subscriber` refuses it, and skipped
+/// if the domain isn't in the home. Nothing changes.
 pub fn subscriber_refused<T: Copy, U: Copy, H: Home<T, U>>(
     home: &H,
     domain: DomainId,

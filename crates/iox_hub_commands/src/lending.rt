@@ -13,12 +13,12 @@ use iox_command::Reply;
 use iox_domain::Home;
 use std::alloc::{AllocError, Global};
 
-/// Loans so many elements of a publisher, none of which is written. Skipped if `Made::loan_uninit` answers None, and refused as it refuses
-/// it.
+/// Loans this many elements from a publisher, none of which is written. Skipped if `Made::loan_uninit` answers None, and refused as it
+/// refuses it.
 ///
 /// Fails only if the table of loans is full and memory runs out for one more number; then nothing has changed. Whatever memory there is,
-/// the command is skipped if the number has no publisher, or if the publisher's messages are single values and not one element is asked
-/// for.
+/// the command is skipped if the number has no publisher, or if the publisher's messages are single values and another number of elements
+/// than one is asked for.
 /// Example: `let reply = loan_uninit(alloc, &mut made, &mut home, publisher, 4)?;`
 pub fn loan_uninit<T: Copy, U: Copy, H: Home<T, U>>(
     alloc: Global,
@@ -39,7 +39,7 @@ pub fn loan_uninit<T: Copy, U: Copy, H: Home<T, U>>(
     }
 }
 
-/// Loans so many elements of a publisher, each written with a default value. Skipped if `Made::loan` answers None, and refused as it
+/// Loans this many elements from a publisher, each written with a default value. Skipped if `Made::loan` answers None, and refused as it
 /// refuses it.
 ///
 /// Fails only if the table of loans is full and memory runs out for one more number; then nothing has changed. The command is skipped if

@@ -16,7 +16,7 @@
 //! | `following` | how ports update their connections, look for data, and are closed |
 //! | `numbered_hub` | the hub with all that commands made in it |
 //! | `service_step` | the commands on nodes and services |
-//! | `room_arriving` | how ports are created, once the numbers of their loans and samples are reserved |
+//! | `room_arriving` | how ports are created, after the numbers of their loans and samples were reserved |
 //! | `step` | one command, and its reply |
 //! | `port_step` | one command of a port, and its reply |
 //! | `room` | numbers of loans and samples that are reserved for ports, and capacity for them |

@@ -64,7 +64,7 @@ pub fn send<T: Copy, U: Copy, H: Home<T, U>>(
     sent_reply(made.send(alloc, home, loan))
 }
 
-/// Tries a blocked send again, with so many nanoseconds elapsed. Skipped if `Made::retry` answers None, and refused as it refuses it.
+/// Tries a blocked send again, with this many nanoseconds elapsed. Skipped if `Made::retry` answers None, and refused as it refuses it.
 /// Example: `let reply = retry(&made, &mut home, publisher, 1_000);`
 pub fn retry<T: Copy, U: Copy, H: Home<T, U>>(
     made: &Made,

@@ -37,7 +37,7 @@ pub fn owner_of(factory: &PortFactory<PublishSubscribe>) -> PortOwner
     }
 }
 
-/// How many loans of a publisher with these options may be out at once.
+/// The loan limit of a publisher with these options.
 pub fn most_loans(options: &PublisherOptions) -> usize
     ensures { result ≡ most_loans options.now }
 {
@@ -45,7 +45,7 @@ pub fn most_loans(options: &PublisherOptions) -> usize
     length(options.max_loaned_samples, defaults.max_loaned_samples)
 }
 
-/// How many values a loan of a publisher with these options may have at first.
+/// The maximum number of values of a loan of a publisher with these options, before its memory grows.
 /// Example: `let length = first_length(&options);`
 pub fn first_length(options: &PublisherOptions) -> usize
     ensures { result ≡ unwrap_or options.now.initial_max_slice_len publisher_defaults.initial_max_slice_len }

@@ -23,7 +23,7 @@ impl<
     B: PublisherHandlers,
     D: SubscriberHandler,
 > NumberedHub<T, U, B, D> {
-    /// Carries out one command of a port: the same as `step` of all commands, which are larger values and cost more to pass on.
+    /// Carries out one command of a port, as `step` does. A `PortCommand` is smaller than a `Command`, so passing it costs less.
     /// Example: `let reply = hub.step_port(alloc, PortCommand::Receive { subscriber: 1 })?;`
     pub fn step_port(
         &mut self,

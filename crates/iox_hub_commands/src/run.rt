@@ -34,7 +34,7 @@ impl<
     B: PublisherHandlers,
     D: SubscriberHandler,
 > NumberedHub<T, U, B, D> {
-    /// Carries out commands, one after the other, once there is capacity for all replies.
+    /// Carries out commands, one after the other, after capacity was made for all replies.
     ///
     /// It stops before the first command if an allocation fails for that capacity, and then nothing has changed; or at a command that
     /// receives or reads, if an allocation fails for the values of its reply, and then those before it have their replies. It makes no

@@ -7,11 +7,11 @@
 //! | `kinds` | what options of each pattern ask, and how its errors are reported |
 //! | `factories` | the table: which factory has a number |
 //! | `asked` | which service is asked for |
-//! | `refusing` | which settings no service can be created with, and what the first look decides |
+//! | `refusing` | the settings with which no service can be created, and what the first lookup decides |
 //! | `creating` | how services are created |
 //! | `opening` | how services are opened |
 //! | `either` | how services are opened or created |
-//! | `opening_call` | what these three have in common |
+//! | `opening_call` | what the calls that create and open services have in common |
 //! | `closing` | how factories are closed |
 //! | `acting` | actions of other nodes |
 //! | `laws` | a theorem about the numbers of factories |

@@ -29,8 +29,8 @@ impl<
     /// publish-subscribe, if a send of the publisher is blocked (or none is, for `Retry` and `GiveUp`), or if a loan isn't written, or has
     /// other values or places than are named. If a call is refused, the reply is its error.
     ///
-    /// A publisher is created once there is capacity for the numbers of all loans that it may make, and of the samples of it that may be
-    /// held. A subscriber is created once there is capacity for those of all samples that it may hold. So memory never runs out for the
+    /// A publisher is created after capacity was made for the numbers of all loans that it may make, and of its samples that may be held. A
+    /// subscriber is created after capacity was made for the numbers of all samples that it may hold. So memory never runs out for the
     /// number of a loan or a sample. If an allocation fails for that capacity, the port is refused.
     ///
     /// Fails only if an allocation fails for the values of the reply. Then nothing has changed, except that a received sample is held. A

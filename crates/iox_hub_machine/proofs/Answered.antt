@@ -152,7 +152,7 @@ module _ {T U B D : Type 0} (payload user_header : Detail)
     numbers_stay roomier same is =
         (ap (λ (table : FactoryTable). table.entries) is ∙ same.0, ap (λ (table : FactoryTable). table.next) is ∙ same.1)
 
-    -- no memory was found before the first access
+    -- no memory was found before the first storage operation
     pub lacking_answered : (roomier : FactoryTable) (result : Result ℕ Refusal) → SameNumbers old.factories.made roomier
         → new.made ≡ old.made
         → IsRefusedWith (told (lacks false)) roomier old.hub result new.factories.made new.hub
@@ -251,7 +251,7 @@ module _ {T U B D : Type 0} (payload user_header : Detail)
       refused_answer why is =
           ap (λ (r : Result ℕ Refusal). factory_reply {T = T} (Some r)) is ∙ ap (λ (r : Refusal). reply.Refused r) (named why)
 
-      -- what the accesses came to
+      -- what the storage operations came to
       module _ (since : MessagingPattern → List ℕ → List ℕ) (goes_on : GoOn taken since) (last : Call)
           (stands_then : TableStands names since end (with_phase pattern name last.phase state)) where
         failed : (why : F) (opened : Result Made E) → Calls begun (Some (Err why)) last

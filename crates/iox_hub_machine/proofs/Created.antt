@@ -243,7 +243,7 @@ module _ {T U B D : Type 0} (variant : TypeVariant) (terms : Terms T U B D) wher
     StepsTo answer = hub.Step (record terms_so { is_default = choices.is_default }) (command.Create node name named attributes steps) old
         (Ok answer) new
 
-    -- where the first look finds the service the machine refuses, too
+    -- where the first lookup finds the service the machine refuses, too
     standing_so : (failure : CreateFailure) → failure ≡ uncreated.AlreadyExists
         → first_look (record { node = node; name = name; options = named }) steps old.hub ≡ Some lying.Described
         → IsUncreated (settings_of types named) None → new.hub ≡ old.hub → new.factories.made ≡ old.factories.made

@@ -17,7 +17,7 @@ use Rattle.iox_negotiate_table.specs.declared.step.ForeignStep.{ForeignStep as T
 abbrev pub AreMade : MessageTypeDetails → List ℕ → List StepBefore → List (List TableStep) → Type 0
 AreMade types name steps lists = (lists ≡ lists_of name types steps) × AllByRecursion (AllByRecursion PublishesInForm) lists
 
--- the list that comes next after so many
+-- the list that comes next after n
 formed_at : (made : ℕ) (lists : List (List TableStep)) → AllByRecursion (AllByRecursion PublishesInForm) lists
     → AllByRecursion PublishesInForm (next_list (drop made lists))
 formed_at zero [] forms = tt

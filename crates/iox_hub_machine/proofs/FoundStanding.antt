@@ -1,4 +1,4 @@
--- A machine refuses who creates beside a service that stands, at the first look.
+-- A machine refuses who creates beside a service that stands, at the first lookup.
 use Rattle.std.proofs.Common.{◌≡◌, ◌||◌, ◌∙◌, ℕ, Bool, true, false, cond, List, [], ◌∷◌, map, None, Some, Err, inl, refl, sym, ap}
 use Rattle.std.proofs.Common.{subst}
 use Rattle.std.specs.Prelude.{filter, fold, nat_eq, if◌then◌else◌}
@@ -24,7 +24,7 @@ use Rattle.iox_machine.specs.State.{State, with_phase}
 use Rattle.iox_negotiate_machine.specs.Standing.{Lies}
 use Rattle.iox_negotiate_table.specs.Contents.{Contents, entry_at}
 
--- what a first look finds lies under the hash, and no step is named before it
+-- what a first lookup finds lies under the hash, and no step is named before it
 pub look_finds : {T U B D : Type 0} (asked : ServiceAsked) (steps : List StepBefore) (hub : Hub T U B D) (it : HashState)
     → first_look asked steps hub ≡ Some it
     → (acts_first steps ≡ false) × (hash_state (entry_at (hash_of asked.name asked.options) hub.table) ≡ it)
@@ -56,7 +56,7 @@ module _ (pattern : MessagingPattern) (name : List ℕ) (table : Contents) where
   described_so (Published life agreed nodes) taken lies is = tt
   described_so (Emptied life agreed by) taken lies is = tt
 
--- where no step is named before the first access, none is done there
+-- where no step is named before the first storage operation, none is done there
 none_first : (steps : List StepBefore) → acts_first steps ≡ false → filter (λ (before : StepBefore). nat_eq before.access 1) steps ≡ []
 none_first [] none = refl
 none_first (before ∷ rest) none = here (nat_eq before.access 1) none (none_first rest)
@@ -77,7 +77,7 @@ module _ (types : MessageTypeDetails) (pattern : MessagingPattern) (steps : List
   looks_described (Published life other nodes) stands call = (refl, refl)
   looks_described (Emptied life other by) stands call = (refl, refl)
 
-  -- so it is the one access, and the phase stays as it is
+  -- so it is the one storage operation, and the phase stays as it is
   pub refuses_to_create : (phase : Phase) → HasDescription phase → acts_first steps ≡ false → unfit agreed.settings ≡ None
       → Creates types pattern steps node agreed (record { phase = phase; accesses = 0 }) (Some (Err uncreated.AlreadyExists))
       (record { phase = phase; accesses = 1 })

@@ -29,7 +29,7 @@ none_next low next (entry ∷ entries) (first, rest) =
     at_behind next entry entries (apart_so entry.0 next (λ same. omega (arith, same, reaches (entry.0 + 1) next entries rest)))
     ∙ none_next (entry.0 + 1) next entries rest
 
--- ---- what comes behind
+-- ---- what comes after
 
 module _ {V W : Type 0} (f : V → W) where
   abbrev told_so : ℕ × V → ℕ × W
@@ -89,7 +89,7 @@ module _ {V : Type 0} (number : ℕ) (v : V) where
   behind_by true entry others later more rest = ap (λ (these : List (ℕ × V)). without_domain entry ∷ these) rest
   behind_by false entry others later more rest = rest
 
-  -- what comes of a domain comes behind its own
+  -- what comes of a domain comes after its own
   pub its_added : (domain : ℕ) (table : List (ℕ × (ℕ × V)))
       → those_of domain (table ++ (number, (domain, v)) ∷ []) ≡ those_of domain table ++ (number, v) ∷ []
   its_added domain [] = ap (λ (b : Bool). map without_domain (cond b ((number, (domain, v)) ∷ []) [])) (eq-eqb domain domain refl)

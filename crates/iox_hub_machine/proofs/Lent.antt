@@ -143,7 +143,7 @@ lender_is values None slices = refl
 lender_is values (Some made) slices =
     ap (λ (holds : Bool). cond (holds || (values == 1)) (Some made.port) None) (slices made refl)
 
--- where a send waits nothing is lent
+-- where a send is blocked nothing is lent
 busy_lends : {T U : Type 0} (number values : ℕ) (ports : ServicePorts T U) (found : Option (PublisherPort T U))
     → passes_port (λ (port : PublisherPort T U). port.stands) found ≡ true → passes_port is_blocked found ≡ true
     → AtPublisher number (LoansOne values values) found ports None ports
@@ -364,7 +364,7 @@ module _ {T U B D : Type 0} (choices : Choices T) (is_default_header : U → Typ
       written_alike services answer (some, is, does) =
           lending_alike number values next (Some some) state (answered_with answer services state) answer does
 
-      -- one that may lend, or of which a send waits
+      -- one that may lend, or of which a send is blocked
       module _ (port : PortId) (it : GoesByNumber choices degrades decides reader_degrades naming order old state stands number port)
           (lent told : Option (Result ℕ LoanError)) where
         abbrev Written : Type 0

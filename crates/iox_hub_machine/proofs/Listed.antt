@@ -15,7 +15,7 @@ use Rattle.iox_negotiate_machine.specs.Laws.{table_step_of}
 use Rattle.iox_negotiate_table.specs.Stepped.{next_list}
 use Rattle.iox_negotiate_table.specs.declared.step.ForeignStep.{ForeignStep as TableStep}
 
--- the steps before an access, as the table does them
+-- the steps before a storage operation, as the table does them
 same_steps : (types : MessageTypeDetails) (name : List ℕ) (steps : List StepBefore)
     → map (λ (before : StepBefore). step_of name types before.step) steps
     ≡ map (table_step_of types name) (map (λ (before : StepBefore). before.step) steps)
@@ -24,7 +24,7 @@ same_steps types name (before ∷ steps) =
     ap (λ (one : TableStep). one ∷ map (λ (b : StepBefore). step_of name types b.step) steps) (same_step name types before.step)
     ∙ ap (λ (l : List TableStep). table_step_of types name before.step ∷ l) (same_steps types name steps)
 
--- so many numbers on
+-- n numbers on
 list_at : (f : ℕ → List TableStep) (first count made : ℕ) → made < count
     → next_list (drop made (map f (from first count))) ≡ f (first + made)
 list_at f first zero made less = absurd (none made less)
@@ -34,7 +34,7 @@ list_at f first zero made less = absurd (none made less)
 list_at f first (suc count) zero less = ap f (omega arith)
 list_at f first (suc count) (suc made) less = list_at f (first + 1) count made (omega (arith, less)) ∙ ap f (omega arith)
 
--- behind the last list there is none
+-- after the last list there is none
 none_behind : (f : ℕ → List TableStep) (first count made : ℕ) → count ≤ made → next_list (drop made (map f (from first count))) ≡ []
 none_behind f first zero zero less = refl
 none_behind f first zero (suc made) less = refl
@@ -44,7 +44,7 @@ none_behind f first (suc count) zero less = absurd (none count less)
     none count less = omega (arith, less)
 none_behind f first (suc count) (suc made) less = none_behind f (first + 1) count made (omega (arith, less))
 
--- no steps are named before an access behind the last before which some are
+-- no steps are named before a storage operation after the last before which some are
 none_named : (steps : List StepBefore) (access : ℕ) → last_access steps < access
     → filter (λ (before : StepBefore). before.access == access) steps ≡ []
 none_named [] access less = refl

@@ -92,7 +92,7 @@ module _ (name : List ℕ) (types : MessageTypeDetails) (steps : List StepBefore
       let same = length-map some (λ (before : StepBefore). step_of name types before.step) in
       let few = filter_few (λ (before : StepBefore). nat_eq before.access access) steps in omega (arith, same, few)
 
-  -- so many times as many
+  -- n times as many
   abbrev times_most : ℕ → ℕ
   times_most zero = 0
   times_most (suc count) = length steps + times_most count
@@ -111,7 +111,7 @@ module _ (name : List ℕ) (types : MessageTypeDetails) (steps : List StepBefore
       let some = from_few 1 (min (last_access steps) 16) in
       let more = more_most (min (last_access steps) 16) 16 (omega arith) in omega (arith, some, more)
 
--- ---- accesses
+-- ---- storage operations
 
 one_sight : (access : Access) (old new : Contents) → Sight old access new → new.next ≤ old.next + 1
 one_sight access old new sight = grows (Accesses access) (hash_of (Accesses access)) old new (changes old new (Accesses access) sight)
@@ -174,7 +174,7 @@ table_few [] old new same = let is = ap (λ (table : Contents). table.next) same
 table_few (access ∷ made) old new (mid, sight, went) =
     let one = one_sight access old mid sight in let rest = table_few made mid new went in omega (arith, one, rest)
 
--- ---- a factory is closed in three accesses
+-- ---- a factory is closed in three storage operations
 
 segment_few : (hash : ServiceHash) (number : ℕ) (made : List Access) (result : Result (Unit {0}) CloseError)
     → RemovesSegment hash number made result → length made ≤ 1
@@ -242,12 +242,12 @@ short_lists name types steps table roomier lists (same, are, room, forms) = rw a
 
 -- ---- a hub
 
--- how many numbers a call with so many steps takes
+-- how many numbers a call with n steps takes
 abbrev pub most_taken : ℕ → ℕ
 most_taken count = 17 + 16 * count
 
 module _ {T U B D : Type 0} where
-  -- A command takes so many numbers of the table at most; the config and the nodes stay, and counts of factories stand by rising numbers
+  -- A command takes at most n numbers of the table; the config and the nodes stay, and counts of factories stand by rising numbers
   -- where they did.
   pub record TakesFew (few : ℕ) (old new : Hub T U B D) : Type 0 where
     pub buffer : new.expired_connection_buffer ≡ old.expired_connection_buffer

@@ -23,7 +23,7 @@ use Rattle.iox_negotiate_machine.proofs.Beginning.{new-stands}
 use Rattle.iox_negotiate_table.specs.Contents.{empty_table}
 
 module _ (T U B D : Type 0) (buffer id publishers subscribers loans samples : ℕ) (pledged : Pledged) where
-  -- a hub in which nothing was made, with room for so many numbers
+  -- a hub in which nothing was made, with room for n numbers
   abbrev pub new_hub : NumberedHub T U B D
   new_hub = record {
     hub = record {

@@ -143,14 +143,14 @@ module _ {T U B D : Type 0} (variant : TypeVariant) (terms : Terms T U B D) (cho
           taken naming order node old new state
           stands Goes tell (λ is_new. unopened.OutOfMemory)
 
-      opened_so : (fits : (fresh : Bool) (last : Call)
+      opened_so : {can_be : Type 0} (fits : (fresh : Bool) (last : Call)
           → Goes (record { phase = state.phases kind name; accesses = 0 }) (Some (Ok fresh)) last
           → kind ≡ pattern.PublishSubscribe → (life : ℕ) (agreed : Agreement) (nodes : List (Node × ℕ))
           → last.phase ≡ Published life agreed nodes → FitsHere terms.payload terms.user_header agreed.settings)
           → (lists : List (List TableStep)) → AreMade types name steps lists
           → (roomier : FactoryTable) → SameNumbers old.factories.made roomier → new.made ≡ old.made → (result : Result ℕ Refusal)
           → (opened : Result Made E)
-          → OpensInHub terms.payload terms.user_header (Unit {0}) (λ was_new. error unopened.OutOfMemory)
+          → OpensInHub terms.payload terms.user_header can_be (λ was_new. error unopened.OutOfMemory)
           (λ before came after. built.Negotiates SteppedSight before.table.id node error
           (λ made answer. rounds.Opens (service_hash_of kind name) node judge made answer) before came after) lists old.hub opened new.hub
           → Numbers kind refused opened roomier result new.factories.made

@@ -143,14 +143,14 @@ module _ {T U B D : Type 0} (variant : TypeVariant) (terms : Terms T U B D) (cho
           taken naming order node old new state
           stands Goes tell told_of.either_lacking
 
-      either_so : (fits : (fresh : Bool) (last : Call)
+      either_so : {can_be : Type 0} (fits : (fresh : Bool) (last : Call)
           → Goes (record { phase = state.phases kind name; accesses = 0 }) (Some (Ok fresh)) last
           → kind ≡ pattern.PublishSubscribe → (life : ℕ) (agreed : Agreement) (nodes : List (Node × ℕ))
           → last.phase ≡ Published life agreed nodes → FitsHere terms.payload terms.user_header agreed.settings)
           → (lists : List (List TableStep)) → AreMade types name steps lists
           → (roomier : FactoryTable) → SameNumbers old.factories.made roomier → new.made ≡ old.made → (result : Result ℕ Refusal)
           → (opened : Result Made E)
-          → OpensInHub terms.payload terms.user_header (Unit {0}) (λ was_new. error (lacking_either was_new))
+          → OpensInHub terms.payload terms.user_header can_be (λ was_new. error (lacking_either was_new))
           (λ before came after. built.Either SteppedSight before.table.id (service_hash_of kind name) node judge
           (agreed_of name named types required.pairs) (AreWithinLimits (settings_of types named))
           (HasNoRoomForHistory (settings_of types named)) error before came after)

@@ -40,7 +40,7 @@ comes_there : {V : Type 0} (number : ℕ) (v : V) (before behind : List (ℕ × 
 comes_there number v [] behind = omega (arith, ticks_itself number)
 comes_there number v (entry ∷ before) behind = omega (arith, comes_there number v before behind)
 
--- where a number comes once, it doesn't come before or behind
+-- where a number comes once, it doesn't come before or after
 pub comes_alone : {V : Type 0} (number : ℕ) (v : V) (before behind : List (ℕ × V))
     → how_often number (keys_of (before ++ (number, v) ∷ behind)) ≤ 1
     → (how_often number (keys_of before) ≡ 0) × (how_often number (keys_of behind) ≡ 0)

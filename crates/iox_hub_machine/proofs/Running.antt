@@ -24,7 +24,7 @@ use Rattle.iox_domain_machine.proofs.Found.{same_some}
 use Rattle.iox_domain_machine.specs.Naming.{Naming}
 use Rattle.iox_hub_base.specs.declared.hub.HubConfig.{HubConfig}
 use Rattle.iox_hub_commands.specs.CommandSteps as hub
-use Rattle.iox_hub_commands.specs.Room.{LacksValues, RepliesValues, StopsInTime}
+use Rattle.iox_hub_commands.specs.Room.{GivesValues, LacksValues, StopsInTime}
 use Rattle.iox_hub_commands.specs.Runs as hub_runs
 use Rattle.iox_hub_commands.specs.Runs.{IsRun}
 use Rattle.iox_hub_commands.specs.declared.numbered_hub.NumberedHub.{NumberedHub}
@@ -112,11 +112,11 @@ module _ {T : Type 0} where
   stops_first (command.Read sample) rest = tt
   stops_first other rest = refl
 
-  pub stops_so : (asked : Command T) (rest : List (Command T)) (replies : List (Reply T)) → RepliesValues asked
-      → machine.MayStop (asked ∷ rest) replies
-  stops_so (command.Receive subscriber) rest replies values = tt
-  stops_so (command.Read sample) rest replies values = tt
-  stops_so other rest replies values = absurd values
+  pub stops_so : {U B D : Type 0} (asked : Command T) (rest : List (Command T)) (replies : List (Reply T)) (hub : NumberedHub T U B D)
+      → GivesValues asked hub → machine.MayStop (asked ∷ rest) replies
+  stops_so (command.Receive subscriber) rest replies hub values = tt
+  stops_so (command.Read sample) rest replies hub values = tt
+  stops_so other rest replies hub values = absurd values
 
   next_is : (first rest : List (Command T)) (asked : Command T) → slice_get (first ++ asked ∷ rest) (length first) ≡ Some asked
   next_is [] rest asked = refl
@@ -129,13 +129,14 @@ module _ {T : Type 0} where
       never : suc (length replies) ≡ 0 → ⊥
       never none = omega (arith, none)
 
-  may_stop : (first rest : List (Command T)) (asked : Command T) (replies : List (Reply T)) → length replies ≡ length first
-      → (length replies ≡ 0) ⊎ LacksValues (first ++ asked ∷ rest) (length replies) → machine.MayStop (asked ∷ rest) replies
-  may_stop first rest asked replies each (inl none) =
+  may_stop : {U B D : Type 0} (first rest : List (Command T)) (asked : Command T) (replies : List (Reply T)) (hub : NumberedHub T U B D)
+      → length replies ≡ length first → (length replies ≡ 0) ⊎ LacksValues (first ++ asked ∷ rest) (length replies) hub
+      → machine.MayStop (asked ∷ rest) replies
+  may_stop first rest asked replies hub each (inl none) =
       subst (machine.MayStop (asked ∷ rest)) (sym (none_given replies none)) (stops_first asked rest)
-  may_stop first rest asked replies each (inr (other, is, values)) =
+  may_stop first rest asked replies hub each (inr (other, is, values)) =
       let same : other ≡ asked = same_some other asked (sym is ∙ ap (slice_get (first ++ asked ∷ rest)) each ∙ next_is first rest asked) in
-      stops_so asked rest replies (subst (λ (it : Command T). RepliesValues it) same values)
+      stops_so asked rest replies hub (subst (λ (it : Command T). GivesValues it hub) same values)
 
   one_each : (types : MessageTypeDetails) (choices : Choices T) (buffer : ℕ) (first : List (Command T)) (old new : State T)
       (answers : List (Reply T)) → machine.Runs types choices buffer first old answers new → length answers ≡ length first
@@ -173,7 +174,7 @@ module _ {T : Type 0} (types : MessageTypeDetails) (choices : Choices T) (buffer
       (commands ++ asked ∷ [], answers ++ answer ∷ [], came_by commands asked new_state old new answers answer runs step)
 
 module _ {T U B D : Type 0} where
-  -- A hub may be asked a command that names so many steps: fewer than 2 ^ 56 commands and steps are asked with it.
+  -- A hub may be asked a command that names n steps: fewer than 2 ^ 56 commands and steps are asked with it.
   abbrev pub MayBeAsked : ℕ → NumberedHub T U B D → Type 0
   MayBeAsked steps hub = (most : ℕ) × RanAtMost most hub × (most + (1 + steps) < 2 ^ 56)
 
@@ -429,10 +430,10 @@ module _ {T U B D : Type 0} (terms : Terms T U B D) where
           it.asked ∷ it.rest,
           it.after,
           it.are,
-          may_stop it.first it.rest it.asked replies
+          may_stop it.first it.rest it.asked replies new
               (one_each terms.types (as_named terms.is_default) config.expired_connection_buffer it.first new_state it.after replies runs)
               (⊎_elim (λ never. inl never.0)
-              (λ lacks. inr (subst (λ (them : List (Command T)). LacksValues them (length replies)) it.are lacks)) (stops refl)),
+              (λ lacks. inr (subst (λ (them : List (Command T)). LacksValues them (length replies) new) it.are lacks)) (stops refl)),
           runs,
         )
 

@@ -26,7 +26,7 @@ more_by : (b : Bool) (entry : ℕ × Factory) (some : List (ℕ × Factory)) →
 more_by true entry some = length-append some (entry ∷ [])
 more_by false entry some = length-append some []
 
--- how many factories of a service a node has where one came behind the others
+-- how many factories of a service a node has where one came after the others
 pub more_of_node : (pattern : MessagingPattern) (name : List ℕ) (node number : ℕ) (factory : Factory) (factories : List (ℕ × Factory))
     → factories_of_node pattern name node (factories ++ (number, factory) ∷ [])
     ≡ factories_of_node pattern name node factories + cond (is_factory_of_node pattern name node factory) 1 0

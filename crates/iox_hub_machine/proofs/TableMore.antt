@@ -1,4 +1,4 @@
--- Tables of a hub and of a machine with one more behind the others.
+-- Tables of a hub and of a machine with one more after the others.
 use Rattle.std.proofs.Common.{◌≡◌, ◌≢◌, ◌≤◌, ◌<◌, ◌⊎◌, ◌^◌, ◌+◌, ℕ, Bool, true, false, cond, List, [], ◌∷◌, ◌++◌, length, map, Option}
 use Rattle.std.proofs.Common.{None, Some}
 use Rattle.std.proofs.Common.{refl, sym, ap, ◌∙◌, inl, inr, arith}
@@ -115,7 +115,7 @@ among_end table number (service ∷ services) one none =
     ap (option_or (at number (table service))) (among_end table number services one none)
 
 module _ {V : Type 0} where
-  -- what goes by a number behind the first does so among all
+  -- what goes by a number after the first does so among all
   pub some_behind : (number : ℕ) (entry : ℕ × V) (table : List (ℕ × V)) → is_some (at number table) ≡ true
       → is_some (at number (entry ∷ table)) ≡ true
   some_behind number entry table is = ⊎_elim

@@ -161,7 +161,7 @@ module _ {T U B D : Type 0} (variant : TypeVariant) (terms : Terms T U B D) wher
     Unless named attributes refused = CreatesUnlessRefused refused terms.payload terms.user_header types (asked_by named) attributes steps
         old.factories.made old.hub (Some answer) table hub
 
-    -- a first look finds that the service stands
+    -- a first lookup finds that the service stands
     abbrev Stands : ServiceOptions → Type 0
     Stands named = first_look (asked_by named) steps old.hub ≡ Some lying.Described
 

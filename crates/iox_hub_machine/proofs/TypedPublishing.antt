@@ -1,4 +1,4 @@
--- Each call of a typed publisher, of its loans and of its sends that wait is a step of the machine.
+-- Each call of a typed publisher, of its loans and of its blocked sends is a step of the machine.
 use Rattle.std.proofs.Common.{◌≡◌, ℕ, true, List, Option, Some, Result, Ok, Err, refl, sym, ap, subst, ◌∙◌}
 use Rattle.std.specs.Prelude.{is_some}
 use Rattle.iox_domain.specs.Lending.{gave_up_in}

@@ -55,8 +55,7 @@ AnswersAsChosen choices degrades who subscriber options = (info : DegradationInf
     → choices.subscriber_acts subscriber (unwrap_or options.degradation_handler Warn) action
 
 -- Whatever the handlers `who` may answer at a failed connection, and decide at a full mailbox, may be chosen for the publisher with this
--- number, created with these options. The number of retries that they get is the machine's, but at most
--- 2^64 - 1.
+-- number, created with these options. They are asked with the machine's number of retries, or with 2^64 - 1 if there were more.
 pub record DecidesAsChosen {T B : Type 0} (choices : Choices T)
     (degrades : B → DegradationCause → DegradationInfo → DegradationAction → Type 0)
     (decides : B → BackpressureInfo → BackpressureDecision → Type 0) (who : B) (publisher : ℕ) (options : PublisherOptions) : Type 0 where
@@ -76,7 +75,7 @@ MayBeNamedLater choices hub =
     × ((subscriber : ℕ) (named : DegradationAction) → hub.made.subscribers.next ≤ subscriber
     → choices.subscriber_acts subscriber named named)
 
--- One port more of a service can be counted, and one change more of each of its port lists.
+-- The service can count one more port, and one more change of each of its port lists.
 abbrev pub CanBeCounted : {T U : Type 0} → ServicePorts T U → Type 0
 CanBeCounted ports = (ports.next_port + 1 < 2 ^ 64) × (may_change ports.publisher_list ≡ true) × (may_change ports.subscriber_list ≡ true)
 
@@ -88,16 +87,16 @@ pub record MayCome {T U B D : Type 0} (hub : NumberedHub T U B D) : Type 0 where
 
 -- The parameters: the terms of the hub, and the choices; the default values are those of the choices.
 module _ {T U B D : Type 0} (terms : Terms T U B D) (choices : Choices T) where
-  -- A subscriber of a factory's service is created, or refused, or the command is skipped. Whatever its handler may answer may be chosen
-  -- for the subscriber with the number that it gets.
+  -- The machine does the same when a subscriber of a factory's service is created, or refused, or when the command is skipped. This
+  -- requires that whatever its handler may answer may be chosen for the subscriber with the number that it gets.
   abbrev pub SubscriberComingIsFollowed : Type 0
   SubscriberComingIsFollowed = (names : List (List ℕ)) (factory : ℕ) (options : SubscriberOptions)
       → FollowsIf terms choices names (command.Subscriber factory options)
       (λ old answer. MayCome old × (answer ≡ reply.SubscriberMade old.made.subscribers.next
       → AnswersAsChosen choices terms.reader_degrades (subscriber_handler terms.fixed_reader options) old.made.subscribers.next options))
 
-  -- A publisher of a factory's service is created, or refused, or the command is skipped. Whatever its handlers may answer and decide may
-  -- be chosen for the publisher with the number that it gets.
+  -- The machine does the same when a publisher of a factory's service is created, or refused, or when the command is skipped. This requires
+  -- that whatever its handlers may answer and decide may be chosen for the publisher with the number that it gets.
   abbrev pub PublisherComingIsFollowed : Type 0
   PublisherComingIsFollowed = (names : List (List ℕ)) (factory : ℕ) (options : PublisherOptions)
       → FollowsIf terms choices names (command.Publisher factory options)

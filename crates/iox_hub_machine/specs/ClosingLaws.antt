@@ -31,8 +31,8 @@ HasEachOnce hub = ComesOnce hub.services.domains × ComesOnce hub.factory_counts
 
 -- The parameters: the terms of the hub, and the choices; the default values are those of the choices.
 module _ {T U B D : Type 0} (terms : Terms T U B D) (choices : Choices T) where
-  -- A factory is closed, or stays because it is in use. Each service of the hub has one agreement, no number occurs twice, and a run of a
-  -- new machine reached the state that the hub represents.
+  -- The machine does the same when a factory is closed, or stays because it is in use. This requires that each service of the hub has one
+  -- agreement, that no number occurs twice, and that a run of a new machine reached the state that the hub represents.
   abbrev pub ClosingMatches : Type 0
   ClosingMatches = (names : List (List ℕ)) (factory : ℕ) (taken : MessagingPattern → List ℕ → List ℕ) (naming : ℕ → Naming)
       (order : List (ℕ × ServicePorts T U)) (old new : NumberedHub T U B D) (state : State T) (answer : Reply T)

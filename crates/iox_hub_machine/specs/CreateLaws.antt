@@ -13,9 +13,9 @@ use Rattle.iox_hub_commands.specs.Terms.{Terms}
 
 -- The parameters: the terms of the hub, and the choices; the default values are those of the choices.
 module _ {T U B D : Type 0} (terms : Terms T U B D) (choices : Choices T) where
-  -- A node creates a service under a name that is asked for, as options ask and with these attributes, while other nodes act. No two
-  -- services of the names that are asked for share a hash, and there are numbers left: for the factory, for as many locks as these nodes
-  -- may take, and for its own lock.
+  -- The machine does the same when a node creates a service under a name that is asked for, as options ask and with these attributes, while
+  -- other nodes act. This requires that no two services of the names that are asked for share a hash, and that numbers are left: for the
+  -- factory, for as many locks as the other nodes may take, and for the node's own lock.
   abbrev pub CreateMatches : Type 0
   CreateMatches = (names : List (List ℕ)) (node : ℕ) (name : List ℕ) (options : ServiceOptions) (attributes : List Attribute)
       (steps : List StepBefore) → IsAmong names name → HaveOwnHashes names

@@ -76,9 +76,9 @@ module _ {T U B D : Type 0} (types : MessageTypeDetails) (choices : Choices T)
     pub runs : machine.Runs types choices buffer commands state replies after
     pub stands : StandsAfter types choices degrades decides reader_degrades names (most + all_asked commands) hub after
 
-  -- Some command is the first without a reply. The machine may give these replies to those before it, and the hub represents the machine's
-  -- state before that command. Or that command receives, the machine may give some reply to it, and the hub represents the machine's state
-  -- after it; this holds if the values of the newest sample fit in a vector.
+  -- Some command is the first without a reply. The machine may give these replies to the commands before it, and the hub represents the
+  -- machine's state before that command. Or that command receives, the machine may give some reply to it, and the hub represents the
+  -- machine's state after it; this holds if the values of the newest sample fit in a vector.
   pub record IsOnUntil (names : List (List ℕ)) (most buffer : ℕ) (commands : List (Command T)) (state : State T)
       (replies : List (Reply T)) (hub : NumberedHub T U B D) : Type 0 where
     pub first : List (Command T)
@@ -91,7 +91,7 @@ module _ {T U B D : Type 0} (types : MessageTypeDetails) (choices : Choices T)
         ⊎ ((subscriber : ℕ) × (asked ≡ command.Receive subscriber)
         × (NewestFits hub → (answer : Reply T) × IsOneOn names (most + all_asked first) buffer asked after answer hub))
 
-  -- The state of the hub after a run, which stopped or didn't.
+  -- What the hub represents after a run: after one that didn't stop (`AreAllOn`), or after one that stopped (`IsOnUntil`).
   abbrev pub RunGoesOn : List (List ℕ) → ℕ → ℕ → List (Command T) → State T → List (Reply T) → Bool → NumberedHub T U B D → Type 0
   RunGoesOn names most buffer commands state replies false hub = AreAllOn names most buffer commands state replies hub
   RunGoesOn names most buffer commands state replies true hub = IsOnUntil names most buffer commands state replies hub
@@ -131,9 +131,9 @@ module _ {T U B D : Type 0} (types : MessageTypeDetails) (choices : Choices T)
       × ((told : Reply T) → answer ≡ Ok told → ComesAsChosen command.asked command.fixed command.fixed_reader old told)
 
   -- A hub that represents a state goes on as the machine does from there, whichever handlers new ports get, if whatever they may decide and
-  -- answer may be chosen. The machine may give the hub's replies to commands, from the first one on or until the run stops, and the hub
-  -- represents the machine's state then, or its state after one command more. This holds if no two services of the names that are asked for
-  -- share a hash, and all commands and actions of other nodes, with those before the run, are fewer than 2 ^ 56.
+  -- answer may be chosen. The machine may give the hub's replies to the commands, or to those before the one at which the run stops, and
+  -- the hub then represents the machine's state, or its state after one more command. This holds if no two services of the names that are
+  -- asked for share a hash, and all commands and actions of other nodes, with those before the run, are fewer than 2 ^ 56.
   abbrev pub DecidedRunsGoOn : Detail → Detail → (U → Type 0) → Type 0
   DecidedRunsGoOn payload user_header is_default_header = (names : List (List ℕ)) (most : ℕ) (commands : List (Decided T B D))
       (old new : NumberedHub T U B D) (state : State T) (replies : List (Reply T)) (stopped : Bool)
@@ -145,11 +145,11 @@ module _ {T U B D : Type 0} (types : MessageTypeDetails) (choices : Choices T)
 
 -- The parameters: the terms of the hub, and the choices; the default values are those of the choices.
 module _ {T U B D : Type 0} (terms : Terms T U B D) (choices : Choices T) where
-  -- A hub that represents a state goes on as the machine does from there. The machine may give the hub's replies to commands, from the
-  -- first one on or until the run stops, and the hub represents the machine's state then, or its state after one command more. This holds
-  -- if no two services of the names that are asked for share a hash, all commands and actions of other nodes, with those before the run,
-  -- are fewer than 2 ^ 56, handlers that are made of fixed actions decide by these, and for each port that is created later what was named
-  -- may be chosen.
+  -- A hub that represents a state goes on as the machine does from there. The machine may give the hub's replies to the commands, or to
+  -- those before the one at which the run stops, and the hub then represents the machine's state, or its state after one more command. This
+  -- holds if no two services of the names that are asked for share a hash, all commands and actions of other nodes, with those before the
+  -- run, are fewer than 2 ^ 56, handlers that are made of fixed actions decide by these, and for each port that is created later what was
+  -- named may be chosen.
   abbrev pub RunsGoOn : Type 0
   RunsGoOn = (names : List (List ℕ)) (most : ℕ) (commands : List (Command T)) (old new : NumberedHub T U B D) (state : State T)
       (replies : List (Reply T)) (stopped : Bool)

@@ -68,30 +68,30 @@ module _ {T U B D : Type 0} (choices : Choices T) (is_default_header : U → Typ
   abbrev pub IsSimulatedIfGrown : Command T → Type 0
   IsSimulatedIfGrown asked = (old : NumberedHub T U B D) → HaveGrown old.hub.services.domains → IsSimulatedFrom old asked
 
-  -- One value of a written loan is replaced.
+  -- Replacing one value of a written loan is simulated.
   abbrev pub SetIsSimulated : Type 0
   SetIsSimulated = (loan place : ℕ) (value : T) → IsSimulated (command.Set loan place value)
 
-  -- All values of a loan are written.
+  -- Writing all values of a loan is simulated.
   abbrev pub FillIsSimulated : Type 0
   FillIsSimulated = (loan : ℕ) (values : List T) → IsSimulated (command.Fill loan values)
 
-  -- A sample is read.
+  -- Reading a sample is simulated.
   abbrev pub ReadIsSimulated : Type 0
   ReadIsSimulated = (sample : ℕ) → IsSimulated (command.Read sample)
 
-  -- The sequence number of a sample's message is reported.
+  -- Reporting the sequence number of a sample's message is simulated.
   abbrev pub SequenceIsSimulated : Type 0
   SequenceIsSimulated = (sample : ℕ) → IsSimulated (command.Sequence sample)
 
-  -- A loan is dropped.
+  -- Dropping a loan is simulated.
   abbrev pub DropIsSimulated : Type 0
   DropIsSimulated = (loan : ℕ) → IsSimulatedIfGrown (command.Drop loan)
 
-  -- A sample is released.
+  -- Releasing a sample is simulated.
   abbrev pub ReleaseIsSimulated : Type 0
   ReleaseIsSimulated = (sample : ℕ) → IsSimulatedIfGrown (command.Release sample)
 
-  -- A blocked send is given up.
+  -- Giving up a blocked send is simulated.
   abbrev pub GiveUpIsSimulated : Type 0
   GiveUpIsSimulated = (publisher : ℕ) → IsSimulated (command.GiveUp publisher)

@@ -19,7 +19,7 @@ use Rattle.iox_hub_commands.specs.declared.numbered_hub.NumberedHub.{NumberedHub
 use Rattle.iox_hub_machine.specs.Laws.{IsSimulatedFrom}
 use Rattle.iox_machine.specs.Choices.{Choices}
 
--- One change more can be counted of the two port lists of each domain in the hub.
+-- Each of the two port lists of each domain in the hub can count one more change.
 abbrev pub ListsCanChange : {T U B D : Type 0} → Hub T U B D → Type 0
 ListsCanChange {T} {U} hub = (id : DomainId) (ports : ServicePorts T U) → hub_ports id hub ≡ Some ports
     → (may_change ports.publisher_list ≡ true) × (may_change ports.subscriber_list ≡ true)
@@ -36,10 +36,10 @@ module _ {T U B D : Type 0} (choices : Choices T) (is_default_header : U → Typ
   IsSimulatedIfCounted asked = (old : NumberedHub T U B D) → HaveGrown old.hub.services.domains → NumbersRise old
       → ListsCanChange old.hub → IsSimulatedFrom choices is_default_header degrades decides reader_degrades old asked
 
-  -- A publisher is closed.
+  -- Closing a publisher is simulated.
   abbrev pub PublisherLeaveIsSimulated : Type 0
   PublisherLeaveIsSimulated = (publisher : ℕ) → IsSimulatedIfCounted (command.Leave (port.Publisher publisher))
 
-  -- A subscriber is closed.
+  -- Closing a subscriber is simulated.
   abbrev pub SubscriberLeaveIsSimulated : Type 0
   SubscriberLeaveIsSimulated = (subscriber : ℕ) → IsSimulatedIfCounted (command.Leave (port.Subscriber subscriber))

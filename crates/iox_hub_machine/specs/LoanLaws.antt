@@ -25,10 +25,10 @@ module _ {T U B D : Type 0} (choices : Choices T) (is_default_header : U → Typ
   IsSimulatedIfNumbered asked = (old : NumberedHub T U B D) → HaveGrown old.hub.services.domains → NumbersRise old
       → IsSimulatedFrom choices is_default_header degrades decides reader_degrades old asked
 
-  -- A publisher loans so many values, none of which is written.
+  -- Loaning this many values of a publisher, none of which is written, is simulated.
   abbrev pub LendUninitIsSimulated : Type 0
   LendUninitIsSimulated = (publisher values : ℕ) → IsSimulatedIfNumbered (command.LoanUninit publisher values)
 
-  -- A publisher loans so many values, each of which is written with a default value.
+  -- Loaning this many values of a publisher, each of which is written with a default value, is simulated.
   abbrev pub LendIsSimulated : Type 0
   LendIsSimulated = (publisher values : ℕ) → IsSimulatedIfNumbered (command.Loan publisher values)

@@ -22,27 +22,27 @@ use Rattle.iox_hub_machine.specs.Services.{HubStandsFor}
 use Rattle.iox_machine.specs.Choices.{Choices}
 use Rattle.iox_machine.specs.State.{State}
 
--- How many places list a port.
+-- The number of places that list a port.
 abbrev pub listed : {V : Type 0} → List (Option V) → ℕ
 listed [] = 0
 listed (None ∷ places) = listed places
 listed (Some it ∷ places) = 1 + listed places
 
--- How often a list has changed, plus how many ports it lists.
+-- The number of changes of a list, plus the number of ports that it lists.
 abbrev pub rolled : {V : Type 0} → RollState V → ℕ
 rolled roll = roll.changes + listed roll.places
 
--- How many ports of a service were created, plus what is counted of both lists.
+-- The number of ports of a service that were created, plus the changes and the listed ports of both lists.
 abbrev pub port_count : {T U : Type 0} → ServicePorts T U → ℕ
 port_count ports = ports.next_port - 1 + rolled ports.publisher_list + rolled ports.subscriber_list
 
--- Each number is below all those after it.
+-- Each number is less than all those after it.
 abbrev pub AreRising : {X : Type 0} → List (ℕ × X) → Type 0
 AreRising [] = Unit {0}
 AreRising (entry ∷ entries) = AllByRecursion (λ later. entry.0 < later.0) entries × AreRising entries
 
 module _ {T U B D : Type 0} where
-  -- The hub after at most so many commands and actions of other nodes.
+  -- What is true of a hub after at most `most` commands and actions of other nodes.
   pub record RanAtMost (most : ℕ) (hub : NumberedHub T U B D) : Type 0 where
     -- Its domains have grown by calls of ports, its numbers rise, and each service has one agreement.
     pub grown : HaveGrown hub.hub.services.domains
@@ -51,8 +51,8 @@ module _ {T U B D : Type 0} where
     -- Its services, and the counts of their factories, are ordered by rising numbers.
     pub services : AreRising hub.hub.services.domains
     pub counts : AreRising hub.hub.factory_counts
-    -- For each command or action, at most one node was made, one number given, 17 locks taken, and six counted of created ports, of changes
-    -- of their lists, and of what these list. A new hub has five next numbers.
+    -- Each command or action makes at most one node, gives at most one number, takes at most 17 locks, and raises the sum of `port_count`
+    -- by at most six. A new hub has a next number, 1, for each of five kinds.
     pub nodes : hub.hub.nodes ≤ most
     pub numbers : numbers_used hub ≤ 5 + most
     pub locks : hub.hub.table.next ≤ 1 + 17 * most
@@ -63,8 +63,8 @@ module _ {T U B D : Type 0} (types : MessageTypeDetails) (choices : Choices T)
     (degrades : B → DegradationCause → DegradationInfo → DegradationAction → Type 0)
     (decides : B → BackpressureInfo → BackpressureDecision → Type 0)
     (reader_degrades : D → DegradationCause → DegradationInfo → DegradationAction → Type 0) where
-  -- The hub represents a state, for the names that are asked for; a run of a new machine reaches this state, and the hub has had at most so
-  -- many commands and actions of other nodes. This holds of a new hub, and a run keeps it.
+  -- The hub represents a state, for the names that are asked for; a run of a new machine reaches this state, and the hub had at most `most`
+  -- commands and actions of other nodes. This holds of a new hub, and a run keeps it.
   pub record StandsAfter (names : List (List ℕ)) (most : ℕ) (hub : NumberedHub T U B D) (state : State T) : Type 0 where
     -- The numbers that were taken for the services of each name, the names of ports, and the order in which the services were opened.
     pub taken : MessagingPattern → List ℕ → List ℕ

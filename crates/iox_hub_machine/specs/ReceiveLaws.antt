@@ -19,23 +19,23 @@ module _ {T U B D : Type 0} (choices : Choices T) (is_default_header : U → Typ
     (degrades : B → DegradationCause → DegradationInfo → DegradationAction → Type 0)
     (decides : B → BackpressureInfo → BackpressureDecision → Type 0)
     (reader_degrades : D → DegradationCause → DegradationInfo → DegradationAction → Type 0) where
-  -- A publisher updates its connections.
+  -- Updating the connections of a publisher is simulated.
   abbrev pub PublisherUpdateIsSimulated : Type 0
   PublisherUpdateIsSimulated = (publisher : ℕ)
       → IsSimulatedIfGrown choices is_default_header degrades decides reader_degrades (command.Update (port.Publisher publisher))
 
-  -- A subscriber updates its connections.
+  -- Updating the connections of a subscriber is simulated.
   abbrev pub SubscriberUpdateIsSimulated : Type 0
   SubscriberUpdateIsSimulated = (subscriber : ℕ)
       → IsSimulatedIfGrown choices is_default_header degrades decides reader_degrades (command.Update (port.Subscriber subscriber))
 
-  -- The reply says whether some connection of a subscriber has data.
+  -- Reporting whether some connection of a subscriber has data is simulated.
   abbrev pub HasIsSimulated : Type 0
   HasIsSimulated = (subscriber : ℕ)
       → IsSimulatedIfGrown choices is_default_header degrades decides reader_degrades (command.Has subscriber)
 
-  -- A subscriber receives, and a received sample gets the next number, which names nothing yet. Fewer than 2 ^ 64 - 1 samples were received
-  -- so far.
+  -- Receiving is simulated, and a received sample gets the next number, which named nothing before. This requires that fewer
+  -- than 2 ^ 64 - 1 samples were received so far.
   abbrev pub ReceiveIsSimulated : Type 0
   ReceiveIsSimulated = (subscriber : ℕ) (old : NumberedHub T U B D) → HaveGrown old.hub.services.domains → NumbersRise old
       → old.made.samples.next < 2 ^ 64

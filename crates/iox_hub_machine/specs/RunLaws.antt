@@ -55,7 +55,7 @@ module _ {T : Type 0} where
   AsksAmong names other = Unit {0}
 
 -- If the ports of the hub have capacity for the numbers of loans and samples, and its domains have grown by calls of ports, a run that
--- stopped never began, or stopped at a command whose reply has values.
+-- stopped never began, or stopped at a command that would reply with values that the hub has.
 abbrev pub StopsIfRoomy : {T U B D : Type 0} → List (Command T) → NumberedHub T U B D → List (Reply T) → Bool → NumberedHub T U B D
     → Type 0
 StopsIfRoomy commands old replies stopped new = HasRoom old → HaveGrown old.hub.services.domains → stopped ≡ true
@@ -63,10 +63,9 @@ StopsIfRoomy commands old replies stopped new = HasRoom old → HaveGrown old.hu
 
 -- The parameters: the terms of the hub.
 module _ {T U B D : Type 0} (terms : Terms T U B D) where
-  -- The replies of a hub to commands, from the first one on or until the run stopped, are ones that a new machine may give: to all
-  -- commands, or, if the run stopped, to those before a command at which a run may stop. This holds if the hub was new, no two services of
-  -- the names that are asked for share a hash, commands and actions of other nodes are fewer than 2 ^ 56, and handlers that are made of
-  -- fixed actions decide by these.
+  -- The replies of a hub to commands are ones that a new machine may give: to all commands, or, if the run stopped, to those before a
+  -- command at which a run may stop. This holds if the hub was new, no two services of the names that are asked for share a hash, commands
+  -- and actions of other nodes are fewer than 2 ^ 56, and handlers that are made of fixed actions decide by these.
   abbrev pub AnswersAsMachine : HubConfig → List (Command T) → NumberedHub T U B D → List (Reply T) → Bool → Type 0
   AnswersAsMachine config commands old replies stopped =
       DecidesAsFixed terms.fixed terms.degrades terms.decides → AnswersAsFixed terms.fixed_reader terms.reader_degrades
@@ -74,7 +73,7 @@ module _ {T U B D : Type 0} (terms : Terms T U B D) where
       → all_asked commands < 2 ^ 56
       → machine.Answers terms.types (as_named terms.is_default) config.expired_connection_buffer commands stopped replies
 
-  -- Each run that stops only where it may has such replies.
+  -- The replies of each run that stops only where it may are ones that a new machine may give (`AnswersAsMachine`).
   abbrev pub RunAnswers : Type 0
   RunAnswers = (config : HubConfig) (commands : List (Command T)) (old new : NumberedHub T U B D) (replies : List (Reply T))
       (stopped : Bool)
@@ -90,7 +89,8 @@ module _ {T U B D : Type 0} (terms : Terms T U B D) where
       × HubStandsFor (as_named terms.is_default) terms.degrades terms.decides terms.reader_degrades (names_in commands) taken naming order
       new after
 
-  -- After each run to its end the hub represents such a state, under the same premises.
+  -- After each run that doesn't stop, the hub represents a state that a new machine reaches with the same replies, under the premises of
+  -- `AnswersAsMachine`.
   abbrev pub RunStands : Type 0
   RunStands = (config : HubConfig) (commands : List (Command T)) (old new : NumberedHub T U B D) (replies : List (Reply T))
       → Runs (hub.Step terms) commands old replies new

@@ -19,7 +19,7 @@ is_factory_of_node pattern name node factory =
 abbrev pub factories_of_node : MessagingPattern → List ℕ → ℕ → List (ℕ × Factory) → ℕ
 factories_of_node pattern name node factories = length (filter (λ entry. is_factory_of_node pattern name node entry.1) factories)
 
--- The entries of a node that has so many factories of a service: one with this number, or none if it has no factory.
+-- The entries of a node that has this many factories of a service: one entry with this number, or none if it has no factory.
 abbrev pub seats_for : ℕ → List ℕ
 seats_for zero = []
 seats_for (suc more) = suc more ∷ []

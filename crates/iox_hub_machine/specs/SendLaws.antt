@@ -15,16 +15,16 @@ module _ {T U B D : Type 0} (choices : Choices T) (is_default_header : U → Typ
     (degrades : B → DegradationCause → DegradationInfo → DegradationAction → Type 0)
     (decides : B → BackpressureInfo → BackpressureDecision → Type 0)
     (reader_degrades : D → DegradationCause → DegradationInfo → DegradationAction → Type 0) where
-  -- Trying a blocked send again, after this many nanoseconds, is a step of the machine.
+  -- Trying a blocked send again, after this many nanoseconds, is simulated.
   abbrev pub RetryIsSimulated : Type 0
   RetryIsSimulated = (publisher nanoseconds : ℕ)
       → IsSimulatedIfGrown choices is_default_header degrades decides reader_degrades (command.Retry publisher nanoseconds)
 
-  -- A loan is sent.
+  -- Sending a loan is simulated.
   abbrev pub SendIsSimulated : Type 0
   SendIsSimulated = (loan : ℕ) → IsSimulatedIfGrown choices is_default_header degrades decides reader_degrades (command.Send loan)
 
-  -- Values are loaned, written and sent at once.
+  -- Loaning, writing and sending values at once is simulated.
   abbrev pub PutIsSimulated : Type 0
   PutIsSimulated = (publisher : ℕ) (values : List T)
       → IsSimulatedIfGrown choices is_default_header degrades decides reader_degrades (command.Put publisher values)

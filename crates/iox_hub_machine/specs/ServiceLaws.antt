@@ -73,22 +73,22 @@ module _ {T U B D : Type 0} (terms : Terms T U B D) (choices : Choices T) where
       → hub.Step (record terms { is_default = choices.is_default }) asked old (Ok answer) new
       → IsFollowed names asked old new state answer
 
-  -- The same holds for any reply, if the hub satisfies `IsFit`.
+  -- As `FollowsIf`, for any reply, if the hub before the command satisfies `IsFit`.
   abbrev pub Follows : List (List ℕ) → Command T → (NumberedHub T U B D → Type 0) → Type 0
   Follows names asked IsFit = FollowsIf names asked (λ old answer. IsFit old)
 
-  -- A node is made, if fewer than 2 ^ 64 - 1 were made.
+  -- The machine does the same when a node is made, if fewer than 2 ^ 64 - 1 nodes were made.
   abbrev pub NodeMatches : Type 0
   NodeMatches = (names : List (List ℕ)) → Follows names command.Node (λ old. old.hub.nodes + 1 < 2 ^ 64)
 
-  -- Other nodes act under a name that is asked for. No two services of the names that are asked for share a hash, and there are numbers
-  -- left for as many locks.
+  -- The machine does the same when other nodes act under a name that is asked for. This requires that no two services of the names that are
+  -- asked for share a hash, and that numbers are left for as many locks as there are actions.
   abbrev pub ForeignMatches : Type 0
   ForeignMatches = (names : List (List ℕ)) (pattern : MessagingPattern) (name : List ℕ) (steps : List ForeignStep) → IsAmong names name
       → HaveOwnHashes names
       → Follows names (command.Foreign pattern name steps) (λ old. old.hub.table.next + length steps < 2 ^ 64)
 
-  -- If the hub skips such a command, the machine skips it, too, and the hub represents the same state.
+  -- If the hub skips a command on services (`IsOnServices`), the machine skips it, too, and the hub represents the same state.
   abbrev pub SkippedMatches : Type 0
   SkippedMatches = (names : List (List ℕ)) (asked : Command T) (taken : MessagingPattern → List ℕ → List ℕ) (naming : ℕ → Naming)
       (order : List (ℕ × ServicePorts T U)) (old new : NumberedHub T U B D) (state : State T) → IsOnServices asked

@@ -42,8 +42,8 @@ factories_as table = map (λ entry. (entry.0, factory_as entry.1)) table.entries
 abbrev pub services_in : FactoryTable → List ℕ
 services_in table = map (λ entry. service_of entry.1) table.entries
 
--- A factory of a hub has its own number, and is of the table. It is of a service, by a name that is asked for, that its node is in: the
--- service is published under the number that was taken last, with the description that the factory carries.
+-- A factory of a hub has its own number, and belongs to the hub's table. Its service has a name that is asked for, and is published under
+-- the number that was taken last for it, with the description that the factory carries. The factory's node is in the service.
 pub record FactoryStands {T : Type 0} (names : List (List ℕ)) (taken : MessagingPattern → List ℕ → List ℕ) (table : Contents)
     (state : State T) (number : ℕ) (made : MadeFactory) : Type 0 where
   pub asked : IsAmong names (carried_by made).name
@@ -66,7 +66,7 @@ module _ {T U B D : Type 0} where
     pub carried : (carried_by made).settings ≡ settings.PublishSubscribe service.settings
     pub agreed : (domain : Domain T U B D) → domain_of number services.domains ≡ Some domain → domain.agreed ≡ service.settings
 
-  -- The domains are each of the same service as the machine's service at the same place of the list.
+  -- Each domain belongs to the same service as the machine's service at the same place of the list.
   abbrev pub AreServedInTurn : FactoryTable → OpenServices T U B D → List (ℕ × ServicePorts T U) → List (Service T) → Type 0
   AreServedInTurn table hub [] services = services ≡ []
   AreServedInTurn table hub (domain ∷ domains) [] = ⊥
@@ -76,7 +76,7 @@ module _ {T U B D : Type 0} where
   -- The factories of a hub are those of the machine.
   pub record FactoriesStandFor (names : List (List ℕ)) (taken : MessagingPattern → List ℕ → List ℕ) (hub : NumberedHub T U B D)
       (state : State T) : Type 0 where
-    -- As many were made, by the numbers of commands and by those of the hub.
+    -- As many factories were made as the machine counts, both by the numbers of commands and by the hub's own numbers.
     pub numbers : hub.factories.made.next ≡ state.made.factories + 1
     pub owners : hub.hub.factories ≡ state.made.factories
     -- The same factories have numbers, each of an existing service.
@@ -93,9 +93,9 @@ module _ {T U B D : Type 0} where
         → is_open (service_of made) hub.hub.services ≡ true
 
   -- A hub represents a state of the machine, for the names that are asked for: the nodes, the phases of all services with these names, the
-  -- factories, and the open publish-subscribe services with their ports are the same. Given are the numbers that were taken for the
-  -- services of each name, what handlers of ports may answer, the names that the machine has for the ports of each service, and the order
-  -- of its services.
+  -- factories, and the open publish-subscribe services with their ports are the same. The arguments are the choices, the numbers that were
+  -- taken for the services of each name, what handlers of ports may answer, the names that the machine has for the ports of each service,
+  -- and the order of its services.
   pub record HubStandsFor (choices : Choices T) (degrades : B → DegradationCause → DegradationInfo → DegradationAction → Type 0)
       (decides : B → BackpressureInfo → BackpressureDecision → Type 0)
       (reader_degrades : D → DegradationCause → DegradationInfo → DegradationAction → Type 0)

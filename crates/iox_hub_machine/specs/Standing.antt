@@ -48,14 +48,15 @@ lent_in made = map (λ entry. (entry.0, lent_slot entry.1)) made.loans.entries
 abbrev pub held_in : Made → List (ℕ × (ℕ × Taken))
 held_in made = map (λ entry. (entry.0, held_sample entry.1)) made.samples.entries
 
--- As many ports, loans and samples were made: the next number of each kind is one more.
+-- The hub gave as many numbers to ports, loans and samples as the machine counts: the next number of each kind is one more than the
+-- machine's count.
 pub record AreAsMany (made : Made) (count : machine.Made) : Type 0 where
   pub publishers : made.publishers.next ≡ count.publishers + 1
   pub subscribers : made.subscribers.next ≡ count.subscribers + 1
   pub loans : made.loans.next ≡ count.loans + 1
   pub samples : made.samples.next ≡ count.samples + 1
 
--- No name of a port is above the number of ports that were made.
+-- No name of a port is larger than the number of ports that were made.
 pub record AreNamedWithin (naming : ℕ → Naming) (count : machine.Made) : Type 0 where
   pub publishers : (service number : ℕ) → (naming service).publisher number ≤ count.publishers
   pub subscribers : (service number : ℕ) → (naming service).subscriber number ≤ count.subscribers
@@ -93,22 +94,22 @@ module _ {T U B D : Type 0} where
       (info : DegradationInfo) (action : DegradationAction) → subscriber_may_degrade reader_degrades domain number hub info action
       → choices.subscriber_acts name subscriber.degradation action
 
-  -- The ports of a hub, with its loans and samples, represent those of a machine, by the names that each of its services gives them. Given
-  -- are what may be chosen for ports, what handlers may answer, and the ports of all open services of the hub, in the order in which the
-  -- machine has their services: that in which they were opened.
+  -- The ports of a hub, with its loans and samples, represent those of a machine, by the names that each of its services gives them. The
+  -- arguments are what may be chosen for ports, what handlers may answer, the names, and the ports of all open services of the hub, in the
+  -- order in which the machine has their services: that in which they were opened.
   pub record PortsStandFor (choices : Choices T) (degrades : B → DegradationCause → DegradationInfo → DegradationAction → Type 0)
       (decides : B → BackpressureInfo → BackpressureDecision → Type 0)
       (reader_degrades : D → DegradationCause → DegradationInfo → DegradationAction → Type 0)
       (naming : ℕ → Naming) (order : List (ℕ × ServicePorts T U)) (hub : NumberedHub T U B D) (state : State T) : Type 0 where
     -- The domain of each open service is in the hub.
     pub here : AreHere hub.hub.services.domains
-    -- These services have the ports that are given, in whatever order.
+    -- The ports of these services are those of the argument `order`, in whatever order.
     pub same : (number : ℕ) → at number order ≡ at number (ports_here hub.hub.services.domains)
     -- These ports, with the numbered loans and samples, represent the services of the machine.
     pub domains : DomainsStandFor naming (lent_in hub.made) (held_in hub.made) hub.hub.expired_connection_buffer order state.services
-    -- As many numbers were given.
+    -- As many numbers were given as the machine counts.
     pub numbers : AreAsMany hub.made state.made
-    -- No name of a port is above the last number that was given.
+    -- No name of a port is larger than the last number that was given.
     pub named : AreNamedWithin naming state.made
     -- Each loan is one of an open service of this hub.
     pub loans : (number : ℕ) (made : MadeLoan) → value_at hub.made.loans number ≡ Some made

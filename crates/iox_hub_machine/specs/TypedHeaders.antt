@@ -1,4 +1,4 @@
--- What calls on headers and user headers are in the machine.
+-- Calls on headers and user headers, compared with the machine.
 use Rattle.std.specs.Prelude.{ℕ, ◌≡◌, ◌⊎◌, List, Contains, Some, option_map}
 use Rattle.iox_command.specs.declared.command.Command.{Command}
 use Rattle.iox_command.specs.declared.command.Command.TheVariants as command
@@ -29,8 +29,8 @@ use Rattle.iox_machine.specs.State.{State}
 
 -- The parameters: the terms of the hub.
 module _ {T U B D : Type 0} (terms : Terms T U B D) where
-  -- The user header of a loan is written by a call; or it is the value that was last behind the reference of `user_header_mut`, when that
-  -- reference ended.
+  -- The user header of a loan is written by a call; or it is the last value that was written through the reference that `user_header_mut`
+  -- returned.
   abbrev pub ChangesUserHeader : PortId → ℕ → U → Hub T U B D → Hub T U B D → Type 0
   ChangesUserHeader lender slot written old new =
       WritesUserHeader hub_ports with_hub_ports lender slot written old new
@@ -45,7 +45,8 @@ module _ {T U B D : Type 0} (terms : Terms T U B D) where
       → StandsAfter terms.types (as_named terms.is_default) terms.degrades terms.decides terms.reader_degrades names most
       (hub_after_call old old.made hub) state
 
-  -- So the calls of a program are the same run of the machine as before: writing a user header needs no command.
+  -- After a user header is written, the calls of a program are the same run of the machine as before: writing a user header needs no
+  -- command.
   abbrev pub UserHeadersNeedNoCommand : Type 0
   UserHeadersNeedNoCommand = (slot : ℕ) (lender : PortId) (written : U) (old : NumberedHub T U B D) (hub : Hub T U B D)
       (names : List (List ℕ)) (asked : List (Command T)) (answers : List (Reply T))
@@ -74,9 +75,9 @@ module _ {T U B D : Type 0} (terms : Terms T U B D) where
       → header_found made.taken (hub_ports made.port.domain old.hub) ≡ Some header
       → IsStepBy terms (command.Sequence number) old (reply.Sequence header.sequence) old
 
-  -- What a numbered sample has in its header and its user header was recorded as a send began, by its domain's own numbers, with the values
-  -- and the sequence number of the machine's sample. If the publisher that sent it has a number, it is the publisher of the machine's
-  -- sample.
+  -- What a numbered sample has in its header and its user header was recorded when a send began, by its domain's own numbers, with the
+  -- values and the sequence number of the machine's sample. If the publisher that sent it has a number, it is the publisher of the
+  -- machine's sample.
   abbrev pub HeaderReadAsSent : Type 0
   HeaderReadAsSent = (names : List (List ℕ)) (most : ℕ) (hub : NumberedHub T U B D) (state : State T) (number : ℕ) (made : MadeSample)
       (sent : List (SentHeader T U))

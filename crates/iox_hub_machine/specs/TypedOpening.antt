@@ -1,4 +1,4 @@
--- What typed calls are in the machine that create a service, open one, or open or create it, and those by which other nodes act.
+-- The typed calls that create a service, open one, or open or create it, and those by which other nodes act, as steps of the machine.
 use Rattle.std.specs.Prelude.{ℕ, ◌≡◌, true, List, Some, Result}
 use Rattle.std.specs.List.{AllByRecursion}
 use Rattle.iox_command.specs.NegotiateBase.DescribeBase.Attributes.{Required}
@@ -26,12 +26,13 @@ use Rattle.iox_hub_machine.specs.TypedServices.{NewNodeIsStep, SubscriberIsStep}
 use Rattle.iox_hub_machine.specs.TypedSteps.{IsStepBy, hub_after_call}
 
 module _ {T U B D : Type 0} where
-  -- The hub after a call, with the factories that its program holds then; all else that the program holds is as it was.
+  -- The hub after a call, with the factories that its program then holds; all else that the program holds is as it was.
   abbrev pub opened_then : NumberedHub T U B D → FactoryTable → Hub T U B D → NumberedHub T U B D
   opened_then old table hub = record old { hub = hub; factories = record { made = table } }
 
--- A node of a hub asks for a service, as options ask, with lists of actions of other nodes before the accesses: those that the command
--- names, and what they publish has the form of a description. A new factory gets the next number. The parameters: the terms of the hub.
+-- A node of a hub asks for a service, as options ask, with lists of actions of other nodes before the storage operations: those that the
+-- command names, and what they publish has the form of a description. A new factory gets the next number. The parameters: the terms of the
+-- hub.
 module _ {T U B D : Type 0} (terms : Terms T U B D) where
   -- Creating a service with these attributes is a step of the machine.
   abbrev pub CreateIsStep : Type 0
@@ -43,7 +44,7 @@ module _ {T U B D : Type 0} (terms : Terms T U B D) where
       old.factories.made old.hub answer table hub
       → IsStepBy terms (command.Create node name named attributes steps) old (factory_reply (Some answer)) (opened_then old table hub)
 
-  -- The service is opened, if it has the required attributes.
+  -- Opening the service, if it has the required attributes, is a step of the machine.
   abbrev pub OpenIsStep : Type 0
   OpenIsStep = (node : ℕ) (name : List ℕ) (named : ServiceOptions) (required : Required) (steps : List StepBefore)
       (old : NumberedHub T U B D) (hub : Hub T U B D) (answer : Result ℕ Refusal) (table : FactoryTable)
@@ -53,7 +54,7 @@ module _ {T U B D : Type 0} (terms : Terms T U B D) where
       old.hub answer table hub
       → IsStepBy terms (command.Open node name named required steps) old (factory_reply (Some answer)) (opened_then old table hub)
 
-  -- The service is opened, or created with the required pairs if it doesn't exist.
+  -- Opening the service, or creating it with the required pairs if it doesn't exist, is a step of the machine.
   abbrev pub OpenOrCreateIsStep : Type 0
   OpenOrCreateIsStep = (node : ℕ) (name : List ℕ) (named : ServiceOptions) (required : Required) (steps : List StepBefore)
       (old : NumberedHub T U B D) (hub : Hub T U B D) (answer : Result ℕ Refusal) (table : FactoryTable)
@@ -63,8 +64,8 @@ module _ {T U B D : Type 0} (terms : Terms T U B D) where
       old.hub answer table hub
       → IsStepBy terms (command.OpenOrCreate node name named required steps) old (factory_reply (Some answer)) (opened_then old table hub)
 
-  -- Other nodes act on the service of a pattern and name: the actions are those that the command names, and what they publish has the form
-  -- of a description.
+  -- Actions of other nodes on the service of a pattern and name are a step of the machine: the actions are those that the command names,
+  -- and what they publish has the form of a description.
   abbrev pub ForeignIsStep : Type 0
   ForeignIsStep = (kind : MessagingPattern) (name : List ℕ) (steps : List Named) (old : NumberedHub T U B D) (hub : Hub T U B D)
       (answer : Result (Unit {0}) HubError)

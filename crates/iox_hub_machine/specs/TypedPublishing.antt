@@ -1,4 +1,4 @@
--- What each call of a typed publisher, of its loans and of its blocked sends is in the machine.
+-- Each call of a typed publisher, of its loans and of its blocked sends as a step of the machine.
 use Rattle.std.specs.Prelude.{ℕ, ◌≡◌, Bool, true, false, length, List, ◌∷◌, [], Option, Some, Result}
 use Rattle.iox_command.specs.DomainValues.declared.connection_failure.ConnectionFailure.{ConnectionFailure}
 use Rattle.iox_command.specs.DomainValues.declared.port_error.LoanError.{LoanError}
@@ -32,7 +32,7 @@ use Rattle.iox_hub_machine.specs.TypedSteps.{IsStepBy, having_lent, hub_after_ca
 -- Publishers and loans are of one kind: single values, or slices. The parameters: the kind, and the terms of the hub. The publisher or loan
 -- of each call has a number.
 module _ {T U B D : Type 0} (K : Type 0) (terms : Terms T U B D) where
-  -- A publisher loans so many values to be written; with one value, this is `loan_uninit`, too.
+  -- Loaning this many values to be written is a step; with one value, this is `loan_uninit`, too.
   abbrev pub LoanUninitIsStep : Type 0
   LoanUninitIsStep = (number length : ℕ) (lender : PortId) (old : NumberedHub T U B D) (hub : Hub T U B D)
       (answer : Result (Lent T U K Uninit) LoanError)
@@ -41,7 +41,7 @@ module _ {T U B D : Type 0} (K : Type 0) (terms : Terms T U B D) where
       → IsStepBy terms
       (command.LoanUninit number length) old (told_loan answer old.made) (hub_after_call old (having_lent answer old.made) hub)
 
-  -- A publisher without a blocked send loans so many written values, all with one default value.
+  -- Loaning this many written values, all with one default value, is a step, if the publisher has no blocked send.
   abbrev pub LoanIsStep : Type 0
   LoanIsStep = (number length : ℕ) (lender : PortId) (old : NumberedHub T U B D) (hub : Hub T U B D)
       (answer : Result (Lent T U K Written) LoanError)
@@ -50,7 +50,7 @@ module _ {T U B D : Type 0} (K : Type 0) (terms : Terms T U B D) where
       → LendsDefaults hub_ports with_hub_ports terms.is_default lender length old.hub answer hub
       → IsStepBy terms (command.Loan number length) old (told_loan answer old.made) (hub_after_call old (having_lent answer old.made) hub)
 
-  -- A publisher without a blocked send loans one written value: a default value.
+  -- Loaning one written value, a default value, is a step, if the publisher has no blocked send.
   abbrev pub LoanOfOneIsStep : Type 0
   LoanOfOneIsStep = (number : ℕ) (lender : PortId) (old : NumberedHub T U B D) (hub : Hub T U B D)
       (answer : Result (Lent T U K Written) LoanError)
@@ -59,7 +59,7 @@ module _ {T U B D : Type 0} (K : Type 0) (terms : Terms T U B D) where
       → LendsDefault hub_ports with_hub_ports terms.is_default lender old.hub answer hub
       → IsStepBy terms (command.Loan number 1) old (told_loan answer old.made) (hub_after_call old (having_lent answer old.made) hub)
 
-  -- Values of a publisher without a blocked send are loaned, written and sent.
+  -- Loaning, writing and sending values is a step, if the publisher has no blocked send.
   abbrev pub SendSliceIsStep : Type 0
   SendSliceIsStep = (number : ℕ) (lender : PortId) (values : List T) (old : NumberedHub T U B D) (hub : Hub T U B D)
       (answer : Result (Sent T U) SendError)
@@ -69,7 +69,7 @@ module _ {T U B D : Type 0} (K : Type 0) (terms : Terms T U B D) where
       old.hub answer hub
       → IsStepBy terms (command.Put number values) old (told_sent answer) (hub_after_call old old.made hub)
 
-  -- One value of a publisher without a blocked send is loaned, written and sent.
+  -- Loaning, writing and sending one value is a step, if the publisher has no blocked send.
   abbrev pub SendCopyIsStep : Type 0
   SendCopyIsStep = (number : ℕ) (lender : PortId) (value : T) (old : NumberedHub T U B D) (hub : Hub T U B D)
       (answer : Result (Sent T U) SendError)
@@ -79,7 +79,7 @@ module _ {T U B D : Type 0} (K : Type 0) (terms : Terms T U B D) where
       answer hub
       → IsStepBy terms (command.Put number (value ∷ [])) old (told_sent answer) (hub_after_call old old.made hub)
 
-  -- All values of a loan are written, if it has as many; otherwise the command is skipped, and nothing is written.
+  -- Writing all values of a loan is a step, if the loan has as many values; otherwise the command is skipped, and nothing is written.
   abbrev pub WriteIsStep : Type 0
   WriteIsStep = (number : ℕ) (made : MadeLoan) (values : List T) (old : NumberedHub T U B D) (hub : Hub T U B D)
       → value_at old.made.loans number ≡ Some made
@@ -87,7 +87,7 @@ module _ {T U B D : Type 0} (K : Type 0) (terms : Terms T U B D) where
       → IsStepBy terms
       (command.Fill number values) old (done_reply (is_filled hub_ports values (Some made) old.hub)) (hub_after_call old old.made hub)
 
-  -- The value of a loan is written, if it has exactly one; otherwise the command is skipped, and nothing is written.
+  -- Writing the value of a loan is a step, if the loan has exactly one; otherwise the command is skipped, and nothing is written.
   abbrev pub WriteOneIsStep : Type 0
   WriteOneIsStep = (number : ℕ) (made : MadeLoan) (value : T) (old : NumberedHub T U B D) (hub : Hub T U B D)
       → value_at old.made.loans number ≡ Some made
@@ -95,7 +95,7 @@ module _ {T U B D : Type 0} (K : Type 0) (terms : Terms T U B D) where
       → IsStepBy terms (command.Fill number (value ∷ [])) old (done_reply (is_filled hub_ports (value ∷ []) (Some made) old.hub))
       (hub_after_call old old.made hub)
 
-  -- Values are written one after the other into a loan of as many, as `write_from_fn` does.
+  -- Writing values one after the other into a loan that has as many, as `write_from_fn` does, is a step.
   abbrev pub WriteEachIsStep : Type 0
   WriteEachIsStep = (number : ℕ) (made : MadeLoan) (loan : Loan T U) (values : List T) (old : NumberedHub T U B D) (hub : Hub T U B D)
       → value_at old.made.loans number ≡ Some made
@@ -104,8 +104,8 @@ module _ {T U B D : Type 0} (K : Type 0) (terms : Terms T U B D) where
       → IsStepBy terms
       (command.Fill number values) old (done_reply (is_filled hub_ports values (Some made) old.hub)) (hub_after_call old old.made hub)
 
-  -- A value of a written loan changes at a place that the loan has: the new value was last behind the reference of `payload_mut` or
-  -- `value_mut`, when that reference ended.
+  -- Changing a value of a written loan, at a place that the loan has, is a step: the new value is the last one that was written through the
+  -- reference that `payload_mut` or `value_mut` returned.
   abbrev pub ChangeIsStep : Type 0
   ChangeIsStep = (number place : ℕ) (made : MadeLoan) (value : T) (old : NumberedHub T U B D) (hub : Hub T U B D)
       → value_at old.made.loans number ≡ Some made
@@ -113,14 +113,14 @@ module _ {T U B D : Type 0} (K : Type 0) (terms : Terms T U B D) where
       → hub ≡ loan_changed hub_ports with_hub_ports made.port made.slot (write_value place value) old.hub
       → IsStepBy terms (command.Set number place value) old (done_reply true) (hub_after_call old old.made hub)
 
-  -- A loan is dropped, and is consumed.
+  -- Dropping a loan, which is consumed, is a step. `drop_with` does this; it hands the loan back if it doesn't exist.
   abbrev pub DropIsStep : Type 0
   DropIsStep = (number : ℕ) (made : MadeLoan) (old : NumberedHub T U B D) (hub : Hub T U B D)
       → value_at old.made.loans number ≡ Some made
       → GivesUpLoan hub_ports with_hub_ports made.port made.slot old.hub hub
       → IsStepBy terms (command.Drop number) old (done_reply true) (hub_after_call old (without_loan number old.made) hub)
 
-  -- A loan is sent, and is consumed.
+  -- Sending a loan, which is consumed, is a step.
   abbrev pub SendIsStep : Type 0
   SendIsStep = (number : ℕ) (made : MadeLoan) (old : NumberedHub T U B D) (hub : Hub T U B D) (answer : Result (Sent T U) SendError)
       → value_at old.made.loans number ≡ Some made
@@ -128,7 +128,7 @@ module _ {T U B D : Type 0} (K : Type 0) (terms : Terms T U B D) where
       old.hub answer hub
       → IsStepBy terms (command.Send number) old (told_sent answer) (hub_after_call old (without_loan number old.made) hub)
 
-  -- A blocked send is tried again, with so many nanoseconds elapsed.
+  -- Trying a blocked send again, with this many nanoseconds elapsed, is a step.
   abbrev pub RetryIsStep : Type 0
   RetryIsStep = (number nanoseconds : ℕ) (sender : PortId) (old : NumberedHub T U B D) (hub : Hub T U B D)
       (answer : Result (Sent T U) SendError)
@@ -136,15 +136,15 @@ module _ {T U B D : Type 0} (K : Type 0) (terms : Terms T U B D) where
       → RetriesSend hub_ports with_hub_ports (publisher_may_decide terms.decides) sender nanoseconds old.hub answer hub
       → IsStepBy terms (command.Retry number nanoseconds) old (told_sent answer) (hub_after_call old old.made hub)
 
-  -- A blocked send is given up, and the reply says how many mailboxes took its message. `give_up` does this, and so does `drop_with`, whose
-  -- answer is None if no send is blocked.
+  -- Giving up a blocked send is a step; the reply says how many mailboxes took its message. `give_up` does this, and so does `drop_with`,
+  -- which hands the send back if it isn't blocked.
   abbrev pub GiveUpIsStep : Type 0
   GiveUpIsStep = (number : ℕ) (sender : PortId) (old : NumberedHub T U B D) (hub : Hub T U B D) (answer : Option ℕ)
       → port_under (value_at old.made.publishers number) ≡ Some sender
       → EndsSend hub_ports with_hub_ports sender old.hub answer hub
       → IsStepBy terms (command.GiveUp number) old (given_up_reply answer) (hub_after_call old old.made hub)
 
-  -- A publisher updates its connections.
+  -- Updating the connections of a publisher is a step.
   abbrev pub PublisherUpdateIsStep : Type 0
   PublisherUpdateIsStep = (number : ℕ) (follower : PortId) (old : NumberedHub T U B D) (hub : Hub T U B D)
       (answer : Result (Unit {0}) ConnectionFailure)
@@ -152,8 +152,8 @@ module _ {T U B D : Type 0} (K : Type 0) (terms : Terms T U B D) where
       → FollowsSubscribers hub_ports with_hub_ports (publisher_may_degrade terms.degrades) follower old.hub answer hub
       → IsStepBy terms (command.Update (port.Publisher number)) old (updated_reply (Some answer)) (hub_after_call old old.made hub)
 
-  -- A publisher is closed, and is consumed. `leave` does this, and so does `drop_with`, which hands the publisher back if it can't be
-  -- closed.
+  -- Closing a publisher, which is consumed, is a step. `leave` does this, and so does `drop_with`, which hands the publisher back if it
+  -- can't be closed.
   abbrev pub PublisherLeaveIsStep : Type 0
   PublisherLeaveIsStep = (number : ℕ) (leaver : PortId) (old : NumberedHub T U B D) (hub : Hub T U B D) (left : Bool)
       → port_under (value_at old.made.publishers number) ≡ Some leaver

@@ -32,7 +32,7 @@ use Rattle.iox_machine.specs.Table.{at}
 use Rattle.iox_negotiate_machine.specs.Laws.{HaveOwnHashes}
 use Rattle.iox_machine.specs.Choices.{as_named}
 
--- What a program holds by numbers can be used: each port is open, each loan is out, and each sample is held, even if its subscriber was
+-- What a program holds by numbers can be used: each port is open, each loan exists, and each sample is held, even if its subscriber was
 -- closed.
 pub record MayBeUsed {T U B D : Type 0} (hub : NumberedHub T U B D) : Type 0 where
   pub publishers : (number : ℕ) (port : PortId) → port_under (value_at hub.made.publishers number) ≡ Some port
@@ -80,8 +80,8 @@ module _ {T U B D : Type 0} (K : Type 0) (terms : Terms T U B D) where
       → payload_there sample hub ≡ Some values → length values < 2 ^ 63
       → WasSent old.hub.expired_connection_buffer asked answers state run subscriber values
 
-  -- The `payload` of a sample returns later what it returned when the sample was received. Between the two was a run of the machine, to a
-  -- state that the hub represents at last; and the sample still has its number.
+  -- The `payload` of a sample returns later what it returned when the sample was received. Between the two calls lies a run of the machine,
+  -- to the state that the hub then represents, and the sample still has its number.
   abbrev pub PayloadStays : Type 0
   PayloadStays = (buffer : ℕ) (asked : List (Command T)) (answers : List (Reply T)) (old mid later : State T)
       → Runs terms.types (as_named terms.is_default) buffer asked new_state answers old

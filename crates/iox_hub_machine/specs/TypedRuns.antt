@@ -30,7 +30,7 @@ module _ {T U B D : Type 0} (terms : Terms T U B D) where
   abbrev pub CallsBegin : Type 0
   CallsBegin = (names : List (List ℕ)) (config : HubConfig) (hub : NumberedHub T U B D) → IsNew config hub → HasCalled names [] [] hub
 
-  -- One call more, which is a step, adds one command. This holds if no two services of the names that are asked for share a hash, all
+  -- One more call, which is a step, adds one command. This holds if no two services of the names that are asked for share a hash, all
   -- commands and actions of other nodes are fewer than 2 ^ 56, and handlers that are made of fixed actions decide by these.
   abbrev pub CallsGoOn : Type 0
   CallsGoOn = (names : List (List ℕ)) (asked : List (Command T)) (answers : List (Reply T)) (one : Command T) (answer : Reply T)

@@ -1,4 +1,4 @@
--- What typed calls are in the machine that make a node, create a port, or close a factory.
+-- The typed calls that make a node, create a port, or close a factory, as steps of the machine.
 use Rattle.std.specs.Prelude.{ℕ, ◌≡◌, true, Option, None, Some, Result, Ok, Err}
 use Rattle.std.specs.Option.{unwrap_or}
 use Rattle.iox_command.specs.DomainValues.declared.create_error.PublisherCreateError.{PublisherCreateError}
@@ -72,15 +72,15 @@ factories_then (Err (why, Some factory)) number table = table
 
 -- The parameters: the terms of the hub.
 module _ {T U B D : Type 0} (terms : Terms T U B D) where
-  -- A node is made.
+  -- Making a node is a step.
   abbrev pub NewNodeIsStep : Type 0
   NewNodeIsStep = (old : NumberedHub T U B D) (hub : Hub T U B D) (answer : Result NodeHandle HubError)
       → answer ≡ Ok (record { hub = old.hub.table.id; number = one_more old.hub.nodes })
       → hub ≡ record old.hub { nodes = one_more old.hub.nodes }
       → IsStepBy terms command.Node old (told_node answer) (hub_after_call old old.made hub)
 
-  -- A publisher is created for a publish-subscribe factory with these options, and its handlers are made of the actions that the options
-  -- name. The override of its number of slots answers what the options name, or as many as it needs.
+  -- Creating a publisher for a publish-subscribe factory with these options is a step, if its handlers are made of the actions that the
+  -- options name, and the override of its number of slots answers what the options name, or as many as the publisher needs.
   abbrev pub PublisherIsStep : (ℕ → ℕ → Type 0) → Type 0
   PublisherIsStep overrides = (factory : ℕ) (opened : Opened) (options : PublisherOptions) (header : U)
       (old : NumberedHub T U B D) (hub : Hub T U B D) (answer : Result ℕ PublisherCreateError)
@@ -96,8 +96,8 @@ module _ {T U B D : Type 0} (terms : Terms T U B D) where
       → IsStepBy terms (command.Publisher factory options) old (told_publisher answer old.made)
       (hub_after_call old (having_publisher (domain_of_factory opened) answer old.made) hub)
 
-  -- A subscriber is created for a publish-subscribe factory with these options, and its handler is made of the action that the options
-  -- name.
+  -- Creating a subscriber for a publish-subscribe factory with these options is a step, if its handler is made of the action that the
+  -- options name.
   abbrev pub SubscriberIsStep : Type 0
   SubscriberIsStep = (factory : ℕ) (opened : Opened) (options : SubscriberOptions) (old : NumberedHub T U B D) (hub : Hub T U B D)
       (answer : Result ℕ SubscriberCreateError)
@@ -111,7 +111,7 @@ module _ {T U B D : Type 0} (terms : Terms T U B D) where
       → IsStepBy terms (command.Subscriber factory options) old (told_subscriber answer old.made)
       (hub_after_call old (having_subscriber (domain_of_factory opened) answer old.made) hub)
 
-  -- A factory, whose type depends on the pattern of its service, is closed, or handed back while it is in use.
+  -- Closing a factory, whose type depends on the pattern of its service, is a step, and so is handing it back while it is in use.
   abbrev pub CloseIsStep : Type 0 → Type 0
   CloseIsStep F = (number : ℕ) (made : MadeFactory) (factory : F) (old : NumberedHub T U B D) (hub : Hub T U B D)
       (answer : Result (Unit {0}) (CloseError × Option F))

@@ -1,5 +1,5 @@
--- What a typed call is in the machine: a step, by the command that asks for the same. A program holds its factories, ports, loans and
--- samples as values; here these have numbers, in the order in which they were made, as what commands make has.
+-- A typed call as a step of the machine, by the command that asks for the same. A program holds its factories, ports, loans and samples as
+-- values; here these have numbers, in the order in which they were made, like all that commands make.
 use Rattle.std.specs.Prelude.{ℕ, ◌+◌, ◌^◌, ◌<◌, ◌≡◌, List, Option, None, Some, Result, Ok, Err, option_map}
 use Rattle.std.specs.Global.{Vec}
 use Rattle.std.specs.Vec.{vec_items}

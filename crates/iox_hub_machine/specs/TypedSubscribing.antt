@@ -1,4 +1,4 @@
--- What each call of a typed subscriber and of its samples is in the machine.
+-- Each call of a typed subscriber and of its samples as a step of the machine.
 use Rattle.std.specs.Prelude.{ℕ, ◌≡◌, Bool, true, Option, Some, Result}
 use Rattle.std.specs.Global.{Vec}
 use Rattle.std.specs.Vec.{vec_items}
@@ -27,7 +27,7 @@ use Rattle.iox_hub_machine.specs.TypedSteps.{IsStepBy, IsToldReceived, having_re
 -- Subscribers and samples are of one kind: single values, or slices. The parameters: the kind, and the terms of the hub. The subscriber or
 -- sample of each call has a number.
 module _ {T U B D : Type 0} (K : Type 0) (terms : Terms T U B D) where
-  -- A subscriber receives; the reply to a received sample has the values that its `payload` returns then.
+  -- Receiving is a step; the reply to a received sample has the values that its `payload` then returns.
   abbrev pub ReceiveIsStep : Type 0
   ReceiveIsStep = (number : ℕ) (receiver : PortId) (old : NumberedHub T U B D) (hub : Hub T U B D)
       (answer : Result (Option (Sample T U K)) ReceiveError) (told : Reply T)
@@ -36,14 +36,14 @@ module _ {T U B D : Type 0} (K : Type 0) (terms : Terms T U B D) where
       → IsToldReceived answer old.made hub told
       → IsStepBy terms (command.Receive number) old told (hub_after_call old (having_received answer old.made) hub)
 
-  -- The reply says whether some connection of a subscriber has data.
+  -- Reporting whether some connection of a subscriber has data is a step.
   abbrev pub HasIsStep : Type 0
   HasIsStep = (number : ℕ) (receiver : PortId) (old : NumberedHub T U B D) (hub : Hub T U B D) (answer : Result Bool ConnectionFailure)
       → value_at old.made.subscribers number ≡ Some receiver
       → TellsSamples hub_ports with_hub_ports (subscriber_may_degrade terms.reader_degrades) receiver old.hub answer hub
       → IsStepBy terms (command.Has number) old (has_reply (Some answer)) (hub_after_call old old.made hub)
 
-  -- A subscriber updates its connections.
+  -- Updating the connections of a subscriber is a step.
   abbrev pub SubscriberUpdateIsStep : Type 0
   SubscriberUpdateIsStep = (number : ℕ) (follower : PortId) (old : NumberedHub T U B D) (hub : Hub T U B D)
       (answer : Result (Unit {0}) ConnectionFailure)
@@ -51,8 +51,8 @@ module _ {T U B D : Type 0} (K : Type 0) (terms : Terms T U B D) where
       → FollowsPublishers hub_ports with_hub_ports (subscriber_may_degrade terms.reader_degrades) follower old.hub answer hub
       → IsStepBy terms (command.Update (port.Subscriber number)) old (updated_reply (Some answer)) (hub_after_call old old.made hub)
 
-  -- A subscriber is closed, and is consumed. `leave` does this, and so does `drop_with`, which hands the subscriber back if it can't be
-  -- closed.
+  -- Closing a subscriber, which is consumed, is a step. `leave` does this, and so does `drop_with`, which hands the subscriber back if it
+  -- can't be closed.
   abbrev pub SubscriberLeaveIsStep : Type 0
   SubscriberLeaveIsStep = (number : ℕ) (leaver : PortId) (old : NumberedHub T U B D) (hub : Hub T U B D) (left : Bool)
       → value_at old.made.subscribers number ≡ Some leaver
@@ -60,14 +60,15 @@ module _ {T U B D : Type 0} (K : Type 0) (terms : Terms T U B D) where
       → IsStepBy terms (command.Leave (port.Subscriber number)) old (done_reply left)
       (hub_after_call old (removed_if left (without_subscriber number) old.made) hub)
 
-  -- A sample is read: the values are those that its `payload` returns. Nothing changes.
+  -- Reading a sample is a step, which changes nothing: the values are those that its `payload` returns.
   abbrev pub PayloadIsStep : Type 0
   PayloadIsStep = (number : ℕ) (made : MadeSample) (old : NumberedHub T U B D) (values : Vec T)
       → value_at old.made.samples number ≡ Some made
       → values_under hub_ports (Some made) old.hub ≡ Some (vec_items values)
       → IsStepBy terms (command.Read number) old (reply.Values values) old
 
-  -- A sample is released, and is consumed. `release` does this, and so does `drop_with`.
+  -- Releasing a sample, which is consumed, is a step. `release` does this, and so does `drop_with`, which hands the sample back if it isn't
+  -- held.
   abbrev pub ReleaseIsStep : Type 0
   ReleaseIsStep = (number : ℕ) (made : MadeSample) (old : NumberedHub T U B D) (hub : Hub T U B D) (released : Bool)
       → value_at old.made.samples number ≡ Some made

@@ -19,13 +19,13 @@ use Rattle.iox_hub_commands.specs.CommandSteps.{publisher_may_decide, publisher_
 use Rattle.iox_hub_commands.specs.Grown.{AnyDecision, AnySlots}
 
 module _ {T U B D : Type 0} where
-  -- The header of each message in use of a domain of a hub is, by the domain's own numbers, what was recorded as its send began. Nothing is
-  -- stated of a domain that isn't in the hub.
+  -- The header of each message in use of a domain of a hub is, by the domain's own numbers, what was recorded when its send began. Nothing
+  -- is stated of a domain that isn't in the hub.
   abbrev pub TellInHub : List (SentHeader T U) → DomainId → Hub T U B D → Type 0
   TellInHub sent id hub = (ports : ServicePorts T U) → hub_ports id hub ≡ Some ports → TellAsSent own_numbers sent ports
 
-  -- If a call changes the ports of a domain in the hub, what it records as it begins a send, if it does, is added there; the override and
-  -- handlers answer as they may.
+  -- If a call changes the ports of a domain in the hub and begins a send, what it records of this send is added to what is recorded in this
+  -- domain. The override and the handlers may give any answer that they allow.
   abbrev pub AddsTold : (ℕ → ℕ → Type 0) → (DegradationInfo → DegradationAction → Type 0)
       → (BackpressureInfo → BackpressureDecision → Type 0) → DomainId → Hub T U B D → Type 0
   AddsTold overrides may decide id hub = (call : PortCall T U) (ports after : ServicePorts T U) (sent : List (SentHeader T U))
@@ -33,13 +33,13 @@ module _ {T U B D : Type 0} where
       → TellInHub (sent ++ headed_as_sent own_numbers call ports) id (with_hub_ports id after hub)
 
 -- What is recorded in the domains of a hub. A typed call of a port, a loan or a sample is one or more calls of the ports of its domain, as
--- its contract says of the hub as its home. It may also change the handlers of a port. Given is what may be answered by an override, by
--- handlers of a publisher, and by the handler of a subscriber.
+-- its contract says of the hub as its home. It may also change the handlers of a port. The arguments say what an override, the handlers of
+-- a publisher, and the handler of a subscriber may answer.
 pub record HubTells (T U : Type 0) {O B D : Type 0} (overrides : O → ℕ → ℕ → Type 0)
     (degrades : B → DegradationCause → DegradationInfo → DegradationAction → Type 0)
     (decides : B → BackpressureInfo → BackpressureDecision → Type 0)
     (reader_degrades : D → DegradationCause → DegradationInfo → DegradationAction → Type 0) : Type 0 where
-  -- Before any port was created nothing is in use.
+  -- Before any port was created, no message is in use.
   pub begins : (id : DomainId) (hub : Hub T U B D) (service : ℕ) (sizes : ServiceSizes)
       → hub_ports id hub ≡ Some (no_ports service sizes) → TellInHub [] id hub
   -- A call of a publisher adds what it records, and so does a call of a subscriber: the port's handlers answer.

@@ -1,4 +1,4 @@
-//! A hub does what a machine does: the definitions of `iox_hub_commands` related to those of `iox_machine`.
+//! A hub does what a machine does: theorems that relate the definitions of `iox_hub_commands` to those of `iox_machine`.
 //!
 //! The functions here do nothing: the contract of each is a theorem about the definitions. `PortsStandFor` says which state of a machine
 //! the ports of a hub represent, with the numbered loans and samples, and `HubStandsFor` which state a whole hub represents. Each theorem
@@ -40,9 +40,8 @@ use iox_describe_base::ZeroCopySend;
 use iox_domain_values::{Decides, DegradationHandler, Degrades, Handlers};
 use iox_hub_commands::{FixedDegradation, FixedHandlers, PublisherHandlers, SubscriberHandler};
 
-/// This step of the hub is one of the machine:
-/// writing a value at a place of a numbered loan, if the loan is written and has this place. Otherwise nothing happens, nor if the number
-/// has no loan.
+/// Writing a value at a place of a numbered loan is a step of the machine. Nothing happens if the loan isn't written or doesn't have this
+/// place, or if the number has no loan.
 pub fn setting_a_value_is_simulated<T: Default, U: Default, B: Decides + Degrades, D: Degrades>()
     ensures { (handed : Handed B D) → SetIsSimulated (chosen_by T.is_default (λ handlers. B.decides handlers)
         (λ handlers. B.degrades handlers) (λ handler. D.degrades handler) handed) U.is_default (λ handlers. B.degrades handlers)
@@ -50,8 +49,8 @@ pub fn setting_a_value_is_simulated<T: Default, U: Default, B: Decides + Degrade
         (λ handler. D.degrades handler) }
 {}
 
-/// This step of the hub is one of the machine:
-/// writing all values of a numbered loan at once, if it has as many. Otherwise nothing happens, nor if the number has no loan.
+/// Writing all values of a numbered loan at once is a step of the machine. Nothing happens if the loan has another number of values, or if
+/// the number has no loan.
 pub fn filling_a_loan_is_simulated<T: Default, U: Default, B: Decides + Degrades, D: Degrades>()
     ensures { (handed : Handed B D) → FillIsSimulated (chosen_by T.is_default (λ handlers. B.decides handlers)
         (λ handlers. B.degrades handlers) (λ handler. D.degrades handler) handed) U.is_default (λ handlers. B.degrades handlers)
@@ -59,8 +58,7 @@ pub fn filling_a_loan_is_simulated<T: Default, U: Default, B: Decides + Degrades
         (λ handler. D.degrades handler) }
 {}
 
-/// This step of the hub is one of the machine:
-/// reading a numbered sample, by which nothing changes. Nothing is read if the number has no sample.
+/// Reading a numbered sample is a step of the machine, and changes nothing. Nothing is read if the number has no sample.
 pub fn reading_is_simulated<T: Default, U: Default, B: Decides + Degrades, D: Degrades>()
     ensures { (handed : Handed B D) → ReadIsSimulated (chosen_by T.is_default (λ handlers. B.decides handlers)
         (λ handlers. B.degrades handlers) (λ handler. D.degrades handler) handed) U.is_default (λ handlers. B.degrades handlers)
@@ -68,8 +66,8 @@ pub fn reading_is_simulated<T: Default, U: Default, B: Decides + Degrades, D: De
         (λ handler. D.degrades handler) }
 {}
 
-/// Reporting the sequence number of the message of a numbered sample, if its service numbers messages. Nothing changes; nothing is reported
-/// if the number has no sample.
+/// Reporting the sequence number of a numbered sample's message, if its service numbers messages, is a step of the machine, and changes
+/// nothing. Nothing is reported if the number has no sample.
 pub fn telling_a_sequence_number_is_simulated<
     T: Default,
     U: Default,
@@ -82,9 +80,8 @@ pub fn telling_a_sequence_number_is_simulated<
         (λ handler. D.degrades handler) }
 {}
 
-/// This step of the hub is one of the machine:
-/// dropping a numbered loan, whose number names nothing any longer. Nothing happens if the number has no loan. The domains of the hub have
-/// grown by calls of ports, as `NumberedHub::new` and `NumberedHub::step` say of each hub.
+/// Dropping a numbered loan, whose number then names nothing any longer, is a step of the machine. Nothing happens if the number has no
+/// loan. Premise: the domains of the hub have grown by calls of ports, as `NumberedHub::new` and `NumberedHub::step` say of each hub.
 pub fn dropping_a_loan_is_simulated<T: Default, U: Default, B: Decides + Degrades, D: Degrades>()
     ensures { (handed : Handed B D) → DropIsSimulated (chosen_by T.is_default (λ handlers. B.decides handlers)
         (λ handlers. B.degrades handlers) (λ handler. D.degrades handler) handed) U.is_default (λ handlers. B.degrades handlers)
@@ -92,9 +89,8 @@ pub fn dropping_a_loan_is_simulated<T: Default, U: Default, B: Decides + Degrade
         (λ handler. D.degrades handler) }
 {}
 
-/// This step of the hub is one of the machine:
-/// releasing a numbered sample, whose number names nothing any longer. Nothing happens if the number has no sample. The domains of the hub
-/// have grown by calls of ports, as `NumberedHub::new` and `NumberedHub::step` say of each hub.
+/// Releasing a numbered sample, whose number then names nothing any longer, is a step of the machine. Nothing happens if the number has no
+/// sample. Premise: the domains of the hub have grown by calls of ports, as `NumberedHub::new` and `NumberedHub::step` say of each hub.
 pub fn releasing_a_sample_is_simulated<T: Default, U: Default, B: Decides + Degrades, D: Degrades>()
     ensures { (handed : Handed B D) → ReleaseIsSimulated (chosen_by T.is_default (λ handlers. B.decides handlers)
         (λ handlers. B.degrades handlers) (λ handler. D.degrades handler) handed) U.is_default (λ handlers. B.degrades handlers)
@@ -102,9 +98,8 @@ pub fn releasing_a_sample_is_simulated<T: Default, U: Default, B: Decides + Degr
         (λ handler. D.degrades handler) }
 {}
 
-/// This step of the hub is one of the machine:
-/// giving up a blocked send of a numbered publisher; the reply says how many mailboxes took its message. Nothing happens if no send is
-/// blocked, or if the number has no publisher.
+/// Giving up the blocked send of a numbered publisher is a step of the machine; the reply says how many mailboxes took its message. Nothing
+/// happens if no send is blocked, or if the number has no publisher.
 pub fn giving_up_a_send_is_simulated<T: Default, U: Default, B: Decides + Degrades, D: Degrades>()
     ensures { (handed : Handed B D) → GiveUpIsSimulated (chosen_by T.is_default (λ handlers. B.decides handlers)
         (λ handlers. B.degrades handlers) (λ handler. D.degrades handler) handed) U.is_default (λ handlers. B.degrades handlers)
@@ -112,8 +107,9 @@ pub fn giving_up_a_send_is_simulated<T: Default, U: Default, B: Decides + Degrad
         (λ handler. D.degrades handler) }
 {}
 
-/// Trying a blocked send of a numbered publisher again. Nothing happens if no send is blocked, or if the number has no publisher. The
-/// domains of the hub have grown by calls of ports, as `NumberedHub::new` and `NumberedHub::step` say of each hub.
+/// Trying the blocked send of a numbered publisher again is a step of the machine. Nothing happens if no send is blocked, or if the number
+/// has no publisher. Premise: the domains of the hub have grown by calls of ports, as `NumberedHub::new` and `NumberedHub::step` say of
+/// each hub.
 pub fn retrying_a_send_is_simulated<T: Default, U: Default, B: Decides + Degrades, D: Degrades>()
     ensures { (handed : Handed B D) → RetryIsSimulated (chosen_by T.is_default (λ handlers. B.decides handlers)
         (λ handlers. B.degrades handlers) (λ handler. D.degrades handler) handed) U.is_default (λ handlers. B.degrades handlers)
@@ -121,10 +117,10 @@ pub fn retrying_a_send_is_simulated<T: Default, U: Default, B: Decides + Degrade
         (λ handler. D.degrades handler) }
 {}
 
-/// This step of the hub is one of the machine:
-/// sending a numbered loan, whose number names nothing any longer, if the loan is written and no send of its publisher is blocked. Nothing
-/// happens otherwise, nor if the number has no loan. The publisher updates its connections first, if the list of subscribers changed. The
-/// domains of the hub have grown by calls of ports, as `NumberedHub::new` and `NumberedHub::step` say of each hub.
+/// Sending a numbered loan, whose number then names nothing any longer, is a step of the machine, if the loan is written and no send of its
+/// publisher is blocked. Nothing happens otherwise, nor if the number has no loan. The publisher updates its connections first, if the list
+/// of subscribers changed. Premise: the domains of the hub have grown by calls of ports, as `NumberedHub::new` and `NumberedHub::step` say
+/// of each hub.
 pub fn sending_a_loan_is_simulated<T: Default, U: Default, B: Decides + Degrades, D: Degrades>()
     ensures { (handed : Handed B D) → SendIsSimulated (chosen_by T.is_default (λ handlers. B.decides handlers)
         (λ handlers. B.degrades handlers) (λ handler. D.degrades handler) handed) U.is_default (λ handlers. B.degrades handlers)
@@ -132,10 +128,9 @@ pub fn sending_a_loan_is_simulated<T: Default, U: Default, B: Decides + Degrades
         (λ handler. D.degrades handler) }
 {}
 
-/// This step of the hub is one of the machine:
-/// loaning values of a numbered publisher, writing and sending them at once, or the refusal. Nothing happens if a send of it is blocked, or
-/// if the number has no publisher. The domains of the hub have grown by calls of ports, as `NumberedHub::new` and `NumberedHub::step` say
-/// of each hub.
+/// Loaning values of a numbered publisher, writing and sending them at once is a step of the machine, and so is its refusal. Nothing
+/// happens if a send of the publisher is blocked, or if the number has no publisher. Premise: the domains of the hub have grown by calls of
+/// ports, as `NumberedHub::new` and `NumberedHub::step` say of each hub.
 pub fn putting_is_simulated<T: Default, U: Default, B: Decides + Degrades, D: Degrades>()
     ensures { (handed : Handed B D) → PutIsSimulated (chosen_by T.is_default (λ handlers. B.decides handlers)
         (λ handlers. B.degrades handlers) (λ handler. D.degrades handler) handed) U.is_default (λ handlers. B.degrades handlers)
@@ -143,10 +138,10 @@ pub fn putting_is_simulated<T: Default, U: Default, B: Decides + Degrades, D: De
         (λ handler. D.degrades handler) }
 {}
 
-/// This step of the hub is one of the machine:
-/// updating the connections of a numbered publisher: those to closed subscribers end, and each listed subscriber gets one, with as much of
-/// the history as may wait, unless memory runs out for it. The command is skipped if a send of the publisher is blocked, and if the number
-/// has no publisher. The domains of the hub have grown by calls of ports, as `NumberedHub::new` and `NumberedHub::step` say of each hub.
+/// Updating the connections of a numbered publisher is a step of the machine: those to closed subscribers end, and each listed subscriber
+/// gets one, with as much of the history as may wait, unless memory runs out for it. The command is skipped if a send of the publisher is
+/// blocked, and if the number has no publisher. Premise: the domains of the hub have grown by calls of ports, as `NumberedHub::new` and
+/// `NumberedHub::step` say of each hub.
 pub fn updating_a_publisher_is_simulated<
     T: Default,
     U: Default,
@@ -159,10 +154,9 @@ pub fn updating_a_publisher_is_simulated<
         (λ handler. D.degrades handler) }
 {}
 
-/// This step of the hub is one of the machine:
-/// updating the connections of a numbered subscriber: those to closed publishers end or expire, and it is connected to the listed ones, or
-/// the connection fails. The command is skipped if the number has no subscriber. The domains of the hub have grown by calls of ports, as
-/// `NumberedHub::new` and `NumberedHub::step` say of each hub.
+/// Updating the connections of a numbered subscriber is a step of the machine: those to closed publishers end or expire, and the subscriber
+/// is connected to the listed ones, or the connection fails. The command is skipped if the number has no subscriber. Premise: the domains
+/// of the hub have grown by calls of ports, as `NumberedHub::new` and `NumberedHub::step` say of each hub.
 pub fn updating_a_subscriber_is_simulated<
     T: Default,
     U: Default,
@@ -175,9 +169,9 @@ pub fn updating_a_subscriber_is_simulated<
         (λ handler. D.degrades handler) }
 {}
 
-/// Reporting whether some connection of a numbered subscriber has data, after an update of its connections. The command is skipped if the
-/// number has no subscriber. The domains of the hub have grown by calls of ports, as `NumberedHub::new` and `NumberedHub::step` say of each
-/// hub.
+/// Reporting whether some connection of a numbered subscriber has data, after an update of its connections, is a step of the machine. The
+/// command is skipped if the number has no subscriber. Premise: the domains of the hub have grown by calls of ports, as `NumberedHub::new`
+/// and `NumberedHub::step` say of each hub.
 pub fn asking_for_samples_is_simulated<T: Default, U: Default, B: Decides + Degrades, D: Degrades>()
     ensures { (handed : Handed B D) → HasIsSimulated (chosen_by T.is_default (λ handlers. B.decides handlers)
         (λ handlers. B.degrades handlers) (λ handler. D.degrades handler) handed) U.is_default (λ handlers. B.degrades handlers)
@@ -185,12 +179,11 @@ pub fn asking_for_samples_is_simulated<T: Default, U: Default, B: Decides + Degr
         (λ handler. D.degrades handler) }
 {}
 
-/// This step of the hub is one of the machine:
-/// receiving by a numbered subscriber, after an update of its connections: a received sample gets the next number, and the reply has its
-/// values; otherwise the reply says why there is none. The command is skipped if the number has no subscriber. The domains of the hub have
-/// grown by calls of ports, and its numbers rise, as `NumberedHub::new` and `NumberedHub::run` say of each hub; and the next number of a
-/// sample is below 2 ^ 64. From these it follows that a subscriber holds fewer than 2 ^ 64 - 1 samples, and that the next number names
-/// nothing.
+/// Receiving by a numbered subscriber, after an update of its connections, is a step of the machine: a received sample gets the next
+/// number, and the reply has its values; otherwise the reply says why there is none. The command is skipped if the number has no
+/// subscriber. Premises: the domains of the hub have grown by calls of ports, and its numbers rise, as `NumberedHub::new` and
+/// `NumberedHub::run` say of each hub; and the next number of a sample is less than 2 ^ 64. From these it follows that a subscriber holds
+/// fewer than 2 ^ 64 - 1 samples, and that the next number names nothing.
 pub fn receiving_is_simulated<T: Default, U: Default, B: Decides + Degrades, D: Degrades>()
     ensures { (handed : Handed B D) → ReceiveIsSimulated (chosen_by T.is_default (λ handlers. B.decides handlers)
         (λ handlers. B.degrades handlers) (λ handler. D.degrades handler) handed) U.is_default (λ handlers. B.degrades handlers)
@@ -211,8 +204,7 @@ pub fn new_hub_stands<T: Default, U, B: PublisherHandlers, D: SubscriberHandler>
         (λ handlers. B.decides handlers) (λ handler. D.degrades handler) }
 {}
 
-/// This step of the hub is one of the machine:
-/// making a node. Fewer than 2 ^ 64 - 1 nodes must have been made.
+/// Making a node is a step of the machine. Fewer than 2 ^ 64 - 1 nodes must have been made.
 pub fn making_a_node_matches<
     T: ZeroCopySend + Default,
     U: ZeroCopySend + Default,
@@ -224,9 +216,9 @@ pub fn making_a_node_matches<
         (chosen_by T.is_default (λ handlers. B.decides handlers) (λ handlers. B.degrades handlers) (λ handler. D.degrades handler) handed) }
 {}
 
-/// Actions of other nodes under a name that is asked for: they do to the table of the hub what the machine says, and all else of the hub
-/// represents what it did. No two services of the names that are asked for may share a hash, and there must be numbers left for as many
-/// locks.
+/// Actions of other nodes under a name that is asked for are a step of the machine: they do to the hub's table what the machine says, and
+/// the rest of the hub represents the same as before. No two services of the names that are asked for may share a hash, and numbers must be
+/// left for as many locks as there are actions.
 pub fn steps_of_others_match<
     T: ZeroCopySend + Default,
     U: ZeroCopySend + Default,
@@ -260,20 +252,19 @@ pub fn fixed_actions_are_answered()
     ensures subscriber { AnswersAsFixed ⟦<FixedDegradation as SubscriberHandler>⟧.fixed ⟦<FixedDegradation as Degrades>⟧.degrades }
 {}
 
-/// `Handlers` and `DegradationHandler`, which could decide otherwise, decide by fixed actions if they are made of these, as they are for
-/// each port that a command creates. Nothing is stated of the arguments but their types.
+/// `Handlers` and `DegradationHandler`, which could decide otherwise, decide by fixed actions if they are made of fixed actions, as they
+/// are for each port that a command creates. Of the arguments only the types matter.
 pub fn handlers_of_actions_are_answered(_handlers: &Handlers, _handler: &DegradationHandler)
     ensures publisher { DecidesAsFixed ⟦<Handlers as PublisherHandlers>⟧.fixed ⟦<Handlers as Degrades>⟧.degrades
         ⟦<Handlers as Decides>⟧.decides }
     ensures subscriber { AnswersAsFixed ⟦<DegradationHandler as SubscriberHandler>⟧.fixed ⟦<DegradationHandler as Degrades>⟧.degrades }
 {}
 
-/// This step of the hub is one of the machine:
-/// creating a subscriber by a numbered factory of the hub: it gets the next number; or it is refused if the machine's is; or the command is
-/// skipped if the hub has no factory with the number, or one of another pattern. Whatever its handler may answer, handed in or made of the
-/// named action, may be chosen for the subscriber with the number that it gets. The domains of the hub have grown by calls of ports, and
-/// each of its services has one agreement, as `NumberedHub::new` and `NumberedHub::step` say of each hub; and one port more of each service
-/// can be counted, and one change more of each list of ports.
+/// Creating a subscriber by a numbered factory of the hub is a step of the machine: the subscriber gets the next number; or it is refused
+/// if the machine's is; or the command is skipped if the hub has no factory with the number, or one of another pattern. Premises: whatever
+/// the subscriber's handler may answer, handed in or made of the named action, may be chosen for the subscriber with the number that it
+/// gets; the domains of the hub have grown by calls of ports, and each of its services has one agreement, as `NumberedHub::new` and
+/// `NumberedHub::step` say of each hub; and each service can count one more port, and one more change of each of its port lists.
 pub fn coming_of_a_subscriber_is_followed<
     T: ZeroCopySend + Default,
     U: ZeroCopySend + Default,
@@ -287,13 +278,12 @@ pub fn coming_of_a_subscriber_is_followed<
         (chosen_by T.is_default (λ handlers. B.decides handlers) (λ handlers. B.degrades handlers) (λ handler. D.degrades handler) handed) }
 {}
 
-/// This step of the hub is one of the machine:
-/// creating a publisher by a numbered factory of the hub: it gets the next number; or it is refused if the machine's is; or the command is
-/// skipped if the hub has no factory with the number, or one of another pattern. It gets the slots that the command names, or those that it
-/// needs. Whatever its handlers may decide and answer, handed in or made of what the command names, may be chosen for the publisher with
-/// the number that it gets. The domains of the hub have grown by calls of ports, and each of its services has one agreement, as
-/// `NumberedHub::new` and `NumberedHub::step` say of each hub; and one port more of each service can be counted, and one change more of
-/// each list of ports.
+/// Creating a publisher by a numbered factory of the hub is a step of the machine: the publisher gets the next number; or it is refused if
+/// the machine's is; or the command is skipped if the hub has no factory with the number, or one of another pattern. The publisher gets the
+/// slots that the command names, or those that it needs. Premises: its handlers are handed in, or made of what the command names, and the
+/// machine may choose whatever they may decide and answer for the publisher with the number that it gets; the domains of the hub have grown
+/// by calls of ports, and each of its services has one agreement, as `NumberedHub::new` and `NumberedHub::step` say of each hub; and each
+/// service can count one more port, and one more change of each of its port lists.
 pub fn coming_of_a_publisher_is_followed<
     T: ZeroCopySend + Default,
     U: ZeroCopySend + Default,
@@ -307,10 +297,9 @@ pub fn coming_of_a_publisher_is_followed<
         (chosen_by T.is_default (λ handlers. B.decides handlers) (λ handlers. B.degrades handlers) (λ handler. D.degrades handler) handed) }
 {}
 
-/// This step of the hub is one of the machine:
-/// loaning so many values of a numbered publisher, none of which is written: the loan gets the next number, or is refused. Nothing happens
-/// if a send of the publisher is blocked, or if the number has no publisher. The domains of the hub have grown by calls of ports, and its
-/// numbers rise, as `NumberedHub::new` and `NumberedHub::run` say of each hub.
+/// Loaning this many values of a numbered publisher, none of which is written, is a step of the machine: the loan gets the next number, or
+/// is refused. Nothing happens if a send of the publisher is blocked, or if the number has no publisher. Premise: the domains of the hub
+/// have grown by calls of ports, and its numbers rise, as `NumberedHub::new` and `NumberedHub::run` say of each hub.
 pub fn lending_uninit_is_simulated<T: Default, U: Default, B: Decides + Degrades, D: Degrades>()
     ensures { (handed : Handed B D) → LendUninitIsSimulated (chosen_by T.is_default (λ handlers. B.decides handlers)
         (λ handlers. B.degrades handlers) (λ handler. D.degrades handler) handed) U.is_default (λ handlers. B.degrades handlers)
@@ -318,10 +307,9 @@ pub fn lending_uninit_is_simulated<T: Default, U: Default, B: Decides + Degrades
         (λ handler. D.degrades handler) }
 {}
 
-/// This step of the hub is one of the machine:
-/// loaning so many values of a numbered publisher, each written with a default value: the loan gets the next number, or is refused. Nothing
-/// happens if a send of the publisher is blocked, or if the number has no publisher. The domains of the hub have grown by calls of ports,
-/// and its numbers rise, as `NumberedHub::new` and `NumberedHub::run` say of each hub.
+/// Loaning this many values of a numbered publisher, each written with a default value, is a step of the machine: the loan gets the next
+/// number, or is refused. Nothing happens if a send of the publisher is blocked, or if the number has no publisher. Premise: the domains of
+/// the hub have grown by calls of ports, and its numbers rise, as `NumberedHub::new` and `NumberedHub::run` say of each hub.
 pub fn lending_is_simulated<T: Default, U: Default, B: Decides + Degrades, D: Degrades>()
     ensures { (handed : Handed B D) → LendIsSimulated (chosen_by T.is_default (λ handlers. B.decides handlers)
         (λ handlers. B.degrades handlers) (λ handler. D.degrades handler) handed) U.is_default (λ handlers. B.degrades handlers)
@@ -329,10 +317,9 @@ pub fn lending_is_simulated<T: Default, U: Default, B: Decides + Degrades, D: De
         (λ handler. D.degrades handler) }
 {}
 
-/// This step of the hub is one of the machine:
-/// closing a numbered publisher, whose number names nothing any longer. Nothing happens if a send of it is blocked, or if the number has no
-/// publisher. The domains of the hub have grown by calls of ports, and its numbers rise, as `NumberedHub::new` and `NumberedHub::run` say
-/// of each hub; and the lists of ports of each domain changed fewer than 2^64 - 1 times.
+/// Closing a numbered publisher, whose number then names nothing any longer, is a step of the machine. Nothing happens if a send of the
+/// publisher is blocked, or if the number has no publisher. Premises: the domains of the hub have grown by calls of ports, and its numbers
+/// rise, as `NumberedHub::new` and `NumberedHub::run` say of each hub; and the port lists of each domain changed fewer than 2^64 - 1 times.
 pub fn leaving_of_a_publisher_is_simulated<
     T: Default,
     U: Default,
@@ -345,10 +332,9 @@ pub fn leaving_of_a_publisher_is_simulated<
         (λ handler. D.degrades handler) }
 {}
 
-/// This step of the hub is one of the machine:
-/// closing a numbered subscriber, whose number names nothing any longer. Nothing happens if the number has no subscriber. The domains of
-/// the hub have grown by calls of ports, and its numbers rise, as `NumberedHub::new` and `NumberedHub::run` say of each hub; and the lists
-/// of ports of each domain changed fewer than 2^64 - 1 times.
+/// Closing a numbered subscriber, whose number then names nothing any longer, is a step of the machine. Nothing happens if the number has
+/// no subscriber. Premises: the domains of the hub have grown by calls of ports, and its numbers rise, as `NumberedHub::new` and
+/// `NumberedHub::run` say of each hub; and the port lists of each domain changed fewer than 2^64 - 1 times.
 pub fn leaving_of_a_subscriber_is_simulated<
     T: Default,
     U: Default,
@@ -361,12 +347,11 @@ pub fn leaving_of_a_subscriber_is_simulated<
         (λ handler. D.degrades handler) }
 {}
 
-/// This step of the hub is one of the machine:
-/// creating a service under a name that is asked for, as options ask and with these attributes: the node is refused, or gets a factory,
-/// exactly as the machine says, and the hub represents the machine's state then; a publish-subscribe service that is created has a new
-/// domain. No two services of the names that are asked for may share a hash; the numbers of factories must rise, as `NumberedHub::new` and
-/// `NumberedHub::run` say of each hub, and fewer than 2 ^ 64 - 2 of them may have been given; and there must be numbers left for as many
-/// locks as other nodes may take meanwhile, and one more.
+/// Creating a service under a name that is asked for, as options ask and with these attributes, is a step of the machine: the node is
+/// refused, or gets a factory, exactly as the machine says, and the hub then represents the machine's state; a publish-subscribe service
+/// that is created has a new domain. Premises: no two services of the names that are asked for share a hash; the numbers of factories rise,
+/// as `NumberedHub::new` and `NumberedHub::run` say of each hub, and fewer than 2 ^ 64 - 2 of them were given; and numbers are left for as
+/// many locks as other nodes may take meanwhile, and for one more.
 pub fn creating_matches<
     T: ZeroCopySend + Default,
     U: ZeroCopySend + Default,
@@ -379,11 +364,11 @@ pub fn creating_matches<
         (chosen_by T.is_default (λ handlers. B.decides handlers) (λ handlers. B.degrades handlers) (λ handler. D.degrades handler) handed) }
 {}
 
-/// This step of the hub is one of the machine:
-/// opening a service by a name that is asked for, if it meets what is asked: the hub replies as the machine may, and represents the
-/// machine's state then. This holds if the service is refused, if memory runs out, and if it is opened, whether or not the hub had it open
-/// before. No two services of the names that are asked for may share a hash; the numbers of factories must rise, as `NumberedHub::new` and
-/// `NumberedHub::run` say of each hub, one must be left for the new one, and numbers for as many locks as there are actions of other nodes.
+/// Opening a service by a name that is asked for, if it meets what is asked for, is a step of the machine: the hub replies as the machine
+/// may, and then represents the machine's state. This holds if the service is refused, if memory runs out, and if it is opened, whether or
+/// not the hub had it open before. Premises: no two services of the names that are asked for share a hash; the numbers of factories rise,
+/// as `NumberedHub::new` and `NumberedHub::run` say of each hub; and numbers are left for the new factory, and for as many locks as there
+/// are actions of other nodes.
 pub fn opening_matches<
     T: ZeroCopySend + Default,
     U: ZeroCopySend + Default,
@@ -396,9 +381,8 @@ pub fn opening_matches<
         (chosen_by T.is_default (λ handlers. B.decides handlers) (λ handlers. B.degrades handlers) (λ handler. D.degrades handler) handed) }
 {}
 
-/// This step of the hub is one of the machine:
-/// opening a service, or creating it with the required pairs as attributes if it doesn't exist. The premises are those of an opening, and a
-/// number must be left for its own lock.
+/// Opening a service, or creating it with the required pairs as its attributes if it doesn't exist, is a step of the machine. The premises
+/// are those of an opening, and a number must be left for the service's own lock.
 pub fn opening_or_creating_matches<
     T: ZeroCopySend + Default,
     U: ZeroCopySend + Default,
@@ -411,12 +395,11 @@ pub fn opening_or_creating_matches<
         (chosen_by T.is_default (λ handlers. B.decides handlers) (λ handlers. B.degrades handlers) (λ handler. D.degrades handler) handed) }
 {}
 
-/// This step of the hub is one of the machine:
-/// closing a factory, or refusing that since it is in use: the machine does so, too. With the last factory of a publish-subscribe service
-/// its ports end. Each service of the hub must have one agreement, as `NumberedHub::new` and `NumberedHub::step` say of each hub; no two
-/// services of the hub may have the same number, and the factories of a service must be counted once, as these numbers rise in each hub
-/// after a run (`StandsAfter`); no two services of the names that are asked for may share a hash; and a run of a new machine must have
-/// reached the state that the hub represents.
+/// Closing a factory is a step of the machine, and so is the refusal to close one that is in use. When the last factory of a
+/// publish-subscribe service is closed, its ports end. Premises: each service of the hub has one agreement, as `NumberedHub::new` and
+/// `NumberedHub::step` say of each hub; no two services of the hub have the same number, and the factories of a service are counted once,
+/// since these numbers rise in each hub after a run (`StandsAfter`); no two services of the names that are asked for share a hash; and a
+/// run of a new machine reached the state that the hub represents.
 pub fn closing_matches<
     T: ZeroCopySend + Default,
     U: ZeroCopySend + Default,

@@ -25,15 +25,15 @@ pub fn new_hub_begins<
         (λ handlers. B.degrades handlers) (λ handlers. B.decides handlers) (λ handler. D.degrades handler) }
 {}
 
-/// A hub that represents a state of the machine goes on as the machine does from there. The machine may give the hub's replies to commands,
-/// from the first one on or until the run stops. If the run doesn't stop, the hub represents the machine's state then; if it stops at a
-/// command, the machine's state before that command, or after it, if the values of the newest sample fit in a vector.
+/// A hub that represents a state of the machine goes on as the machine does from there. The machine may give the hub's replies to the
+/// commands, or to those before the one at which the run stops. If the run doesn't stop, the hub then represents the machine's state; if it
+/// stops at a command, the machine's state before that command, or after it, if the values of the newest sample fit in a vector.
 ///
 /// `StandsAfter` is the premise on the hub: it holds of a new hub after no command (`new_hub_begins`), and a run keeps it; so two runs of a
 /// hub make one. `IsRun` is what `NumberedHub::run` ensures of its replies. No two services of the names that are asked for may share a
 /// hash, all commands and actions of other nodes, with those before the run, must be fewer than 2 ^ 56, and handlers that are made of fixed
-/// actions must decide by these, as `FixedHandlers` and `FixedDegradation` do. What was named may be chosen for each port that is created
-/// later; this holds if no handlers are handed in for those, whatever the handlers of earlier ports are.
+/// actions must decide by these, as `FixedHandlers` and `FixedDegradation` do. For each port that is created later, what was named for it
+/// must be a choice; this is so if no handlers are handed in for these ports, whatever the handlers of earlier ports are.
 pub fn runs_go_on<
     T: ZeroCopySend + Default,
     U: ZeroCopySend + Default,
@@ -45,7 +45,7 @@ pub fn runs_go_on<
         (chosen_by T.is_default (λ handlers. B.decides handlers) (λ handlers. B.degrades handlers) (λ handler. D.degrades handler) handed) }
 {}
 
-/// The hub goes on so with any handlers of new ports, made of actions or handed in for one command. Whatever these may decide and answer
+/// As [`runs_go_on`], with any handlers of new ports, made of actions or handed in for one command. Whatever these may decide and answer
 /// must be a choice for the port with the number that it gets; this holds if the choices name the handed-in handlers by this number
 /// (`chosen_by`).
 pub fn decided_runs_go_on<
@@ -61,7 +61,7 @@ pub fn decided_runs_go_on<
 {}
 
 /// The replies of a new hub to commands are ones that a new machine may give: to all of them, or, if the run stopped, to those before a
-/// command at which a run may stop: a command is left, and either there are no replies, or the next command receives or reads. `IsRun` and
+/// command at which a run may stop. A run may stop before its first reply, and at a command that receives or reads. `IsRun` and
 /// `StopsIfRoomy` are what `NumberedHub::run` ensures of its replies. No two services of the names that are asked for may share a hash,
 /// commands and actions of other nodes must be fewer than 2 ^ 56, and handlers that are made of fixed actions must decide by these, as
 /// `FixedHandlers` and `FixedDegradation` do.
@@ -75,8 +75,8 @@ pub fn runs_answer<
         (λ handlers. B.degrades handlers) (λ handlers. B.decides handlers) D.fixed (λ handler. D.degrades handler)) }
 {}
 
-/// A hub that replied to all commands represents a state that a new machine reaches with the same replies, under the same premises. So what
-/// holds of each state that a run of the machine reaches holds of the state that such a hub represents.
+/// A hub that replied to all commands represents a state that a new machine reaches with the same replies, under the same premises as
+/// [`runs_answer`]. So what holds of each state that a run of the machine reaches holds of the state that this hub represents.
 pub fn runs_stand<
     T: ZeroCopySend + Default,
     U: ZeroCopySend + Default,

@@ -2,8 +2,8 @@
 //!
 //! Most theorems are about single calls. `IsStepBy` says what a call is in the machine: if the hub, with what its program holds by numbers,
 //! represents a state, the machine may give this answer from there to the command that asks for the same, and the hub after the call
-//! represents the machine's state then. So the calls of a program, from a new hub on, are a run of the machine (`HasCalled`). Messages are
-//! values of one type, or slices of them.
+//! represents the machine's state after it. So the calls of a program, from a new hub on, are a run of the machine (`HasCalled`). Messages
+//! are values of one type, or slices of them.
 ghost use Rattle.iox_hub_base.specs.DescribeBase.declared.type_detail.TypeVariant.{TypeVariant};
 ghost use Rattle.iox_hub_commands.specs.Terms.{terms_of};
 ghost use Rattle.iox_hub_machine.specs.TypedHeaders.{HeaderIsStep, HeaderNamesPublisher, HeaderReadAsSent};
@@ -38,9 +38,9 @@ pub fn typed_calls_are_a_run<
         (λ handler. D.degrades handler))) }
 {}
 
-/// If a hub represents a state of the machine, what its program holds by numbers can be used: ports are open, loans are out, and samples
-/// are held, even those whose subscriber was closed. These are the conditions of the calls on them, except those about the values of a
-/// loan, about blocked sends, and that a sample of a single value has one.
+/// If a hub represents a state of the machine, what its program holds by numbers can be used: ports are open, loans exist, and samples are
+/// held, even those whose subscriber was closed. These are the conditions of the calls on them, except those about the values of a loan,
+/// about blocked sends, and that a sample of a single value has one.
 pub fn what_is_held_may_be_used<
     T: ZeroCopySend + Default,
     U: ZeroCopySend + Default,
@@ -72,10 +72,9 @@ pub fn typed_service_calls_are_steps<
         (λ handler. D.degrades handler))) }
 {}
 
-/// This step of the hub is one of the machine:
-/// creating a publisher by a publish-subscribe factory: `create` and `create_slice` of its builder, with what the options of the command
-/// name. A publisher of single values is named as one with one value in a loan, which never gets a larger segment. The override of its
-/// number of slots answers what the options name.
+/// Creating a publisher by a publish-subscribe factory is a step: `create` and `create_slice` of its builder, with what the options of the
+/// command name. For a publisher of single values the command names a loan of one value, and a segment that never grows. The override of
+/// its number of slots answers what the options name.
 pub fn typed_publishers_come_by_steps<
     T: ZeroCopySend + Default,
     U: ZeroCopySend + Default,
@@ -88,8 +87,7 @@ pub fn typed_publishers_come_by_steps<
         (λ handler. D.degrades handler))) (O.overrides _overriding.now) }
 {}
 
-/// This step of the hub is one of the machine:
-/// closing a factory, or handing it back while it is in use: `close`.
+/// Closing a factory, or handing it back while it is in use, is a step: `close`.
 pub fn typed_closes_are_steps<
     T: ZeroCopySend + Default,
     U: ZeroCopySend + Default,
@@ -108,7 +106,7 @@ pub fn typed_closes_are_steps<
 /// - Loaning written values, by a publisher without a blocked send: `loan_slice`, and `loan` for one. All have one default value.
 /// - Writing the values of a loan at once: `write_from_slice`, and `payload_write` and `write_payload` for one value. If the loan has
 ///   another number of values, the command is skipped, and nothing is written. Writing them one after the other: `write_from_fn`.
-/// - Changing a value of a written loan at a place that the loan has: `payload_mut` and `value_mut`, as the reference ends.
+/// - Changing a value of a written loan at a place that the loan has: `payload_mut` and `value_mut`, when the reference ends.
 /// - Loaning values, writing and sending them at once: `send_slice`, and `send_copy` for one value. No send of the publisher is blocked.
 /// - Sending or dropping a loan: `send` and `drop_with` of a loan. The loan is consumed.
 /// - Trying a blocked send again, or giving it up: `retry`, `give_up` and `drop_with` of a blocked send.
@@ -144,9 +142,8 @@ pub fn typed_subscriber_calls_are_steps<
         (λ handler. D.degrades handler))) }
 {}
 
-/// This step of the hub is one of the machine:
-/// writing the user header of a loan: `user_header_write`, and `user_header_mut` as the reference ends. The machine has no user headers, so
-/// the hub represents the same state as before, and the calls of the program are the same run of the machine.
+/// Writing the user header of a loan (`user_header_write`, and `user_header_mut` when the reference ends) needs no command. The machine has
+/// no user headers, so the hub represents the same state as before, and the calls of the program are the same run of the machine.
 pub fn typed_user_headers_keep_standing<
     T: ZeroCopySend + Default,
     U: ZeroCopySend + Default,
@@ -161,9 +158,8 @@ pub fn typed_user_headers_keep_standing<
         D.fixed (λ handler. D.degrades handler))) }
 {}
 
-/// This step of the hub is one of the machine:
-/// reading the header of a sample: `header`. The sequence number that it reports is the machine's answer for the sample. The publisher
-/// whose id it reports is that of the machine's sample.
+/// Reading the header of a sample (`header`) is a step: the sequence number that it reports is the machine's answer for the sample. The
+/// publisher whose id it reports is that of the machine's sample.
 pub fn typed_headers_are_read_by_steps<
     T: ZeroCopySend + Default,
     U: ZeroCopySend + Default,
@@ -178,15 +174,15 @@ pub fn typed_headers_are_read_by_steps<
         (λ handler. D.degrades handler))) }
 {}
 
-/// What is recorded in the domains of a hub as sends begin: nothing before any port was created, and by a call of the ports of a domain
-/// what that call records, in this domain alone. So each typed call of a port, a loan or a sample adds what it records.
+/// What is recorded in the domains of a hub when sends begin. Nothing is recorded before any port was created. A call of the ports of a
+/// domain adds what it records, in this domain alone. So each typed call of a port, a loan or a sample adds what it records.
 pub fn typed_calls_tell<T, U, O: Overrides, B: PublisherHandlers, D: SubscriberHandler>()
     ensures { HubTells T U (λ overriding. O.overrides overriding) (λ handlers. B.degrades handlers) (λ handlers. B.decides handlers)
         (λ handler. D.degrades handler) }
 {}
 
-/// What the `header` and the `user_header` of a sample report was recorded as a send began in its domain, with the values and the sequence
-/// number of the machine's sample, and by the publisher that the machine's sample names. `typed_calls_tell` says what is recorded.
+/// What the `header` and the `user_header` of a sample report was recorded when a send began in its domain, with the values and the
+/// sequence number of the machine's sample, and by the publisher that the machine's sample names. `typed_calls_tell` says what is recorded.
 pub fn typed_headers_are_as_sent<
     T: ZeroCopySend + Default,
     U: ZeroCopySend + Default,
@@ -198,8 +194,9 @@ pub fn typed_headers_are_as_sent<
         (λ handler. D.degrades handler))) }
 {}
 
-/// The values that the `payload` of a sample returns, once a subscriber received it, are those of a message whose send began before, in the
-/// run of the machine that the calls of the program are. Its publisher is of the subscriber's own service, and has been so since that send.
+/// The values that the `payload` of a sample returns directly after a subscriber received it are those of a message whose send began
+/// earlier, in the run of the machine that the calls of the program are. Its publisher is of the subscriber's own service, and has been so
+/// since that send.
 pub fn payload_was_sent<
     T: ZeroCopySend + Default,
     U: ZeroCopySend + Default,

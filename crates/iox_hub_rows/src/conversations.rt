@@ -1,4 +1,4 @@
-//! Messages of single values go from node to node, up to the last number.
+//! Messages of single values from node to node, up to the last sequence number.
 use crate::ports::{must_be_free, must_be_there, sent_to};
 use crate::services::{Course, How, Messages, Service, come_new, go};
 use iox_delivery::{Publisher, Sample, SampleMut, Subscriber, UpdateConnections};
@@ -14,9 +14,9 @@ use std::test::Fail;
 enum Publishing<T> {
     // It follows the subscribers.
     Follows,
-    // A value is lent, written and sent.
+    // A value is loaned, written and sent.
     Lends(T),
-    // A default is lent and sent.
+    // A default is loaned and sent.
     LendsDefault,
     // A copy is sent.
     Copies(T),
@@ -33,7 +33,7 @@ enum Listening<T> {
     Receives(Option<(T, Option<u64>)>),
 }
 
-// One call. That of a publisher sends to so many mailboxes, or says why not.
+// One call. That of a publisher sends to this many mailboxes, or says why not.
 enum Call<T> {
     Publisher(Publishing<T>, Result<usize, SendError>),
     Subscriber(Listening<T>),
@@ -44,7 +44,7 @@ const FIRST: u64 = u64::MAX - 3;
 
 const USED_UP: Result<usize, SendError> = Err(SendError::InternalError);
 
-// Of four messages in a mailbox of three the oldest goes. Behind the last number nothing is sent, and the loan ends.
+// Of four messages in a mailbox of three the oldest goes. After the last number nothing is sent, and the loan ends.
 const CALLS: &[Call<u64>] = &[
     Call::Publisher(Publishing::Follows, Ok(0)),
     Call::Subscriber(Listening::Follows),
@@ -124,7 +124,7 @@ fn publishes<T: Copy + Default, U: Copy, H: Home<T, U>>(
     }
 }
 
-// Whether a subscriber is answered so.
+// Whether a subscriber is answered as stated.
 fn listens<T: Copy + PartialEq, U: Copy, H: Home<T, U>>(
     rt: &impl Abort,
     alloc: Global,
@@ -140,7 +140,7 @@ fn listens<T: Copy + PartialEq, U: Copy, H: Home<T, U>>(
     }
 }
 
-// How many calls go so between new ports, one after another.
+// How many calls go as stated between new ports, one after the other.
 fn converse<
     T: Copy + Default + PartialEq,
     U: Copy + Default,
@@ -198,7 +198,7 @@ fn subscribers(
     Some(hub.subscriber_builder(service)?.set_handler(Nobody))
 }
 
-/// Messages go from the node that created the service to one that opened it.
+/// Sends messages from the node that created the service to a node that opened it.
 pub(crate) fn agree(rt: &impl Abort, alloc: Global, hub: &mut Messages) -> Result<(), Fail> {
     let made = come_new(rt, alloc, hub, How::Create)?;
     let publishers = publishers(rt, hub, &made);

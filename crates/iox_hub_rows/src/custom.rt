@@ -1,5 +1,5 @@
-//! Ports of a payload that only the description says.
-use crate::ports::{meet, must_be_free, must_be_there, sent_to, taken};
+//! Ports of a payload type that only the description defines.
+use crate::ports::{is_given_up, meet, must_be_free, must_be_there, sent_to, taken};
 use iox_delivery::Sent;
 use iox_delivery::slices::{Publisher, SampleMutUninit, Subscriber};
 use iox_delivery_factories::{
@@ -33,7 +33,7 @@ type Any = CustomHeaderMarker;
 // Elements, as bytes, for whose ports nobody decides.
 type Elements = Domain<Byte, Any, Nobody, Nobody>;
 
-/// The domain of a service with this agreement, for whose ports nobody decides.
+/// The domain of a service with these settings, whose ports have no handlers.
 pub(crate) fn make<T: Words + ZeroCopySend, U: Copy + ZeroCopySend>(
     alloc: Global,
     agreed: StaticConfig,
@@ -48,7 +48,7 @@ pub(crate) fn make<T: Words + ZeroCopySend, U: Copy + ZeroCopySend>(
     }
 }
 
-// What is agreed on slices whose elements have so many bytes. A full mailbox holds a send up.
+// What is agreed on slices whose elements have this many bytes. A full mailbox holds a send up.
 fn agreed(size: u64) -> Option<StaticConfig> {
     let mut types = MessageTypeDetails::from::<Header, u16, u64>(TypeVariant::Dynamic);
     types.payload = TypeDetail::new(TypeVariant::Dynamic, b"Element", size, 1).ok()?;
@@ -57,7 +57,7 @@ fn agreed(size: u64) -> Option<StaticConfig> {
     Some(agreed)
 }
 
-// How many bytes an element has, how many elements a publisher lends at first, what a longer loan does, and what is asked of it.
+// How many bytes an element has, how many elements a publisher loans at first, what a longer loan does, and what is asked of it.
 struct Case {
     size: u64,
     first: usize,
@@ -67,13 +67,13 @@ struct Case {
 
 // One call, and what it answers.
 enum Call {
-    // So many elements are lent, which are so many bytes, or why not; they are given up again.
+    // This many elements are loaned, which are this many bytes, or why not; they are dropped again.
     Lends(usize, Result<usize, LoanError>),
-    // So many bytes fit in a slot.
+    // This many bytes fit in a slot.
     Room(usize),
-    // So many elements are sent, and received as so many bytes.
+    // This many elements are sent, and received as this many bytes.
     Sends(usize, usize),
-    // No elements are sent, and not received. Or such a send waits, is tried again in vain, and given up.
+    // No elements are sent, and not received. Or a send of them is blocked, is tried again in vain, and given up.
     SendsNothing(bool),
 }
 
@@ -86,7 +86,7 @@ fn publishers(domain: &Elements, case: &Case) -> PortFactoryPublisher<Byte, Any,
         .set_handlers(Nobody)
 }
 
-// How many values were lent. They are given up again.
+// How many values were loaned. They are dropped again.
 fn values_of<T: Copy, U: Copy, H: Home<T, U>>(
     lent: Result<SampleMutUninit<T, U>, LoanError>,
     home: &mut H,
@@ -94,8 +94,11 @@ fn values_of<T: Copy, U: Copy, H: Home<T, U>>(
     match lent {
         Ok(loan) => {
             let values = loan.len();
-            loan.drop_with(home);
-            Ok(values)
+            if is_given_up(loan, home) {
+                Ok(values)
+            } else {
+                Err(LoanError::InternalFailure)
+            }
         }
         Err(error) => Err(error),
     }
@@ -122,7 +125,7 @@ fn sends<T: Copy, U: Copy, H: Home<T, U>>(
     sent_to(sample.send(alloc, home), home)
 }
 
-// Whether so many elements are received as so many bytes, the last of which is 7.
+// Whether this many elements are received as this many bytes, the last of which is 7.
 fn receives<U: Copy, H: Home<Byte, U>>(
     rt: &impl Abort,
     alloc: Global,
@@ -140,7 +143,7 @@ fn receives<U: Copy, H: Home<Byte, U>>(
     }
 }
 
-// Whether a send goes to one mailbox; or it waits, also when it is tried again, and its publisher can't be let go then, and stays.
+// Whether a send goes to one mailbox; or it waits, also when it is tried again, and its publisher can't be closed then, and stays.
 fn is_sent<T: Copy, U: Copy, H: Home<T, U>>(
     rt: &impl Abort,
     sent: Result<Sent<T, U>, SendError>,
@@ -160,7 +163,7 @@ fn is_sent<T: Copy, U: Copy, H: Home<T, U>>(
     }
 }
 
-// Whether a call goes so.
+// Whether a call goes as stated.
 fn goes<U: Copy, H: Home<Byte, U>>(
     rt: &impl Abort,
     alloc: Global,
@@ -186,7 +189,7 @@ fn goes<U: Copy, H: Home<Byte, U>>(
     }
 }
 
-// How many calls go so with new ports, one after another.
+// How many calls go as stated with new ports, one after the other.
 fn converse<
     U: Copy + Default,
     B: Decides + Degrades,
@@ -212,14 +215,14 @@ fn converse<
     calls.len()
 }
 
-// How many calls of a case go so with new ports of a domain.
+// How many calls of a case go as stated with new ports of a domain.
 fn goes_in(rt: &impl Abort, alloc: Global, domain: &mut Elements, case: &Case) -> usize {
     let publishers = publishers(domain, case);
     let subscribers = subscriber_builder(domain, 4, 3).set_handler(Nobody);
     converse(rt, alloc, domain, publishers, subscribers, case.calls)
 }
 
-// How many calls go so in a new domain.
+// How many calls go as stated in a new domain.
 fn go(rt: &impl Abort, alloc: Global, case: &Case) -> usize {
     let Some(agreed) = agreed(case.size) else {
         return 0;

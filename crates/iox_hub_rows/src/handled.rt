@@ -1,4 +1,4 @@
-//! Handlers that commands name by their places: what is asked of them, and how often. Lists of commands.
+//! Handlers that commands name by their places: what they are asked, and how often. The cases are lists of commands.
 ghost use Rattle.std.specs.Prelude.{◌≡◌, ◌<◌, ◌^◌, ⊤, true};
 ghost use Rattle.iox_hub_commands.specs.Numbers.{numbers_used};
 
@@ -15,7 +15,7 @@ use std::alloc::{AllocError, Global};
 use std::cell::Cell;
 use std::process::Abort;
 
-/// A hub of messages of numbers, for whose ports boxed handlers may decide.
+/// A hub whose messages are numbers, and whose ports may have boxed handlers.
 pub(crate) type Numbers = NumberedHub<u64, u64, Handlers, DegradationHandler>;
 
 /// Handlers that are handed in.
@@ -27,7 +27,7 @@ const CONFIG: HubConfig = HubConfig {
     id: 0,
 };
 
-// Two actions, of which the first is the answer at first, and then each in turn: so answers show how often it was asked.
+// Two actions, of which the first is the first answer, and then they alternate: so answers show how often the object was asked.
 #[derive(Drop)]
 struct InTurn<A> {
     actions: (A, A),
@@ -61,6 +61,72 @@ impl DegradationFn for InTurn<DegradationAction> {
         self.next()
     }
 }
+
+// What the object is given at each call, one after the other: the service, the sender, the receiver, how often the send was retried and for
+// how long. It returns the answer in the same row. If it is given anything else, or is asked once more, its answer lets the call fail.
+#[derive(Drop)]
+struct Told<A: 'static> {
+    rows: &'static [([u64; 5], A)],
+    otherwise: A,
+    calls: Cell<usize>,
+}
+
+impl<A: Copy> Told<A> {
+    fn next(&self, told: [u64; 5]) -> A {
+        let call = self.calls.get();
+        self.calls.set(call.wrapping_add(1));
+        match self.rows.get(call) {
+            Some(row) if row.0 == told => row.1,
+            _ => self.otherwise,
+        }
+    }
+}
+
+impl BackpressureFn for Told<BackpressureAction> {
+    ghost allows = { λ _ _ _. ⊤ };
+
+    fn call(&self, info: &BackpressureInfo) -> BackpressureAction {
+        self.next([
+            info.service_id,
+            info.sender_port_id,
+            info.receiver_port_id,
+            info.retries,
+            info.elapsed_time,
+        ])
+    }
+}
+
+impl DegradationFn for Told<DegradationAction> {
+    ghost allows = { λ _ _ _ _. ⊤ };
+
+    fn call(&self, cause: DegradationCause, info: &DegradationInfo) -> DegradationAction {
+        self.next([
+            info.service_id,
+            info.sender_port_id,
+            info.receiver_port_id,
+            0,
+            0,
+        ])
+    }
+}
+
+// What is given about full mailboxes, at place 7: port 4 of service 2 sends two messages to ports 1 and 2.
+const TOLD_FULL: [([u64; 5], BackpressureAction); 6] = [
+    ([2, 4, 1, 0, 0], BackpressureAction::Retry),
+    ([2, 4, 1, 1, 5], BackpressureAction::Retry),
+    ([2, 4, 1, 2, 70], BackpressureAction::DiscardData),
+    ([2, 4, 2, 0, 0], BackpressureAction::Retry),
+    ([2, 4, 1, 0, 0], BackpressureAction::DiscardData),
+    ([2, 4, 2, 0, 0], BackpressureAction::DiscardData),
+];
+
+// What is given about a connection that failed, at place 8: of port 5 of service 2 to port 2.
+const TOLD_FAILURES: [([u64; 5], DegradationAction); 4] = [
+    ([2, 5, 2, 0, 0], DegradationAction::Ignore),
+    ([2, 5, 2, 0, 0], DegradationAction::DegradeAndFail),
+    ([2, 5, 2, 0, 0], DegradationAction::Ignore),
+    ([2, 5, 2, 0, 0], DegradationAction::DegradeAndFail),
+];
 
 // What those for full mailboxes do, at places 1 to 4.
 const AT_FULL: [(BackpressureAction, BackpressureAction); 4] = [
@@ -99,7 +165,7 @@ fn hand_in_full(alloc: Global, given: &mut Given) -> Result<(), AllocError> {
     Ok(())
 }
 
-// Hands in the objects for connections that failed, and so many more.
+// Hands in the objects for connections that failed, and this many more.
 fn hand_in_failures(alloc: Global, given: &mut Given, more: usize) -> Result<(), AllocError> {
     for place in 0..more.saturating_add(2) {
         let actions = AT_FAILURE[if place == 1 { 1 } else { 0 }];
@@ -110,7 +176,27 @@ fn hand_in_failures(alloc: Global, given: &mut Given, more: usize) -> Result<(),
     Ok(())
 }
 
-/// A line, the places that it names, at a full mailbox and where a connection failed, and the reply.
+// Hands in the objects that are asked in each call.
+fn hand_in_told(alloc: Global, given: &mut Given) -> Result<(), AllocError> {
+    let full = Told {
+        rows: &TOLD_FULL,
+        otherwise: BackpressureAction::DiscardDataAndFail,
+        calls: Cell::new(0),
+    };
+    let object = Box::new(alloc, full)?;
+    given.hand_in(GivenHandler::Backpressure(BackpressureHandler::boxed(object)))?;
+    let failures = Told {
+        rows: &TOLD_FAILURES,
+        otherwise: DegradationAction::DegradeAndFail,
+        calls: Cell::new(0),
+    };
+    let object = Box::new(alloc, failures)?;
+    given.hand_in(GivenHandler::Degradation(DegradationHandler::boxed(object)))?;
+    Ok(())
+}
+
+/// A line, the place of the handler that it names for full mailboxes, the place of the one that it names for failed connections, and the
+/// reply.
 pub(crate) type Row = (&'static str, Option<u64>, Option<u64>, &'static str);
 
 // The command of a line, with the places that are named.
@@ -156,7 +242,7 @@ fn are_few(hub: &Numbers) -> bool
         && hub.made.samples.next_number() < 1000
 }
 
-// Whether a line is replied to so.
+// Whether a line is replied to as stated.
 fn goes(
     alloc: Global,
     hub: &mut Numbers,
@@ -175,7 +261,7 @@ fn goes(
     is_reply(alloc, &reply, wanted)
 }
 
-/// Each line must be replied to as its row says, one after another.
+/// Runs the lines one after the other, and aborts if a reply differs from its row.
 pub(crate) fn go_on(
     rt: &impl Abort,
     alloc: Global,
@@ -196,7 +282,7 @@ const LOAN: Command<'static, u64> = Command::Loan {
     length: 1,
 };
 
-// So many loans.
+// This many loans.
 fn loans(alloc: Global, len: usize) -> Result<Vec<Command<'static, u64>>, AllocError> {
     let mut commands = Vec::new(alloc);
     for _ in 0..len {
@@ -205,7 +291,7 @@ fn loans(alloc: Global, len: usize) -> Result<Vec<Command<'static, u64>>, AllocE
     Ok(commands)
 }
 
-// So many nodes.
+// This many nodes.
 fn nodes(alloc: Global, len: usize) -> Result<Vec<HandledCommand<'static, u64>>, AllocError> {
     let mut commands = Vec::new(alloc);
     for _ in 0..len {
@@ -214,7 +300,7 @@ fn nodes(alloc: Global, len: usize) -> Result<Vec<HandledCommand<'static, u64>>,
     Ok(commands)
 }
 
-// Whether each of so many commands is replied to, in a run with handlers or without.
+// Whether each of this many commands is replied to, in a run with handlers or without.
 fn runs(
     alloc: Global,
     hub: &mut Numbers,
@@ -232,18 +318,18 @@ fn runs(
     Ok(!report.stopped && report.replies.len() == len)
 }
 
-/// What is done in a new hub.
+/// What a test does in a new hub.
 #[derive(Clone, Copy)]
 pub(crate) enum Course {
-    /// Each line is replied to as its row says. Objects were handed in before.
+    /// Runs these lines, after handlers were handed in; each must have the reply of its row.
     Lines(&'static [Row]),
-    /// So many commands are run, with as many more objects handed in, with handlers or without.
+    /// Runs this many commands, after as many more handlers were handed in. The switch says whether the run takes handlers.
     Runs(usize, bool),
-    /// The domain of a service goes by lanes.
+    /// Steps the domain of a service by lanes.
     Lanes,
 }
 
-// Each of so many commands must be replied to where a publisher came before, with as many more objects handed in.
+// Each of this many commands must be replied to where a publisher came before, with as many more objects handed in.
 fn run_on(
     rt: &impl Abort,
     alloc: Global,
@@ -270,6 +356,7 @@ fn take(
     match course {
         Course::Lines(rows) => {
             hand_in_failures(alloc, given, 0)?;
+            hand_in_told(alloc, given)?;
             go_on(rt, alloc, hub, given, scratch, rows)
         }
         Course::Runs(len, with_handlers) => {
@@ -281,7 +368,7 @@ fn take(
     }
 }
 
-/// It must go well in a new hub.
+/// Does this in a new hub, and aborts if a reply is wrong.
 pub(crate) fn go(rt: &impl Abort, alloc: Global, course: Course) -> Result<(), AllocError> {
     take(
         &mut Scratch::new(alloc)?,
@@ -294,7 +381,7 @@ pub(crate) fn go(rt: &impl Abort, alloc: Global, course: Course) -> Result<(), A
 }
 
 // A full mailbox of a service without overflow is asked of the object that the publisher took, and of no action that the command names:
-// once a try, and not where the mailbox has room. Where each connection is made, none is asked about it.
+// once a try, and not where the mailbox has capacity. Where each connection is made, none is asked about it.
 const FULL: &[Row] = &[
     ("node", None, None, "ok n1"),
     (
@@ -389,13 +476,87 @@ const FAILURE: &[Row] = &[
     ),
 ];
 
+// An object that is asked is given the service, the ports, and for a full mailbox how often and for how long it was retried: once in each
+// call, and each time for the mailbox that is full.
+const ASKED_FULL: &[Row] = &[
+    ("node", None, None, "ok n1"),
+    ("create n1 ps A", None, None, "ok f1"),
+    ("close f1", None, None, "ok"),
+    (
+        "create n1 ps A overflow=0 buffer=1 publishers=3 borrowed=1",
+        None,
+        None,
+        "ok f2",
+    ),
+    ("subscriber f2", None, None, "ok s1"),
+    ("subscriber f2", None, None, "ok s2"),
+    ("publisher f2", None, None, "ok p1"),
+    ("publisher f2 handler=fail", Some(7), None, "ok p2"),
+    ("update s1", None, None, "ok"),
+    ("update s2", None, None, "ok"),
+    ("put p2 1", None, None, "ok 2"),
+    ("put p2 2", None, None, "blocked"),
+    ("retry p2 5", None, None, "blocked"),
+    ("retry p2 70", None, None, "blocked"),
+    ("receive s2", None, None, "ok m1 1"),
+    ("retry p2 9", None, None, "ok 1"),
+    ("put p2 3", None, None, "ok 0"),
+    ("put p2 4", None, None, "err SendError::UnableToDeliver"),
+];
+
+// The same of a connection that failed: at each call that tries it.
+const ASKED_FAILURE: &[Row] = &[
+    ("node", None, None, "ok n1"),
+    ("create n1 ps A", None, None, "ok f1"),
+    ("close f1", None, None, "ok"),
+    (
+        "create n1 ps A publishers=1 borrowed=1",
+        None,
+        None,
+        "ok f2",
+    ),
+    ("subscriber f2", None, None, "ok s1"),
+    ("leave s1", None, None, "ok"),
+    ("subscriber f2 degrade=fail", None, Some(8), "ok s2"),
+    ("publisher f2", None, None, "ok p1"),
+    ("put p1 7", None, None, "ok 1"),
+    ("receive s2", None, None, "ok m1 7"),
+    ("leave p1", None, None, "ok"),
+    ("update s2", None, None, "ok"),
+    ("publisher f2", None, None, "ok p2"),
+    ("put p2 8", None, None, "ok 1"),
+    ("receive s2", None, None, "ok m2 8"),
+    ("leave p2", None, None, "ok"),
+    ("update s2", None, None, "ok"),
+    ("publisher f2", None, None, "ok p3"),
+    ("receive s2", None, None, "none"),
+    (
+        "has s2",
+        None,
+        None,
+        "err ConnectionFailure::FailedToEstablishConnection(ExpiredConnectionBufferFull)",
+    ),
+    ("update s2", None, None, "ok"),
+    (
+        "receive s2",
+        None,
+        None,
+        "err ReceiveError::ConnectionFailure(FailedToEstablishConnection(ExpiredConnectionBufferFull))",
+    ),
+    ("release m1", None, None, "ok"),
+    ("put p3 9", None, None, "ok 1"),
+    ("receive s2", None, None, "ok m3 9"),
+];
+
 #[test]
 fn handlers_that_are_named_are_asked(rt: HostRuntime) -> Result<(), AllocError> {
     go(&rt, rt.alloc(), Course::Lines(FULL))?;
-    go(&rt, rt.alloc(), Course::Lines(FAILURE))
+    go(&rt, rt.alloc(), Course::Lines(FAILURE))?;
+    go(&rt, rt.alloc(), Course::Lines(ASKED_FULL))?;
+    go(&rt, rt.alloc(), Course::Lines(ASKED_FAILURE))
 }
 
-// A publisher comes.
+// A publisher is created.
 const PUBLISHER: &[Row] = &[
     ("node", None, None, "ok n1"),
     ("create n1 ps A", None, None, "ok f1"),

@@ -1,4 +1,4 @@
-//! The domain of a service goes by lanes for a while, in a hub that commands drive.
+//! A domain of a hub that commands drive is stepped by lanes for a while, and put back.
 use crate::handled::{self, Course, Given, Numbers, Row, go};
 use crate::ports::must_be_there;
 use iox_hub::service::Domain;
@@ -25,7 +25,7 @@ const MEANWHILE: [Row; 5] = [
     ("node", None, None, "ok n2"),
 ];
 
-// What waited before comes first, then what lanes sent, and then what is sent behind it.
+// What waited before comes first, then what lanes sent, and then what is sent after it.
 const BEHIND: [Row; 7] = [
     ("receive s1", None, None, "ok m1 10"),
     ("release m1", None, None, "ok"),
@@ -52,7 +52,7 @@ fn add(entries: &mut Vec<Entry>, call: Call) -> Result<(), AllocError> {
     Ok(())
 }
 
-// A value is sent in the slot that is lent.
+// A value is sent in the slot that is loaned.
 fn schedule(alloc: Global) -> Result<Vec<Entry>, AllocError> {
     let mut entries = Vec::new(alloc);
     add(&mut entries, Call::LoanUninit)?;
@@ -77,7 +77,7 @@ fn gone_by(alloc: Global, entries: &[Entry], domain: Domain<u64, u64>) -> Option
     opened.into_domain().ok()
 }
 
-// Whether the domain goes by lanes, behind commands of its hub, and is put back there.
+// Whether the domain goes by lanes, after commands of its hub, and is put back there.
 fn goes_by_lanes(
     rt: &impl Abort,
     alloc: Global,
@@ -98,7 +98,7 @@ fn goes_by_lanes(
     Ok(is_back)
 }
 
-/// It goes so, with commands before and behind.
+/// Runs commands, then lanes, then commands again, and aborts if a result differs from what is stated.
 pub(crate) fn go_on(
     rt: &impl Abort,
     alloc: Global,

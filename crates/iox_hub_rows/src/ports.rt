@@ -1,7 +1,8 @@
-//! Ports in any home: what must be so before their calls, and what these come to.
+//! Ports in any home: the conditions that must hold before their calls, and the results of these.
 ghost use Rattle.std.specs.Prelude.{◌≡◌, false, true};
 
 use iox_delivery::Sent;
+use iox_delivery::loan::{Loan, LoanState};
 use iox_delivery::slices::{Publisher, Sample, Subscriber};
 use iox_delivery_factories::{PortFactoryPublisher, PortFactorySubscriber};
 use iox_domain::Home;
@@ -9,14 +10,14 @@ use iox_domain_values::{Decides, Degrades, Overrides, SendError};
 use std::alloc::Global;
 use std::process::Abort;
 
-/// What is asked for must be there.
+/// Aborts unless the port, loan or sample that a call needs exists.
 pub(crate) fn must_be_there(rt: &impl Abort, holds: bool)
     ensures { holds ≡ true }
 {
     assert!(rt; holds);
 }
 
-/// A publisher, or a loan, must be there, and no send of the publisher may wait.
+/// Aborts unless the publisher or loan exists, and no send of the publisher is blocked.
 pub(crate) fn must_be_free(rt: &impl Abort, holds: bool, is_blocked: bool)
     ensures there { holds ≡ true }
     ensures free { is_blocked ≡ false }
@@ -25,7 +26,7 @@ pub(crate) fn must_be_free(rt: &impl Abort, holds: bool, is_blocked: bool)
     assert!(rt; !is_blocked);
 }
 
-/// A publisher and a subscriber of slices, as builders make them. The subscriber comes first.
+/// A publisher and a subscriber of slices, made by these builders. The subscriber is made first.
 pub(crate) fn meet<
     T: Copy,
     U: Copy + Default,
@@ -47,25 +48,42 @@ pub(crate) fn meet<
     Some((publisher?, subscriber?))
 }
 
-/// How many mailboxes took what was sent, or why none did. A send that waits is let go, as one that can't be delivered.
+/// How many mailboxes took the message, or why none did. A blocked send is given up, and counts as one that couldn't deliver.
 pub(crate) fn sent_to<T: Copy, U: Copy, H: Home<T, U>>(
     sent: Result<Sent<T, U>, SendError>,
     home: &mut H,
 ) -> Result<usize, SendError> {
     match sent {
         Ok(Sent::Delivered(delivered)) => Ok(delivered),
-        Ok(Sent::Blocked(blocked)) => {
-            blocked.drop_with(home);
-            Err(SendError::UnableToDeliver)
-        }
+        Ok(Sent::Blocked(blocked)) => match blocked.drop_with(home) {
+            Ok(_) => Err(SendError::UnableToDeliver),
+            Err(kept) => {
+                let _ = kept.into_port();
+                Err(SendError::InternalError)
+            }
+        },
         Err(error) => Err(error),
     }
 }
 
-/// How many elements and values came, the last value, and their number.
+/// Drops a loan, and returns whether it existed.
+pub(crate) fn is_given_up<T: Copy, U: Copy, K, S: LoanState<T, U, K> + Copy, H: Home<T, U>>(
+    loan: Loan<T, U, K, S>,
+    home: &mut H,
+) -> bool {
+    match loan.drop_with(home) {
+        Ok(()) => true,
+        Err(kept) => {
+            let _ = kept.into_slot();
+            false
+        }
+    }
+}
+
+/// Of a received message: how many elements and how many values it has, its last value, and its sequence number.
 pub(crate) type Came<T> = (u64, usize, Option<T>, Option<u64>);
 
-/// What came; it is released.
+/// What a sample contains. The sample is released.
 pub(crate) fn taken<T: Copy, U: Copy, H: Home<T, U>>(
     rt: &impl Abort,
     home: &mut H,

@@ -1,4 +1,5 @@
-//! A recorded hub, called as a program calls it: its answers, why services are refused, and that what it received is known to fit.
+//! A recorded hub, called as a program calls it: its answers, why services are refused, and that each received message is known to fit in a
+//! vector.
 ghost use Rattle.std.specs.Prelude.{◌≡◌, ◌++◌, ◌∷◌, [], Some, IfSome, codes};
 ghost use Rattle.std.specs.Option.{option_map};
 ghost use Rattle.iox_command.specs.declared.command.Command.TheVariants as command;
@@ -42,7 +43,7 @@ const NUMBERED: PublishSubscribeOptions = PublishSubscribeOptions {
     sequence_numbers: Some(true),
 };
 
-// Its sends wait where a mailbox is full.
+// Its sends block at a full mailbox.
 const PUBLISHER: PublisherOptions = PublisherOptions {
     max_loaned_samples: None,
     backpressure_strategy: Some(BackpressureStrategy::RetryUntilDelivered),
@@ -59,6 +60,12 @@ const SUBSCRIBER: SubscriberOptions = SubscriberOptions {
     degradation_handler: None,
 };
 
+// A buffer of 0, which has room for one message.
+const NO_BUFFER: SubscriberOptions = SubscriberOptions {
+    buffer_size: Some(0),
+    degradation_handler: None,
+};
+
 // Values of the first message: the longest one is as long as its publisher's first slots.
 const VALUES: [&[u64]; 3] = [&[], &[7; 7], &[7; 64]];
 
@@ -70,7 +77,7 @@ enum Step {
     SubscriberFollows,
     // Whether messages wait for the subscriber.
     Has(bool),
-    // Values are sent to one subscriber at once; or the send waits at the full mailbox, and waits still when it is tried again.
+    // Values are sent to one subscriber at once; or the send is blocked at the full mailbox, and is still blocked when it is retried.
     Sends(Option<&'static [u64]>, bool),
     // Values are received with this number, or without one, and released.
     Receives(Option<&'static [u64]>, Option<u64>),
@@ -80,8 +87,8 @@ enum Step {
     Lends(Option<&'static [u64]>, Result<bool, LoanError>),
 }
 
-// Messages are exchanged, one of which finds no room. Then loans are given up, refused where they are longer than the publisher's slots,
-// and sent.
+// Messages are exchanged, one of which finds no capacity. Then loans are given up, refused where they are longer than the publisher's
+// slots, and sent.
 const MESSAGES: &[Step] = &[
     Step::PublisherFollows,
     Step::SubscriberFollows,
@@ -106,7 +113,7 @@ const NUMBERS: &[Step] = &[
     Step::Receives(Some(&[8]), Some(2)),
 ];
 
-// Whether values are sent to one subscriber at once, or the send waits and does so still when it is tried again.
+// Whether values are sent to one subscriber at once, or the send is blocked, and is still blocked when it is retried.
 fn is_sent(
     alloc: Global,
     hub: &mut Recorded,
@@ -135,8 +142,9 @@ fn is_sent(
     }
 }
 
-// The values of a sample. They were put, by `AreFollowed`: no two services of the names that are asked for share a hash, commands are
-// fewer than 2^56, what was received before fits, and who is made of fixed actions decides by these.
+// The values of a sample. They were put earlier if `AreFollowed` holds. It says that the services named in the commands have different
+// hashes, that there are fewer than 2^56 commands, that the values of each message received before fit in a vector, and that a handler
+// made of a fixed action always decides by this action.
 fn put_values<'a, B: PublisherHandlers, D: SubscriberHandler>(
     hub: &'a RecordedHub<u64, (), B, D>,
     sample: &Named<slice::Sample<u64, ()>>,
@@ -267,7 +275,7 @@ fn goes(
     }
 }
 
-// Whether steps come to that, one after another.
+// Whether steps come to that, one after the other.
 fn go_on(
     alloc: Global,
     hub: &mut Recorded,
@@ -348,7 +356,7 @@ fn is_created_with_numbers(alloc: Global, hub: &mut Recorded) -> bool {
     }
 }
 
-// Whether a node is refused that creates a service where another is about to, and one that opens a service where none stands.
+// Whether a node is refused that creates a service where another is about to, and one that opens a service where none exists.
 fn is_refused(alloc: Global, hub: &mut Recorded) -> bool {
     let Ok(node) = hub.new_node() else {
         return false;
@@ -393,7 +401,7 @@ fn is_refused(alloc: Global, hub: &mut Recorded) -> bool {
     true
 }
 
-// Whether a service is closed once its port left, and not before.
+// Whether a service is closed once its port left, and not before. The port has room for one message.
 fn is_closed(
     alloc: Global,
     hub: &mut Recorded,
@@ -402,14 +410,15 @@ fn is_closed(
     requires made { value_at hub.old.calls.factories service.number.value ≡ Some (made_factory.PublishSubscribe service.it) }
     requires here { service.it.service.membership.storage ≡ hub.old.calls.config.id }
 {
-    let Some(Ok(subscriber)) = hub.subscriber(alloc, &service, &SUBSCRIBER) else {
+    let Some(Ok(subscriber)) = hub.subscriber(alloc, &service, &NO_BUFFER) else {
         return false;
     };
+    let size = subscriber.it.buffer_size();
     let Err((CloseError::StillInUse, Some(service))) = hub.close(service) else {
         return false;
     };
     match hub.end_subscriber(subscriber) {
-        Ok(()) => hub.close(service).is_ok(),
+        Ok(()) => hub.close(service).is_ok() && size == 1,
         Err(_) => false,
     }
 }
@@ -436,7 +445,7 @@ fn begins_and_ends(alloc: Global, hub: &mut Recorded) -> bool {
 enum Course {
     // Messages go through a service, the first one with these values.
     Messages(&'static [u64]),
-    // Services come and go.
+    // Services are created and removed.
     Services,
 }
 

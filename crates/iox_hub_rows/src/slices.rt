@@ -1,6 +1,6 @@
 //! Messages of slices.
 use crate::custom::make;
-use crate::ports::{meet, must_be_free, must_be_there, sent_to, taken};
+use crate::ports::{is_given_up, meet, must_be_free, must_be_there, sent_to, taken};
 use crate::values::kept_once;
 use iox_delivery::slices::{Publisher, SampleMutUninit, Subscriber};
 use iox_delivery_factories::{
@@ -24,13 +24,13 @@ type Slices = Domain<u64, u8, Nobody, Nobody>;
 
 // One call of a publisher or of a subscriber.
 enum Call {
-    // So many defaults are lent, and given up again.
+    // This many defaults are loaned, and given up again.
     LendsDefaults,
-    // So many values are lent, as the header tells, and given up again.
+    // This many values are loaned, as the header tells, and given up again.
     Lends,
-    // So many values are sent to one mailbox.
+    // This many values are sent to one mailbox.
     Sends,
-    // So many values are received with this number, and released.
+    // This many values are received with this number, and released.
     Receives(u64),
 }
 
@@ -51,7 +51,8 @@ fn agreed() -> StaticConfig {
     agreed
 }
 
-// What makes a publisher of slices of so many values at first, with so many slots as it is decided once. Its first message has number 41.
+// What makes a publisher of slices of this many values at first, with this many slots as it is decided once. Its first message has number
+// 41.
 fn publishers(
     alloc: Global,
     domain: &Slices,
@@ -66,7 +67,7 @@ fn publishers(
     Some(builder)
 }
 
-// Whether the header of a loan names the node and so many values. It is given up again.
+// Whether the header of a loan names the node and this many values. It is dropped again.
 fn tells<T: Copy, U: Copy, H: Home<T, U>>(
     rt: &impl Abort,
     home: &mut H,
@@ -75,11 +76,10 @@ fn tells<T: Copy, U: Copy, H: Home<T, U>>(
 ) -> bool {
     must_be_there(rt, loan.holds(home));
     let header = loan.header(home);
-    loan.drop_with(home);
-    (header.node_id, header.number_of_elements) == (4, len as u64)
+    is_given_up(loan, home) && (header.node_id, header.number_of_elements) == (4, len as u64)
 }
 
-// Whether a call goes so, with these values.
+// Whether a call goes as stated, with these values.
 fn goes<T: Copy + Default + PartialEq, U: Copy, H: Home<T, U>>(
     rt: &impl Abort,
     alloc: Global,
@@ -93,10 +93,7 @@ fn goes<T: Copy + Default + PartialEq, U: Copy, H: Home<T, U>>(
     let len = values.len();
     match *call {
         Call::LendsDefaults => match publisher.loan_slice(alloc, home, len) {
-            Ok(sample) => {
-                sample.drop_with(home);
-                true
-            }
+            Ok(sample) => is_given_up(sample, home),
             Err(_) => false,
         },
         Call::Lends => match publisher.loan_slice_uninit(alloc, home, len) {
@@ -140,7 +137,7 @@ fn converse<
     true
 }
 
-// The same with new ports of a domain, and with so many values.
+// The same with new ports of a domain, and with this many values.
 fn goes_in(rt: &impl Abort, alloc: Global, domain: &mut Slices, len: usize) -> bool {
     let subscribers = subscriber_builder(domain, 4, 3).set_handler(Nobody);
     match (publishers(alloc, domain, len), SEVENS.get(..len)) {
@@ -151,12 +148,69 @@ fn goes_in(rt: &impl Abort, alloc: Global, domain: &mut Slices, len: usize) -> b
     }
 }
 
-// Whether slices of so many values go through a new domain.
+// Whether slices of this many values go through a new domain.
 fn go(rt: &impl Abort, alloc: Global, len: usize) -> bool {
     match make(alloc, agreed()) {
         Some(mut domain) => goes_in(rt, alloc, &mut domain, len),
         None => false,
     }
+}
+
+// Whether a loan that is dropped in another domain comes back, and is then dropped in its own.
+fn loan_comes_back(
+    rt: &impl Abort,
+    alloc: Global,
+    domain: &mut Slices,
+    other: &mut Slices,
+    publisher: Publisher<u64, u8>,
+) -> bool {
+    must_be_free(rt, publisher.holds(domain), publisher.is_blocked(domain));
+    match publisher.loan_slice_uninit(alloc, domain, 1) {
+        Ok(loan) => match loan.drop_with(other) {
+            Ok(()) => false,
+            Err(kept) => is_given_up(kept, domain),
+        },
+        Err(_) => false,
+    }
+}
+
+// Whether a sample that is dropped in another domain comes back, and is then read and released in its own.
+fn sample_comes_back(
+    rt: &impl Abort,
+    alloc: Global,
+    domain: &mut Slices,
+    other: &mut Slices,
+    subscriber: Subscriber<u64, u8>,
+) -> bool {
+    must_be_there(rt, subscriber.holds(domain));
+    match subscriber.receive(alloc, domain) {
+        Ok(Some(sample)) => match sample.drop_with(other) {
+            Ok(()) => false,
+            Err(kept) => taken(rt, domain, kept) == (1, 1, Some(7), Some(41)),
+        },
+        Ok(None) => false,
+        Err(_) => false,
+    }
+}
+
+// Whether what is dropped in another domain comes back.
+fn comes_back(rt: &impl Abort, alloc: Global) -> Option<bool> {
+    let mut domain = make(alloc, agreed())?;
+    let mut other = make(alloc, agreed())?;
+    let subscribers = subscriber_builder(&domain, 4, 3).set_handler(Nobody);
+    let publishers = publishers(alloc, &domain, 1)?;
+    let (publisher, subscriber) = meet(rt, alloc, &mut domain, publishers, subscribers)?;
+    let loan_stays = loan_comes_back(rt, alloc, &mut domain, &mut other, publisher);
+    must_be_free(rt, publisher.holds(&domain), publisher.is_blocked(&domain));
+    let sent = publisher.send_slice(alloc, &mut domain, &[7]);
+    let is_sent = sent_to(sent, &mut domain) == Ok(1);
+    let sample_stays = sample_comes_back(rt, alloc, &mut domain, &mut other, subscriber);
+    Some(loan_stays && is_sent && sample_stays)
+}
+
+#[test]
+fn what_is_dropped_in_another_domain_comes_back(rt: HostRuntime) {
+    assert!(&rt; comes_back(&rt, rt.alloc()) == Some(true));
 }
 
 #[test]

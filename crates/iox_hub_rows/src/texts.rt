@@ -269,7 +269,7 @@ const HANDLE: PortId = PortId {
     number: 3,
 };
 
-/// Whether a handle is shown so.
+/// Whether a handle is shown as stated.
 pub(crate) fn is_shown<E: Debug>(
     alloc: Global,
     handle: &E,

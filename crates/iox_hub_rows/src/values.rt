@@ -1,12 +1,12 @@
-//! What no clause says: the text form, and that an object is asked once, with what was given.
+//! What no contract says: the text form of values, and that an object that is handed in is asked once, with the right arguments.
 ghost use Rattle.std.specs.Prelude.{◌≡◌, ◌≤◌, ◌⊎◌, ⊤};
 ghost use Rattle.iox_domain_values.specs.declared.backpressure.BackpressureAction.TheVariants as action;
 
 use iox_domain_values::{
     BackpressureAction, BackpressureFn, BackpressureHandler, BackpressureInfo,
-    BackpressureStrategy, DegradationAction, DegradationCause, DegradationFn, DegradationHandler,
-    DegradationInfo, Degrades, PreallocatedSamplesFn, PreallocatedSamplesOverride,
-    number_of_places,
+    BackpressureStrategy, BackpressureToReceiverAction, DegradationAction, DegradationCause,
+    DegradationFn, DegradationHandler, DegradationInfo, Degrades, PreallocatedSamplesFn,
+    PreallocatedSamplesOverride, number_of_places,
 };
 use serde_json::Error;
 use std::alloc::{AllocError, Global};
@@ -57,7 +57,7 @@ fn strategies_go_through_their_names(rt: HostRuntime) -> Result<(), Error> {
     all_go_through(&rt, rt.alloc())
 }
 
-// Retries while it is told the number of its calls so far, and fails the send otherwise.
+// Retries while it is given the number of its calls so far, and fails the send otherwise.
 #[derive(Drop)]
 struct Counting {
     calls: Cell<u64>,
@@ -128,7 +128,7 @@ fn new_counting(alloc: Global) -> Result<Box<Counting>, AllocError> {
     Ok(Box::new(alloc, Counting { calls })?)
 }
 
-// Whether a new object is asked once a call, and told how often it was.
+// Whether a new object is asked once in each call, and is given how often it was asked.
 fn is_asked(alloc: Global) -> Result<bool, AllocError> {
     let handler = BackpressureHandler::boxed(new_counting(alloc)?);
     let mut again = BACKPRESSURE;
@@ -146,7 +146,7 @@ fn is_asked(alloc: Global) -> Result<bool, AllocError> {
     )
 }
 
-// Whether a new object is told of the connection.
+// Whether a new object is given the connection.
 fn degrades(alloc: Global) -> Result<bool, AllocError> {
     let handler = DegradationHandler::boxed(new_counting(alloc)?);
     let cause = DegradationCause::FailedToEstablishConnection;
@@ -158,12 +158,12 @@ fn degrades(alloc: Global) -> Result<bool, AllocError> {
     )
 }
 
-/// An object that keeps the number of places the first time that it is asked, and answers a thousandth after that: one place at least.
+/// An object that answers the whole worst case the first time that it is asked, and after that a thousandth of it, but at least one slot.
 pub(crate) fn kept_once(alloc: Global) -> Result<PreallocatedSamplesOverride, AllocError> {
     Ok(PreallocatedSamplesOverride::boxed(new_counting(alloc)?))
 }
 
-// Whether a new object is told of the places.
+// Whether a new object is given the places.
 fn overrides(alloc: Global) -> Result<bool, AllocError> {
     let places = kept_once(alloc)?;
     let answers = [
@@ -179,6 +179,36 @@ fn hold(rt: &impl Abort, answers: &[Result<bool, AllocError>]) -> Result<(), All
         assert!(rt; (*answer)?, "{place}");
     }
     Ok(())
+}
+
+// The action towards the receiver that each action at a full mailbox becomes, if it becomes one.
+const TOLD_AS: [(BackpressureAction, BackpressureToReceiverAction); 4] = [
+    (
+        BackpressureAction::Retry,
+        BackpressureToReceiverAction::Retry,
+    ),
+    (
+        BackpressureAction::DiscardData,
+        BackpressureToReceiverAction::DiscardPointerOffset,
+    ),
+    (
+        BackpressureAction::DiscardDataAndFail,
+        BackpressureToReceiverAction::DiscardPointerOffsetAndFail,
+    ),
+    (
+        BackpressureAction::FollowBackpressureyStrategy,
+        BackpressureToReceiverAction::FollowBackpressureyStrategy,
+    ),
+];
+
+#[test]
+fn each_action_is_told_to_a_connection(rt: HostRuntime) {
+    for row in &TOLD_AS {
+        assert!(rt;
+            BackpressureToReceiverAction::from(row.0) == row.1,
+            "{row:?}"
+        );
+    }
 }
 
 #[test]

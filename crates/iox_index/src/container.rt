@@ -17,7 +17,7 @@ use std::alloc::{AllocError, Global};
 use std::marker::Model;
 
 /// A container of at most `CAPACITY` members, each with its owner. New members get the lowest free index. A place takes memory once it, or
-/// one behind it, had a member.
+/// one after it, had a member.
 ///
 /// Ported from `iceoryx2_bb_lock_free::mpmc::container::FixedSizeContainer`.
 #[derive(Drop)]
@@ -37,7 +37,7 @@ impl<T: Copy, const CAPACITY: usize> Model for FixedSizeContainer<T, CAPACITY> {
 }
 
 impl<T: Copy, const CAPACITY: usize> FixedSizeContainer<T, CAPACITY> {
-    /// A container without members, which `id` distinguishes from other containers. It fails only where an allocation fails.
+    /// A container without members, which `id` distinguishes from other containers. It fails only if an allocation fails.
     pub fn new(alloc: Global, id: u64) -> Result<Self, AllocError>
         ensures { IfOk result (λ container. container ≡ empty_container id CAPACITY) }
     {
@@ -97,7 +97,7 @@ impl<T: Copy, const CAPACITY: usize> FixedSizeContainer<T, CAPACITY> {
         self.container.get(index)
     }
 
-    /// The places up to the last one that ever had a member. The places behind them, up to the capacity, are empty.
+    /// The places up to the last one that ever had a member. The places after them, up to the capacity, are empty.
     pub fn places(&self) -> &[Option<Member<T>>]
         ensures whole { padded (length self.now.members) result.now ≡ self.now.members }
         ensures bound { length result.now ≤ length self.now.members }
@@ -143,7 +143,7 @@ impl<T: Copy, const CAPACITY: usize> FixedSizeContainer<T, CAPACITY> {
         self.container.recover(owner, mode, decide)
     }
 
-    /// Copies the members as they are. It fails only where an allocation fails.
+    /// Copies the members as they are. It fails only if an allocation fails.
     pub fn get_state(&self, alloc: Global) -> Result<ContainerState<T>, AllocError>
         ensures { IfOk result (λ state. state ≡ copy_of self.now) }
     {

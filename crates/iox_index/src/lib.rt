@@ -12,7 +12,7 @@
 //! A first call:
 //!
 //! ```
-//! /// `iox_index`: takes an index, which is then held; None where each is held already, or the set is locked.
+//! /// `iox_index`: acquires an index; None if each index is held already, or the set is locked.
 //! fn taken(set: &mut FixedSizeUniqueIndexSet<8>) -> Option<usize>
 //!     ensures held { IfSome result (λ index. is_held index set.new ≡ true) }
 //!     ensures more { IfSome result (λ index. borrowed set.new ≡ borrowed set.old + 1) }

@@ -31,14 +31,14 @@ impl<const CAPACITY: usize> Model for StaticRobustUniqueIndexSet<CAPACITY> {
 }
 
 impl<const CAPACITY: usize> StaticRobustUniqueIndexSet<CAPACITY> {
-    /// A set of the indices below `CAPACITY`, none of which is held. It fails only where an allocation fails.
+    /// A set of the indices below `CAPACITY`, none of which is held. It fails only if an allocation fails.
     pub fn new(alloc: Global) -> Result<Self, AllocError>
         ensures { IfOk result (λ set. set ≡ new_robust_set CAPACITY) }
     {
         StaticRobustUniqueIndexSet::new_with_reduced_capacity(alloc, CAPACITY)
     }
 
-    /// A set of the indices below `capacity`, which must be at most `CAPACITY`. It fails only where an allocation fails.
+    /// A set of the indices below `capacity`, which must be at most `CAPACITY`. It fails only if an allocation fails.
     pub fn new_with_reduced_capacity(alloc: Global, capacity: usize) -> Result<Self, AllocError>
         requires { capacity ≤ CAPACITY }
         ensures { IfOk result (λ set. set ≡ new_robust_set capacity) }

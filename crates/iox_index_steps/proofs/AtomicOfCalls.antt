@@ -36,7 +36,7 @@ ended_more : (xs ys : List Finished) → spans_ended (xs ++ ys) ≡ spans_ended 
 ended_more [] ys = refl
 ended_more (x ∷ xs) ys = ap (λ (ss : List Span). record { party = x.party; first = x.first; last = x.last } ∷ ss) (ended_more xs ys)
 
--- a call that was begun, or goes on, is under way
+-- a call that was begun, or goes on, is in progress
 begun_busy : (c : Call) → call_is_idle (call_begun c) ≡ false
 begun_busy (call.Store number) = refl
 begun_busy call.Load = refl

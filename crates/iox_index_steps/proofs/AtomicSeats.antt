@@ -1,4 +1,4 @@
--- Where each party stands on a single value, and which calls ended, after one of them went on.
+-- The stage of each party on a single value, and the finished calls, after a party made a step.
 use Rattle.std.proofs.Common.{◌≡◌, ℕ, ◌<◌, ◌≤◌, ⊎_elim, inl, inr, Option, Some, None, List, [], ◌∷◌, ◌++◌, length, set, slice_get}
 use Rattle.std.proofs.Common.{slice_index_or, refl, sym, ◌∙◌, subst, arith, length-append}
 use Rattle.std.specs.Global.{Vec}

@@ -1,4 +1,4 @@
--- The premise on changes of the head stood before a step, where it stands after it.
+-- If the premise on changes of the head is true after a step, it was true before the step.
 use Rattle.std.proofs.Common.{◌≡◌, ℕ, ◌^◌, ◌<◌, ◌≤◌, ⊎_elim, Bool, true, false, if◌then◌else◌, ◌==◌, nat_le, nat_lt, Ok, Err, List, []}
 use Rattle.std.proofs.Common.{◌∷◌, ◌++◌, length, set, drop, sym, subst, arith, append-nil, length-take, take, length-drop}
 use Rattle.std.proofs.Math.Seq.{take-append_seam}
@@ -42,7 +42,7 @@ brief_last : (events : List Event) (finished ended : List Finished) → AreBrief
 brief_last events [] ended brief = brief
 brief_last events (f ∷ finished) ended brief = brief_last events finished ended brief.1
 
--- of a call under way, where fewer steps were made
+-- of a call in progress, where fewer steps were made
 fewer_brief : (c : Call) (xs ys : List Event) → head_changes xs ≤ head_changes ys → IsBrief c ys → IsBrief c xs
 fewer_brief call.Acquire xs ys le brief = omega (arith, le, brief)
 fewer_brief (call.Release index mode) xs ys le brief = tt

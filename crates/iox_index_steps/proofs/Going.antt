@@ -1,4 +1,4 @@
--- A party goes on by one step, wherever its call stands.
+-- A party makes one more step, whatever the stage of its call.
 use Rattle.std.proofs.Common.{◌≡◌, ℕ, ◌-◌, ◌%◌, ◌^◌, ◌<◌, ◌≤◌, Bool, true, false, if◌then◌else◌, ◌==◌, ◌&&◌, not, Some, None, Ok, List}
 use Rattle.std.proofs.Common.{[], ◌∷◌, ◌++◌, length, set, slice_index, drop, refl, sym, ◌∙◌, ap, subst, arith, mod-eq_of_lt}
 use Rattle.std.proofs.lemmas.Bool.{eqb-true}
@@ -51,7 +51,7 @@ looked_still words events first word e unchanged began k = record {
   still = k.still;
 }
 
--- the head that an acquire saw is there: so few changes lie behind the look that none does
+-- the head that an acquire saw is there: so few changes lie after the look that none does
 nothing_since : (words : RingWords) (holders : List _) (events : List Event) (first word : ℕ) → WordsFit words holders events
     → (k : Looked words events first word)
     → head_changes (drop first events) < 2 ^ 16 → words.read ≡ word → k.since ≡ 0

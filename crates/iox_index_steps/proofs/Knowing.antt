@@ -20,7 +20,7 @@ use Rattle.iox_index_steps.specs.declared.call.IndexCall.TheVariants.{Idle, Acqu
 use Rattle.iox_queues.proofs.OwnSteps.{own_else, own_else_since}
 use Rattle.iox_index_steps.proofs.Counts.{more_changes, changes_since}
 
--- what a step of another party leaves to party q: what q holds, with the cells behind, and the head with its cell, unless the head was
+-- what a step of another party leaves to party q: what q holds, with the cells after, and the head with its cell, unless the head was
 -- changed; a locked set
 pub record LeavesToOthers (q : ℕ) (words words' : RingWords) (holders holders' : List (Option ℕ)) (e : Event) : Type 0 where
   pub size : length words'.cells ≡ length words.cells

@@ -33,7 +33,7 @@ ended_more : (xs ys : List Finished) → spans_ended (xs ++ ys) ≡ spans_ended 
 ended_more [] ys = refl
 ended_more (x ∷ xs) ys = ap (λ (ss : List Span). record { party = x.party; first = x.first; last = x.last } ∷ ss) (ended_more xs ys)
 
--- a call that was begun, that saw the head, or that won its exchange or lost it, is under way
+-- a call that was begun, that saw the head, or that won its exchange or lost it, is in progress
 begun_busy : (n : ℕ) (c : Call) → call_is_idle (call_begun n c) ≡ false
 begun_busy n call.Acquire = refl
 begun_busy n (call.Release index mode) = refl

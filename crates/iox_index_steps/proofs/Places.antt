@@ -1,4 +1,4 @@
--- Holders of indices, and the free indices behind one another.
+-- Holders of indices, and the free indices after one another.
 use Rattle.std.proofs.Common.{◌≡◌, ℕ, zero, suc, ◌+◌, ◌<◌, ◌≤◌, Bool, true, false, if◌then◌else◌, ◌==◌, Option, Some, None, List, [], ◌∷◌}
 use Rattle.std.proofs.Common.{length, set, slice_index, refl, sym, ◌∙◌, ap, subst, arith, length-set}
 use Rattle.std.proofs.Math.Seq.{get_or-set_same, get_or-set_other}

@@ -1,4 +1,4 @@
--- Where each party stands, after one of them went on.
+-- The stage of each party after a party made a step.
 use Rattle.std.proofs.Common.{◌≡◌, ℕ, ◌<◌, Option, Some, None, List, length, set, slice_get, slice_index_or, refl, sym, ◌∙◌}
 use Rattle.std.specs.Option.{unwrap_or}
 use Rattle.std.proofs.Math.Seq.{get_or-set_same, get_or-set_other}

@@ -21,7 +21,7 @@ use Rattle.iox_index_steps.proofs.Heads.{taken_free, taken_aba, taken_held, give
 use Rattle.iox_index_steps.proofs.Places.{at_most_one, held_within, is_holder_of, leads_on, leads_within, moves_one, none_taken, not_all}
 use Rattle.iox_index_steps.proofs.Places.{not_holder, one_fewer, one_more, zero_if}
 
--- the head counts its changes, the taken indices or none behind the mark
+-- the head counts its changes, the taken indices or none after the mark
 abbrev pub Counts : ℕ → List (Option ℕ) → Type 0
 Counts word holders = (borrowed_count word ≡ count_taken holders) ⊎ ((borrowed_count word ≡ lock_mark) × (count_taken holders ≡ 0))
 

@@ -23,7 +23,7 @@ pub record HalvesFit (n : ℕ) (words : RingWords) (current put : List ℕ) (mov
   pub shows : (i : ℕ) → i < n → slice_index words.cells (place n (not (fills_second words.write)) i) ≡ slice_index current i
   pub filled : (i : ℕ) → i < length put → slice_index words.cells (place n (fills_second words.write) i) ≡ slice_index put i
 
--- The party's store is in progress, and none of its words waits to become current; a load needs nothing.
+-- For a store: the party's store is the one in progress, and none of its words waits to become current. For a load: nothing.
 abbrev pub HoldsNone : Option ℕ → List ℕ → ℕ → Call → Type 0
 HoldsNone producer put party (call.Store number) = (producer ≡ Some party) × (put ≡ [])
 HoldsNone producer put party call.Load = Unit {0}

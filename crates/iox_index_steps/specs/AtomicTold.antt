@@ -107,7 +107,7 @@ Tells values party first events (call.Store number) =
     MadeCurrent (table_value values 0) party first (table_value values number) events
 Tells values party first events call.Load = SawCurrent (table_value values 0) party first events
 
--- Each finished call did this.
+-- Each finished call did what `Tells` says of it.
 abbrev pub AreTold : List (Vec ℕ) → List Event → List Finished → Type 0
 AreTold values events [] = Unit {0}
 AreTold values events (f ∷ finished) =

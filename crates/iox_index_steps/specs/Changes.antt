@@ -19,7 +19,8 @@ changed_by (Exchange Read old new) answer = if answer == old then 1 else 0
 changed_by (Exchange (Cell place) old new) answer = 0
 changed_by Local answer = 0
 
--- Whether the step took index `i`, as 1 or 0: it changed the head, one more index is held after it, and `i` was the next free one.
+-- Whether the step took index `i`, as 1 or 0: it changed the head, one more index is held after it, and `i` was the next free index
+-- before it.
 abbrev pub took_by : ℕ → Access → ℕ → ℕ
 took_by i (Load word) answer = 0
 took_by i (Store word value) answer = 0
@@ -29,7 +30,8 @@ took_by i (Exchange Read old new) answer =
 took_by i (Exchange (Cell place) old new) answer = 0
 took_by i Local answer = 0
 
--- Whether the step released index `i`, as 1 or 0: it changed the head without holding more, and `i` is the next free one after it.
+-- Whether the step released index `i`, as 1 or 0: it changed the head, no more indices are held after it, and `i` is the next free
+-- index then.
 abbrev pub gave_by : ℕ → Access → ℕ → ℕ
 gave_by i (Load word) answer = 0
 gave_by i (Store word value) answer = 0

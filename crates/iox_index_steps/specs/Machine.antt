@@ -24,8 +24,8 @@ use Rattle.iox_index_steps.specs.declared.machine.Move.{Move}
 use Rattle.iox_index_steps.specs.declared.machine.Move.TheVariants.{Begin, GoOn}
 use Rattle.iox_index_steps.specs.declared.state.Seat.{Seat}
 
--- The state: the words, the stage of each party, the party that took each held index, the steps made, and the finished calls. The read
--- position stores the head; the cell of an index names the index that is free behind it.
+-- The state: the words, the stage of each party, the party that took each held index, the steps made, and the finished calls. The
+-- read position stores the head; the cell of an index names the index that is free after it.
 pub record IndexSetState : Type 0 where
   pub words : RingWords
   pub seats : List Seat
@@ -189,7 +189,7 @@ pub record IsOrderly (m : IndexSetState) : Type 0 where
 abbrev pub StaysLocked : IndexSetState → IndexSetState → Type 0
 StaysLocked m n = is_locked m ≡ true → is_locked n ≡ true
 
--- The words of a set without a held index: each index is free, with the next one behind it.
+-- The words of a set without a held index: each index is free, and leads to the next one.
 abbrev pub start_words : ℕ → RingWords
 start_words capacity = record {
   cells = range_with_len 1 capacity;

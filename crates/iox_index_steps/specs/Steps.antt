@@ -31,7 +31,7 @@ lock_mark = 2 ^ 24 - 1
 abbrev pub is_locked_by : ℕ → ℕ → Bool
 is_locked_by capacity word = nat_lt (next_free word) capacity && (borrowed_count word == lock_mark)
 
--- The head after its next free index is taken, behind which `next` is free.
+-- The head after its next free index is taken; from then on `next` is the next free index.
 abbrev pub head_taken : ℕ → ℕ → ℕ
 head_taken word next = word_of_head (head_after_acquire (next % 2 ^ 24) (head_of_word word))
 

@@ -57,8 +57,8 @@ abbrev pub TakesTurns : ℕ → List Event → Type 0
 TakesTurns i events =
     (times_given i events ≤ times_taken i events) × (times_taken i events ≤ times_given i events + 1)
 
--- When the party last read the head, each of `n` indices was taken: once more often taken than released. From its acquire to its release,
--- an index is being taken, held, or being released.
+-- When the party last read the head, each of `n` indices was taken: it had been taken once more often than released. From its acquire
+-- to its release, an index is being taken, held, or being released.
 pub record SawAllOut (n party first : ℕ) (events : List Event) : Type 0 where
   pub before : List Event
   pub look : Event
@@ -107,12 +107,12 @@ abbrev pub has_locked : Call → Answer → Bool
 has_locked (call.Release index LockIfLastIndex) (Released Locked) = true
 has_locked other answer = false
 
--- Whether one of these calls is such a release.
+-- Whether one of these calls is a release that was to lock the set and did.
 abbrev pub some_has_locked : List Finished → Bool
 some_has_locked [] = false
 some_has_locked (f ∷ finished) = has_locked f.call f.answer || some_has_locked finished
 
--- Whether a call in progress is such a release that has its result.
+-- Whether a call in progress is a release that was to lock the set, and has the result that it did.
 abbrev pub is_locking : IndexCall → Bool
 is_locking Idle = false
 is_locking (Acquire capacity) = false

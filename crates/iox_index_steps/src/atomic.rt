@@ -63,7 +63,7 @@ impl AtomicMachine {
     ghost use Rattle.iox_index_steps.specs.AtomicMachine.{RunsTo, TellsStep, start};
 
     /// A machine in which the first of these values is current, and this many parties may call. If `values` is empty, the value has no
-    /// words. It fails only where an allocation fails.
+    /// words. It fails only if an allocation fails.
     pub fn new(
         alloc: Global,
         values: Vec<Vec<u64>>,

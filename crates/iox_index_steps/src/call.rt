@@ -37,7 +37,7 @@ pub enum IndexCall {
     Acquire {
         capacity: u64,
     },
-    /// The acquire has read this head, and loads the index that is free behind the next free one.
+    /// The acquire has read this head, and loads the cell of the next free index, which names the free index after it.
     Follow {
         capacity: u64,
         word: u64,
@@ -53,7 +53,7 @@ pub enum IndexCall {
         index: u32,
         mode: ReleaseMode,
     },
-    /// The release has read this head, and stores that its next free index is free behind the released one.
+    /// The release has read this head, and stores its next free index in the cell of the released index.
     Link {
         index: u32,
         mode: ReleaseMode,

@@ -1,7 +1,7 @@
 //! Index sets, and a single value, which are accessed one word at a time.
 //!
 //! The head of a set is one word: the next free index, a count of its changes, and how many indices are held (`HeadDetails`). Each index
-//! has a cell that names the index that is free behind it. Any number of parties acquire and release indices, one access at a time.
+//! has a cell that names the index that is free after it. Any number of parties acquire and release indices, one access at a time.
 //!
 //! - [`call`]: the accesses of a call, independent of any set.
 //! - [`machine`]: a set with its parties, whose steps are made in any order.
@@ -10,8 +10,8 @@
 //! A first call:
 //!
 //! ```
-//! /// `iox_index_steps`: a new set of eight indices on which the parties made these steps. Where fewer than 2^16 changes of the head lie
-//! /// inside each acquire, no index has two holders, and an acquire took just the index that it answers.
+//! /// `iox_index_steps`: a new set of eight indices on which the parties made these steps. If the head changes fewer than 2^16 times
+//! /// within each acquire, no index has two holders, and an acquire took exactly the index that it returns.
 //! fn ran(
 //!     alloc: Global,
 //!     parties: usize,

@@ -64,7 +64,7 @@ impl IndexSetMachine {
     ghost use Rattle.iox_index_steps.specs.OfCalls.{StepsAreOfCalls, TellsStep};
 
     /// A set of this many indices, none of which is held, with this many parties. There must be fewer than 2^24 indices, since a head can't
-    /// store more. It fails only where an allocation fails.
+    /// store more. It fails only if an allocation fails.
     pub fn new(
         alloc: Global,
         capacity: usize,

@@ -245,7 +245,7 @@ fn put(holders: &mut Vec<Option<usize>>, index: u32, holder: Option<usize>)
     }
 }
 
-// The initial links: behind each index the next one is free.
+// The initial links: each index leads to the next one.
 fn links(alloc: Global, capacity: usize) -> Result<Vec<u64>, AllocError>
     requires { capacity < 2 ^ 24 }
     ensures { IfOk result (λ links. links.items ≡ range_with_len 1 capacity) }

@@ -1,4 +1,4 @@
--- Messages of which no two stand in one slot: each may be found behind those before it.
+-- Messages of which no two stand in one slot: each may be found after those before it.
 use Rattle.std.proofs.Common.{arith, ℕ, zero, suc, ◌≡◌, ◌+◌, ◌<◌, ◌==◌, false, List, [], ◌∷◌, ◌++◌, length, map}
 use Rattle.std.proofs.Common.{slice_get, option_map, Option, None, Some, refl, sym, ap, ◌∙◌, inl, inr}
 use Rattle.std.proofs.lemmas.Bool.{eqb-false}

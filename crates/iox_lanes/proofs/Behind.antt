@@ -1,4 +1,4 @@
--- Lanes behind what they found, one after the other.
+-- Lanes after what they found, one after the other.
 use Rattle.std.proofs.Common.{ℕ, zero, suc, ◌≡◌, ◌+◌, ◌++◌, Bool, true, false, List, [], ◌∷◌, map, take, flat_map, slice_get, Some, None}
 use Rattle.std.proofs.Common.{refl, sym, ap, ◌∙◌, arith, append_assoc, Option}
 use Rattle.std.proofs.lemmas.Bool.{cond-true, cond-false}
@@ -15,7 +15,7 @@ use Rattle.iox_lanes.specs.Behind.{behind_findings, behind_finding}
 use Rattle.iox_lanes.specs.Laid.{flat_listed, header_findings, message_findings, payload_findings, slot_in, value_findings, words_findings}
 use Rattle.iox_lanes.specs.Spelling.{Spelling}
 
--- what is found, or not, leaves the lanes behind it
+-- what is found, or not, leaves the lanes after it
 pub found_behind : (m : World) (f : Found) (answer : Bool) (n : World) → FindsTo m f answer n → n ≡ behind_finding m f
 unfolding behind_finding
 found_behind m f true n is = is.1 ∙ sym (cond-true (finds m f) (with_found m f) m is.0)
@@ -26,7 +26,7 @@ pub behind_none : (m : World) → behind_findings m [] ≡ m
 unfolding behind_findings
 behind_none m = refl
 
--- a list behind another
+-- a list after another
 pub behind_both : (m : World) (fs gs : List Found) → behind_findings m (fs ++ gs) ≡ behind_findings (behind_findings m fs) gs
 unfolding behind_findings
 behind_both m [] gs = refl

@@ -1,4 +1,4 @@
--- What stands in the history of a publisher of lanes behind what they find.
+-- What stands in the history of a publisher of lanes after what they find.
 use Rattle.std.proofs.Common.{arith, ℕ, zero, suc, ◌≡◌, ◌+◌, ◌<◌, ◌≤◌, ◌==◌, true, List, [], ◌∷◌, ◌++◌, length, map, slice_get}
 use Rattle.std.proofs.Common.{None, Some, refl, sym, ap, ◌∙◌, subst, inl, inr, append_assoc, length-append}
 use Rattle.std.proofs.lemmas.Bool.Decides.{eqb_tells}
@@ -42,7 +42,7 @@ abbrev pub LeavesBook : ℕ → Found → Type 0
 LeavesBook who f = (new_slots f who ≡ None) × (more_history f who ≡ [])
 
 module _ (table : TableSizes) (who first size kept : ℕ) where
-  -- a publisher of lanes with so many slots from this one on, and with these in its history, of so many that may be there
+  -- a publisher of lanes with n slots from this one on, and with these in its history, which may have m
   pub record IsBooked (history : List ℕ) (m : World) : Type 0 where
     pub steady : AreSteady table m
     pub lane : PublisherLaneState

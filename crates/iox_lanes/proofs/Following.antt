@@ -24,7 +24,7 @@ counted_more (value ∷ rest) (suc k) =
     let shorter = counted_cons value (take k rest) in
     omega (arith, more, longer, shorter)
 
--- the next key's connection has its route at the place behind those of the keys before it
+-- the next key's connection has its route at the place after those of the keys before it
 pub follows_next : (lanes : World) (publishers : List ℕ) (subscriber : ℕ) (values : List (Option Attached)) (routes : List Route)
     (key at next : ℕ) → at ≡ count_by is_some (take key values)
     → next ≡ at + cond (is_some (get_or values key None)) 1 0 → next ≡ count_by is_some (take (key + 1) values)

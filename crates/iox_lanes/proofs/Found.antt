@@ -25,7 +25,7 @@ pub was_made : (sizes : LaneSizes) (m : World) → 0 < sizes.buffer → sizes.bu
 was_made sizes m some buffer borrowed ports is
     = record { was = record { some = some; ports = ports; small = omega (arith, buffer, borrowed); found = []; finds = is }; none = tt }
 
--- one more behind a list of findings
+-- one more after a list of findings
 one_more : (s : World) (fs : List Found) (m : World) (f : Found) → AreFound s fs m → finds m f ≡ true
     → AreFound s (fs ++ f ∷ []) (with_found m f)
 one_more s [] m f h fit = subst (λ (x : World). (finds x f ≡ true) × (with_found m f ≡ with_found x f)) h (fit, refl)

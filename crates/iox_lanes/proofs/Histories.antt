@@ -115,7 +115,7 @@ module _ {T U X Y D : Type 0} {F : X → Type 0} {G : Y → Type 0} (spelling : 
     within : place < length publishers
     within = slice_get_within publishers place number listed
 
-    -- lanes behind the first publishers, so many: if this one is among them, its history is the domain's, and so is what waits at its
+    -- lanes after the first n publishers: if this one is among them, its history is the domain's, and so is what waits at its
     -- connections; if it isn't, nothing waits there
     record IsBookedTo (m : World) (reached : ℕ) : Type 0 where
       pub steady : AreSteady table m
@@ -232,7 +232,7 @@ module _ {T U X Y D : Type 0} {F : X → Type 0} {G : Y → Type 0} (spelling : 
         ((built.alone place number port listed found_port).waiting other below at message there).inside)
         (slots_apart (at_tie other).waiting (place * width) mail.once) (omega (arith, mail.few)) mail.small begun)
 
-    -- of the first so many connections, this one has what waits if it is among them
+    -- of the first n connections, this one has what waits if it is among them
     record IsLinkedTo (other : ℕ) (below : other < length subscribers) (m : World) (reached : ℕ) : Type 0 where
       pub before : reached ≤ other → BothAt other below [] ((built.sized).sizes).buffer m
       pub behind : other < reached → BothAt other below (mail_slots other) (at_tie other).limit m

@@ -147,7 +147,7 @@ module _ {T U : Type 0} (reading : ReadingBack T U) (spelling : Spelling T U) (p
     rest = λ number beyond. refl;
   }
 
-  -- behind the last
+  -- after the last
   pub all_left : (now : List (ℕ × PublisherPort T U)) (count : ℕ) → length senders ≤ count
       → LeftSoFar reading lanes senders readers indices start now count
       → ArePortsLeft reading lanes senders readers indices start now

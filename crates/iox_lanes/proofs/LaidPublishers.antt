@@ -1,4 +1,4 @@
--- Lanes behind what they found of publisher after publisher.
+-- Lanes after what they found of publisher after publisher.
 use Rattle.std.proofs.Common.{ℕ, suc, ◌≡◌, ◌+◌, List, length, slice_get, slice_index, Some, sym, ap, ◌∙◌, arith}
 use Rattle.iox_domain.specs.DomainPorts.Publishers.{port_of}
 use Rattle.iox_domain.specs.DomainPorts.declared.publisher_port.PublisherPort.{PublisherPort}

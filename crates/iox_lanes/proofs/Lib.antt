@@ -36,3 +36,7 @@ pub mod Presence
 mod Rows
 pub mod Tied
 pub mod Forgetting
+pub mod Missing
+pub mod HeldByNone
+pub mod Abandoned
+pub mod ReadWhole

@@ -1,4 +1,4 @@
--- What waits at a connection of lanes, and how much may, behind what they find.
+-- What waits at a connection of lanes, and how much may, after what they find.
 use Rattle.std.proofs.Common.{arith, ℕ, zero, suc, ◌≡◌, ◌+◌, ◌*◌, ◌<◌, ◌≤◌, ◌==◌, true, false, List, [], ◌∷◌, ◌++◌, length, map, slice_get}
 use Rattle.std.proofs.Common.{Option, None, Some, refl, sym, ap, ◌∙◌, subst, append_assoc, length-append}
 use Rattle.std.proofs.lemmas.Option.{slice_get_within}
@@ -35,7 +35,7 @@ use Rattle.iox_lanes.proofs.Moving.{behind_by, behind_fits}
 use Rattle.iox_lanes.proofs.Placing.{rows_apart}
 use Rattle.iox_lanes.proofs.Wording.{accepted, steady_on, taken_in, AreSteady}
 
--- each publisher has so many connections, the one at a place under the number of its place, publisher by publisher
+-- each publisher has n connections, the one at a place under the number of its place, publisher by publisher
 pub record RoutesLead (readers : ℕ) (m : World) : Type 0 where
   pub many : (who : ℕ) (lane : PublisherLaneState) → slice_get m.publishers who ≡ Some lane → length lane.port.routes ≡ readers
   pub lead : (who place : ℕ) (lane : PublisherLaneState) (route : Route) → slice_get m.publishers who ≡ Some lane
@@ -87,7 +87,7 @@ module _ (sizes : LaneSizes) (who other : ℕ) where
   abbrev pub connection : ℕ
   connection = who * sizes.subscribers + other
 
-  -- a connection of lanes at which these slots wait, of so many that may, and to which nothing was given back
+  -- a connection of lanes at which these slots wait, of n that may, and to which nothing was given back
   pub record IsLinked (waiting : List ℕ) (limit : ℕ) (m : World) : Type 0 where
     pub steady : AreSteady (table_sizes sizes) m
     pub leads : RoutesLead sizes.subscribers m

@@ -145,7 +145,7 @@ others_same m f other apart = elim (moved m f) [
   | inr goes ↦ ap (λ xs. slice_get xs other) goes.4 ∙ set_other m.publishers (who_of f) other goes.1 (apart goes.0 goes.1 goes.3)
 ]
 
--- what holds of lanes, and of them with a finding that may be found, holds behind it
+-- what holds of lanes, and of them with a finding that may be found, holds after it
 pub behind_by : (P : World → Type 0) (m : World) (f : Found) → P m → (finds m f ≡ true → P (with_found m f)) → P (behind_finding m f)
 unfolding behind_finding
 behind_by P m f was now = by (finds m f) refl

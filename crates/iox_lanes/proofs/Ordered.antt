@@ -1,4 +1,4 @@
--- Lanes behind the order of one connection after the other.
+-- Lanes after the order of one connection after the other.
 use Rattle.std.proofs.Common.{arith, ℕ, zero, suc, ◌≡◌, ◌+◌, ◌-◌, ◌≤◌, is_some, count_by, List, take, length, get_or, slice_get, Option}
 use Rattle.std.proofs.Common.{None, sym, ap, ◌∙◌}
 use Rattle.iox_domain.specs.DomainPorts.declared.attached.Attached.{Attached}
@@ -22,7 +22,7 @@ module _ (publishers : List ℕ) (subscriber : ℕ) (values : List (Option Attac
       ap (keys_behind publishers subscriber values m) next ∙ none_behind (reached + more) (none (reached + more) (omega arith)) ∙
       more_keys reached more none
 
-  -- so it is of all keys, where those behind the reached ones have none
+  -- so it is of all keys, where those after the reached ones have none
   pub all_keys : (now : World) (reached : ℕ) → ((key : ℕ) → reached ≤ key → get_or values key None ≡ None) → reached ≤ length values
       → now ≡ keys_behind publishers subscriber values m reached
       → now ≡ keys_behind publishers subscriber values m (length values)

@@ -78,7 +78,7 @@ count_reached (Some y ∷ rest) (suc limit) (suc n) less =
     let later = count_reached rest limit n (omega (arith, less, count_some y rest limit)) in
     (suc later.0, later.1, omega (arith, later.2), later.3, count_some y rest later.0 ∙ omega (arith, later.4))
 
--- a place that passes is, or comes behind, the first that does
+-- a place that passes is, or comes after, the first that does
 some_position : {X : Type 0} (test : X → Bool) (xs : List X) (at : ℕ) (x : X) → slice_get xs at ≡ Some x → test x ≡ true
     → (from : ℕ) × (y : X) × (position test xs ≡ Some from) × (slice_get xs from ≡ Some y) × (test y ≡ true)
 some_position {X} test xs at x there passes = (
@@ -119,7 +119,7 @@ module _ (table : TableSizes) (publishers : List ℕ) (readers who : ℕ) (lanes
     abbrev before : ℕ → ℕ
     before key = count_by is_some (take key values)
 
-    -- the first keys, so many, have their connections in their order
+    -- the first n keys have their connections in their order
     abbrev FollowTo : List Route → ℕ → Type 0
     FollowTo routes reached = (key : ℕ) → key < reached
         → IsRouteIf lanes publishers who (attached_at key port) (slice_get routes (before key))

@@ -130,7 +130,7 @@ module _ {T U X Y D : Type 0} {F : X → Type 0} {G : Y → Type 0} (spelling : 
   abbrev pub tie_at : PublisherPort T U → ℕ → ℕ
   tie_at port other = tie_for port (subscriber_of (slice_index subscribers other) domain.state.ports.subscribers)
 
-  -- the lanes behind the first publishers, so many
+  -- the lanes after the first n publishers
   abbrev pub so_far : ℕ → World
   so_far count = found_at spelling domain publishers subscribers lanes built count
 
@@ -283,7 +283,7 @@ module _ {T U X Y D : Type 0} {F : X → Type 0} {G : Y → Type 0} (spelling : 
               (message_findings spelling (place * width) port message)
               (found.Waiting place waits.0 slot ∷ []) in_words)))) agree.1 (steady_behind table m kept steady)
 
-      -- lanes behind the first publishers, so many: if the message's own is among them, its slot holds the word
+      -- lanes after the first n publishers: if the message's own is among them, its slot holds the word
       record AreLaidTo (m : World) (count : ℕ) : Type 0 where
         pub steady : AreSteady table m
         pub holds : place < count → held_by m.table (Slot slot word) ≡ content word

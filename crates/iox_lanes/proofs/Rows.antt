@@ -16,7 +16,7 @@ earlier_row count place at before added long below =
     let room : count ≤ length (drop (at * count) before) = omega (arith, past, long, length-drop (at * count) before) in
     ap (take count) (drop-append-le (at * count) before added start) ∙ take-append-le count (drop (at * count) before) added room
 
--- and is the one behind them
+-- and is the one after them
 last_row : (count place : ℕ) (before added : List ℕ) → length before ≡ place * count → length added ≡ count
     → row_of count (before ++ added) place ≡ added
 last_row count place before added long wide =

@@ -125,7 +125,7 @@ module _ {T U : Type 0} (spelling : Spelling T U) (place first : ℕ) (port : Pu
       (history_findings spelling place first port port.sender.uses.history) m all.0
       (record { moments = refl; says = refl; others = λ other apart. refl }))
 
--- lanes behind a publisher's slots, loans, node and number
+-- lanes after a publisher's slots, loans, node and number
 pub record Introduced {T U : Type 0} (sizes : LaneSizes) (m : World) (place : ℕ) (fails : Bool) (port : PublisherPort T U) (n : World) :
     Type 0 where
   pub moments : n.moments ≡ 0
@@ -212,7 +212,7 @@ module _ {T U X Y D : Type 0} {F : X → Type 0} {G : Y → Type 0} (spelling : 
   abbrev fails_at : ℕ → Bool
   fails_at place = would_fail (kept_under (slice_index publishers place) domain.state.publisher_handlers)
 
-  -- lanes behind the first so many publishers
+  -- lanes after the first n publishers
   abbrev pub lanes_at : ℕ → World
   lanes_at count = publishers_behind spelling domain publishers subscribers (start sizes) count
 

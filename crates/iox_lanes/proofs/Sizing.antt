@@ -173,7 +173,7 @@ some_mapped : (at : Option PublisherLaneState) (slots : FixedSlots) → option_m
 some_mapped None slots h = absurd (cc)
 some_mapped (Some lane) slots h = (lane, refl, ap (λ (o : Option FixedSlots). unwrap_or o slots) h)
 
--- a publisher keeps as many messages behind steps as before
+-- a publisher keeps as many messages after steps as before
 kept_on : (m n : World) (place : ℕ) (lane : PublisherLaneState) (most : ℕ) → StaysFixed m n → slice_get n.publishers place ≡ Some lane
     → ((was : PublisherLaneState) → slice_get m.publishers place ≡ Some was → was.port.book.kept ≡ most) → lane.port.book.kept ≡ most
 kept_on m n place lane most stays found kept =

@@ -1,4 +1,4 @@
--- What a slot of lanes holds behind what they find, where each thing that is found of it agrees.
+-- What a slot of lanes holds after what they find, where each thing that is found of it agrees.
 use Rattle.std.proofs.Common.{ℕ, ◌≡◌, ◌⊎◌, Bool, true, false, List, [], ◌∷◌, refl, sym, ◌∙◌, ap, subst, inl, inr}
 use Rattle.std.proofs.lemmas.Bool.Decides.{eqb_tells}
 use Rattle.iox_lanes_machine.specs.LanesBase.Numbers.{IsWord}
@@ -123,7 +123,7 @@ module _ (sizes : TableSizes) (slot : ℕ) (content : SlotWord → ℕ) (word : 
   held_on m n (found.Swapped subscriber one other) agrees steady taken holds
       = untouched m n (found.Swapped subscriber one other) steady taken (λ given is. absurd (cc is)) holds
 
-  -- it holds it behind a finding that agrees
+  -- it holds it after a finding that agrees
   pub hold_on : (m : World) (f : Found) → Agrees slot content f → Hold m → Hold (behind_finding m f)
   hold_on m f agrees hold = record {
     steady = steady_on sizes m f hold.steady;
@@ -131,7 +131,7 @@ module _ (sizes : TableSizes) (slot : ℕ) (content : SlotWord → ℕ) (word : 
         (λ fits. held_on m (with_found m f) f agrees hold.steady (taken_in m f fits (hold.steady).kept) hold.holds);
   }
 
-  -- and behind those of a list
+  -- and after those of a list
   pub hold_behind : (m : World) (fs : List Found) → Each (Agrees slot content) fs → Hold m → Hold (behind_findings m fs)
   hold_behind m fs agree hold = each_leaves (Agrees slot content) Hold hold_on fs m agree hold
 
@@ -145,7 +145,7 @@ module _ (sizes : TableSizes) (slot : ℕ) (content : SlotWord → ℕ) (word : 
             ∙ (taken_in m (found.Held slot word (content word)) fits steady.kept).word slot word (content word) refl;
       }
 
-  -- it comes to hold it behind those of a list of which one says so
+  -- it comes to hold it after those of a list of which one says so
   pub comes_behind : (m : World) (fs : List Found) → IsIn (found.Held slot word (content word)) fs → Each (Agrees slot content) fs
       → AreSteady sizes m → Hold (behind_findings m fs)
   unfolding behind_findings

@@ -1,4 +1,4 @@
--- Lanes after what they found.
+-- Lanes after they found something.
 use Rattle.std.specs.Prelude.{if◌then◌else◌, List, [], ◌∷◌}
 use Rattle.iox_lanes_machine.specs.Findings.{finds, with_found}
 use Rattle.iox_lanes_machine.specs.World.{World}

@@ -35,8 +35,9 @@ domain_behind spelling domain publishers subscribers m =
     readers_behind publishers domain.state.ports.subscribers subscribers
     (publishers_behind spelling domain publishers subscribers m (length publishers)) (length subscribers)
 
--- The lanes of a domain are those made of the agreed sizes, with as many slots for each publisher as the publisher that has most, after
--- they found all that the domain has. There are fewer than 2^64 words, and each message that was found is alone in its slot.
+-- The lanes of a domain were made of the agreed sizes and then found all that the domain has. Each publisher of the lanes has the largest
+-- number of slots that any of the domain's publishers has. There are fewer than 2^64 words, and each message that was found is alone in its
+-- slot.
 pub record AreBuilt {T U X Y D : Type 0} {F : X → Type 0} {G : Y → Type 0} (spelling : Spelling T U)
     (domain : Domain T U (Handlers X Y F G) D) (publishers subscribers : List ℕ) (lanes : World) : Type 0 where
   pub sized : AreSized domain.state.ports.sizes (length publishers) (length subscribers) spelling.payload_count spelling.middle_count lanes

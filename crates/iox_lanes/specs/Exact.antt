@@ -13,12 +13,12 @@ abbrev pub largest : (ℕ → ℕ) → ℕ → ℕ
 largest f zero = 0
 largest f (suc count) = max (f count) (largest f count)
 
--- How many loans the publisher, if there is one, may have out; otherwise 0.
+-- The publisher's loan limit, if there is a publisher; otherwise 0.
 abbrev pub loans_if : {T U : Type 0} → Option (PublisherPort T U) → ℕ
 loans_if None = 0
 loans_if (Some port) = port.sender.uses.most_loans
 
--- The most loans that any of the publishers with these numbers may have out.
+-- The largest loan limit of the publishers with these numbers.
 abbrev pub most_loans_of : {T U : Type 0} → List (ℕ × PublisherPort T U) → List ℕ → ℕ
 most_loans_of ports numbers = largest (λ place. loans_if (port_of (slice_index numbers place) ports)) (length numbers)
 
@@ -26,9 +26,9 @@ most_loans_of ports numbers = largest (λ place. loans_if (port_of (slice_index 
 abbrev pub most_slots_of : {T U : Type 0} → List (ℕ × PublisherPort T U) → List ℕ → ℕ
 most_slots_of ports numbers = largest (λ place. slots_if (port_of (slice_index numbers place) ports)) (length numbers)
 
--- The sizes of the lanes for the publishers with these numbers and this many subscribers: kind of ring, buffer size, borrow limit and
--- history size as agreed; as many loans and slots for each publisher as the one that has most; and payloads and user headers with these
--- numbers of words.
+-- The sizes of the lanes for the publishers with these numbers and this many subscribers. The kind of ring, buffer size, borrow limit and
+-- history size are the agreed ones. The loan limit and the number of slots are the largest that one of these publishers has. Payloads and
+-- user headers have these numbers of words.
 abbrev pub sizes_for : {T U : Type 0} → ℕ → ℕ → ServicePorts T U → List ℕ → ℕ → LaneSizes
 sizes_for payload_count header_count ports publishers subscribers = record {
   publishers = length publishers;

@@ -26,7 +26,7 @@ numbers_of number [] = []
 numbers_of number (None ∷ rest) = numbers_of number rest
 numbers_of number (Some member ∷ rest) = number member.value ∷ numbers_of number rest
 
--- The kind of ring that overflows or refuses, as `true` or `false` says.
+-- The kind of a ring: overflowing for `true`, refusing for `false`.
 abbrev pub kind_of : Bool → RingKind
 kind_of true = kind.Overflowing
 kind_of false = kind.Refusing
@@ -54,8 +54,8 @@ abbrev pub IsNamedIf : {T U : Type 0} → PublisherPort T U → Option (List ℕ
 IsNamedIf port None = Unit {0}
 IsNamedIf port (Some head) = IsNamed port head
 
--- The lane is that of the publisher: it has as many slots and loans, its history, headers with its node and number, and the same last
--- sequence number.
+-- The lane represents the publisher: it has the publisher's number of slots, loan limit, history and last sequence number, and its headers
+-- name the publisher's node and number.
 pub record IsLaneOf {T U : Type 0} (spelling : Spelling T U) (table : TableWords) (port : PublisherPort T U) (lane : PublisherLaneState)
     : Type 0 where
   pub slots : length lane.port.book.loans ≡ port.sender.uses.first + port.sender.uses.size
@@ -64,7 +64,7 @@ pub record IsLaneOf {T U : Type 0} (spelling : Spelling T U) (table : TableWords
   pub named : (at : ℕ) → IsNamedIf port (slice_get lane.heads at)
   pub last : lane.last ≡ port.last_sequence
 
--- Both the publisher and the lane exist, and the lane is that of the publisher.
+-- Both the publisher and the lane exist, and the lane represents the publisher.
 abbrev pub IsLaneIf : {T U : Type 0} → Spelling T U → TableWords → Option (PublisherPort T U) → Option PublisherLaneState → Type 0
 IsLaneIf spelling table None lane = ⊥
 IsLaneIf spelling table (Some port) None = ⊥
@@ -76,25 +76,27 @@ KeepsIf None lane = ⊥
 KeepsIf (Some port) None = ⊥
 KeepsIf (Some port) (Some lane) = AreSlotsOf lane.port.book.first lane.port.book.history port.sender.uses.history
 
--- The publisher at this place of the lanes has the history slots of the domain's publisher whose number is at this place.
+-- The publisher at this place of the lanes has the history slots of the domain's publisher whose number is listed in `publishers` at the
+-- same place.
 abbrev pub SenderKeeps : {T U B D : Type 0} → Domain T U B D → World → List ℕ → ℕ → Type 0
 SenderKeeps domain lanes publishers place =
     KeepsIf (port_if domain.state.ports.publishers (slice_get publishers place)) (slice_get lanes.publishers place)
 
--- The publisher at this place of the lanes is the domain's publisher whose number is at this place.
+-- The publisher at this place of the lanes represents the domain's publisher whose number is listed in `publishers` at the same place.
 abbrev pub SenderHolds : {T U B D : Type 0} → Spelling T U → Domain T U B D → World → List ℕ → ℕ → Type 0
 SenderHolds spelling domain lanes publishers place =
     IsLaneIf spelling lanes.table (port_if domain.state.ports.publishers (slice_get publishers place)) (slice_get lanes.publishers place)
 
--- The link is the publisher's connection to which the subscriber's place is tied: as many messages may wait there, and the same messages
--- do.
+-- The link represents the publisher's connection to which the subscriber's place is tied: both have the same maximum number of waiting
+-- messages, and the same messages wait in both.
 pub record IsLinkOf {T U : Type 0} (spelling : Spelling T U) (table : TableWords) (port : PublisherPort T U) (reader : SubscriberPort)
     (first index : ℕ) (link : LinkState) : Type 0 where
   pub tie : get_or port.ties.items reader.place None ≡ Some index
   pub limit : link.limit ≡ (connection_of index port).limit
   pub waiting : AreLaid spelling table first port link.found (connection_of index port).waiting
 
--- Publisher, subscriber, lane, index and link all exist, and the link is the publisher's connection with this index to the subscriber.
+-- Publisher, subscriber, lane, index and link all exist, and the link represents the publisher's connection with this index to the
+-- subscriber.
 abbrev pub IsLinkIf : {T U : Type 0} → Spelling T U → TableWords → Option (PublisherPort T U) → Option SubscriberPort
     → Option PublisherLaneState → Option ℕ → Option LinkState → Type 0
 IsLinkIf spelling table None reader lane index link = ⊥
@@ -105,15 +107,15 @@ IsLinkIf spelling table (Some port) (Some reader) (Some lane) (Some index) None 
 IsLinkIf spelling table (Some port) (Some reader) (Some lane) (Some index) (Some link) =
     IsLinkOf spelling table port reader lane.port.book.first index link
 
--- The link, if there is one, leads from this publisher's place to this subscriber's, and its ring overflows or refuses as the first
--- argument says.
+-- The link, if there is one, leads from this publisher's place to this subscriber's, and its ring overflows exactly if the first argument
+-- is `true`.
 abbrev pub Leads : Bool → ℕ → ℕ → Option LinkState → Type 0
 Leads overflows publisher subscriber None = Unit {0}
 Leads overflows publisher subscriber (Some link) =
     (link.publisher ≡ publisher) × (link.subscriber ≡ subscriber) × (link.kind ≡ kind_of overflows)
 
--- Publisher, lane, index and link all exist; as many messages may wait at the link as at the connection with this index, and those that
--- wait there have the same slots.
+-- Publisher, lane, index and link all exist. The link and the connection with this index have the same maximum number of waiting messages,
+-- and the messages that wait in them have the same slots.
 abbrev pub WaitsIf : {T U : Type 0} → Option (PublisherPort T U) → Option PublisherLaneState → Option ℕ → Option LinkState → Type 0
 WaitsIf None lane index link = ⊥
 WaitsIf (Some port) None index link = ⊥
@@ -122,16 +124,16 @@ WaitsIf (Some port) (Some lane) (Some index) None = ⊥
 WaitsIf (Some port) (Some lane) (Some index) (Some link) = (link.limit ≡ (connection_of index port).limit)
     × AreSlotsOf lane.port.book.first link.found (connection_of index port).waiting
 
--- At the lanes' connection between the publisher and the subscriber at these places, as many messages may wait as at the domain's, and
--- those that wait there have the same slots.
+-- The lanes' connection between the publisher and the subscriber at these places has the domain connection's maximum number of waiting
+-- messages, and the messages that wait in both have the same slots.
 abbrev pub LinkWaits : {T U B D : Type 0} → Domain T U B D → World → List ℕ → List ℕ → List ℕ → ℕ → ℕ → Type 0
 LinkWaits domain lanes publishers subscribers connections publisher subscriber =
     WaitsIf (port_if domain.state.ports.publishers (slice_get publishers publisher)) (slice_get lanes.publishers publisher)
     (slice_get connections (publisher * length subscribers + subscriber))
     (slice_get lanes.links (publisher * length subscribers + subscriber))
 
--- The lanes' connection between the publisher and the subscriber at these two places leads from the one to the other, and is the domain's
--- connection between them. Connections are numbered publisher by publisher.
+-- The lanes' connection between the publisher and the subscriber at these two places leads from this publisher to this subscriber, and
+-- represents the domain's connection between them. Connections are numbered publisher by publisher.
 abbrev pub LinkHolds : {T U B D : Type 0} → Spelling T U → Domain T U B D → World → List ℕ → List ℕ → List ℕ → ℕ × ℕ → Type 0
 LinkHolds spelling domain lanes publishers subscribers connections (publisher, subscriber) =
     Leads domain.state.ports.sizes.enable_safe_overflow publisher subscriber
@@ -170,7 +172,7 @@ FollowIf lanes publishers subscriber (Some port) None = ⊥
 FollowIf lanes publishers subscriber (Some port) (Some lane) = FollowKeys lanes publishers subscriber port lane.port.routes
 
 -- The subscriber at this place of the lanes goes over its connections in the order of the keys of the domain's subscriber whose number is
--- at this place.
+-- listed in `subscribers` at the same place.
 abbrev pub ReaderHolds : {T U B D : Type 0} → Domain T U B D → World → List ℕ → List ℕ → ℕ → Type 0
 ReaderHolds domain lanes publishers subscribers place =
     FollowIf lanes publishers place (reader_if domain.state.ports.subscribers (slice_get subscribers place))

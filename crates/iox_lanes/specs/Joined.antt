@@ -1,4 +1,4 @@
--- What lanes and the domain beside them have in common, whatever steps the lanes make.
+-- What lanes and the domain that is kept beside them have in common, whatever steps the lanes make.
 use Rattle.std.specs.Prelude.{ℕ, ◌≡◌, ◌+◌, ◌*◌, ◌<◌, List, length, take, drop, slice_get, Option, None, Some}
 use Rattle.iox_domain.specs.DomainPorts.Ports.{connection_of}
 use Rattle.iox_domain.specs.DomainPorts.declared.publisher_port.PublisherPort.{PublisherPort}
@@ -14,7 +14,8 @@ use Rattle.iox_lanes.specs.Spelling.{Spelling}
 abbrev pub row_of : ℕ → List ℕ → ℕ → List ℕ
 row_of count indices place = take count (drop (place * count) indices)
 
--- The lane has the slots of the domain's publisher, of which nothing is out: all are of one segment, and the history size is the same.
+-- The lane has the slots of the domain's publisher, which has no loan, blocked send or borrowed message: all slots are of one segment, and
+-- the history size is the same.
 pub record HasSlotsOf {T U : Type 0} (port : PublisherPort T U) (fixed : FixedSlots) : Type 0 where
   pub rested : IsRested port.sender
   pub first : port.sender.uses.first ≡ 0
@@ -27,7 +28,7 @@ HasSlotsIf None fixed = ⊥
 HasSlotsIf (Some port) None = ⊥
 HasSlotsIf (Some port) (Some fixed) = HasSlotsOf port fixed
 
--- Where the number, if there is one, is first in the list.
+-- The first place of the number in the list, if there is a number and the list has it.
 abbrev pub place_if : Option ℕ → List ℕ → Option ℕ
 place_if None numbers = None
 place_if (Some number) numbers = place_of number numbers
@@ -36,14 +37,14 @@ place_if (Some number) numbers = place_of number numbers
 abbrev pub AreListedOnce : List ℕ → Type 0
 AreListedOnce numbers = (one other number : ℕ) → slice_get numbers one ≡ Some number → slice_get numbers other ≡ Some number → one ≡ other
 
--- The publisher at this place of the lanes has the slots of the domain's publisher whose number is at this place, and the number is at no
--- earlier place.
+-- The publisher at this place of the lanes has the slots of the domain's publisher whose number is listed in `senders` at the same place,
+-- and the number is listed at no earlier place.
 pub record SenderJoins {T U : Type 0} (ports : List (ℕ × PublisherPort T U)) (lanes : World) (senders : List ℕ) (place : ℕ) : Type 0 where
   pub slots : HasSlotsIf (port_if ports (slice_get senders place)) (slots_at lanes place)
   pub alone : place_if (slice_get senders place) senders ≡ Some place
 
--- A connection of the lanes, from the publisher at this place, is one of the publisher's in the domain: it is live, as many messages may
--- wait there, and no earlier connection of the publisher has its index.
+-- A connection of the lanes, from the publisher at this place, is one of the publisher's in the domain: it is live, it has the same maximum
+-- number of waiting messages, and no earlier connection of the publisher has its index.
 pub record IsLinkTo {T U : Type 0} (port : PublisherPort T U) (publisher subscriber : ℕ) (row : List ℕ) (index : ℕ) (link : LinkState) :
     Type 0 where
   pub from : link.publisher ≡ publisher

@@ -21,7 +21,7 @@ use Rattle.iox_lanes.specs.Behind.{behind_findings, behind_finding}
 use Rattle.iox_lanes.specs.Spelling.{Spelling}
 use Rattle.iox_lanes.specs.Tied.{tie_for}
 
--- The number in the lanes of a publisher's slot, if the publisher's slots begin at `first` there; at most 2^64 - 1.
+-- The number in the lanes of a publisher's slot, if the publisher's slots begin at `first` there; if that is more than 2^64 - 1, 2^64 - 1.
 abbrev pub slot_in : ℕ → ℕ → ℕ
 slot_in first slot = min (first + slot) (2 ^ 64 - 1)
 
@@ -53,13 +53,13 @@ message_findings spelling first port message =
     message.elements (message.sequence, message.user_header) message.values
 
 -- The findings that these messages are the history of the publisher at this place, the oldest first: for each message its words, and that
--- it is the newest one then.
+-- it is then the newest one of the history.
 abbrev pub history_findings : {T U : Type 0} → Spelling T U → ℕ → ℕ → PublisherPort T U → List (Message T U) → List Found
 history_findings spelling place first port messages =
     flat_map (λ message. message_findings spelling first port message ++ found.Newest place (slot_in first message.slot) ∷ []) messages
 
 -- The findings that these messages wait at the connection between the publisher and the subscriber at these places, the oldest first: for
--- each message its words, and that it waits behind those before it.
+-- each message its words, and that it waits as the last one so far.
 abbrev pub waiting_findings : {T U : Type 0} → Spelling T U → ℕ → ℕ → ℕ → PublisherPort T U → List (Message T U) → List Found
 waiting_findings spelling place other first port messages =
     flat_map (λ message. message_findings spelling first port message
@@ -82,11 +82,11 @@ abbrev pub first_slot : Option PublisherLaneState → ℕ
 first_slot None = 0
 first_slot (Some lane) = lane.port.book.first
 
--- How many slots a publisher has, those of segments that are no longer loaned included; at most 2^64 - 1.
+-- The number of slots that a publisher has, including those of segments from which it no longer loans; 2^64 - 1 if there are more.
 abbrev pub slots_in : {T U : Type 0} → PublisherPort T U → ℕ
 slots_in port = min (port.sender.uses.first + port.sender.uses.size) (2 ^ 64 - 1)
 
--- The lanes after they found all but the messages of the publisher at this place: how many slots and loans it has, its node, number and
+-- The lanes after they found the publisher at this place without its messages: its number of slots, its loan limit, its node, number and
 -- last sequence number, and whether its sends fail.
 abbrev pub sender_behind : {T U : Type 0} → World → ℕ → Bool → PublisherPort T U → World
 sender_behind m place fails port =

@@ -18,3 +18,11 @@ pub mod Returning
 pub mod Boards
 pub mod Opened
 pub mod Emptied
+pub mod Missing
+pub mod Abandoned
+pub mod Ids
+pub mod HeldByNone
+pub mod Typed
+pub mod TypedCalls
+pub mod TypedSends
+pub mod TypedReads

@@ -1,4 +1,4 @@
--- Messages of a domain that lie in the slots of lanes.
+-- Messages of a domain whose words are in the slots of lanes.
 use Rattle.std.specs.Prelude.{ℕ, ◌≡◌, ◌+◌, ◌<◌, List, [], ◌∷◌, length, slice_get, slice_index, Option, None, Some}
 use Rattle.iox_domain.specs.DomainPorts.Messages.{Message}
 use Rattle.iox_domain.specs.DomainPorts.declared.publisher_port.PublisherPort.{PublisherPort}
@@ -36,17 +36,17 @@ WordsLie spelling table slot port message =
     × UserHeaderLies spelling.middle table slot (message.sequence, message.user_header)
     × PayloadLies spelling.payload table slot message.values
 
--- The publisher's message lies in its slot, if the publisher's slots begin at `first`.
+-- The words of the publisher's message are in its slot, if the publisher's slots begin at `first`.
 abbrev pub Lies : {T U : Type 0} → Spelling T U → TableWords → ℕ → PublisherPort T U → Message T U → Type 0
 Lies spelling table first port message = WordsLie spelling table (first + message.slot) port message
 
--- The publisher's message, if there is one, has this slot and lies there.
+-- The publisher's message, if there is one, has this slot, and its words are there.
 abbrev pub IsLaidAt : {T U : Type 0} → Spelling T U → TableWords → ℕ → PublisherPort T U → Option ℕ → Option (Message T U) → Type 0
 IsLaidAt spelling table first port slot None = Unit {0}
 IsLaidAt spelling table first port slot (Some message) =
     (slot ≡ Some (first + message.slot)) × Lies spelling table first port message
 
--- These are the slots of these messages of a publisher, in their order, and each message lies in its slot.
+-- These are the slots of these messages of a publisher, in their order, and the words of each message are in its slot.
 pub record AreLaid {T U : Type 0} (spelling : Spelling T U) (table : TableWords) (first : ℕ) (port : PublisherPort T U) (laid : List ℕ)
     (messages : List (Message T U)) : Type 0 where
   pub as_many : length laid ≡ length messages

@@ -38,21 +38,21 @@ swap_behind publishers subscriber to m None = m
 swap_behind publishers subscriber to m (Some attached) =
     behind_finding m (found.Swapped subscriber to (route_place m publishers attached.publisher (slice_get m.subscribers subscriber)))
 
--- The lanes after the subscriber's connections with the first `count` keys came to their places: each to the place that is the number of
--- connections with earlier keys.
+-- The lanes after the subscriber's connections with the first `count` keys were moved to their places: each to the place whose number is
+-- the number of connections with earlier keys.
 abbrev pub keys_behind : List ℕ → ℕ → List (Option Attached) → World → ℕ → World
 keys_behind publishers subscriber values m zero = m
 keys_behind publishers subscriber values m (suc count) =
     swap_behind publishers subscriber (count_by is_some (take count values)) (keys_behind publishers subscriber values m count)
     (get_or values count None)
 
--- The lanes after all connections of the subscriber at this place came to their places, if the subscriber is in the domain.
+-- The lanes after all connections of the subscriber at this place were moved to their places, if the subscriber is in the domain.
 abbrev pub reader_behind : List ℕ → ℕ → World → Option SubscriberPort → World
 reader_behind publishers subscriber m None = m
 reader_behind publishers subscriber m (Some port) =
     keys_behind publishers subscriber port.connections.values m (length port.connections.values)
 
--- The lanes after all connections of the first `count` subscribers of the list came to their places.
+-- The lanes after all connections of the first `count` subscribers of the list were moved to their places.
 abbrev pub readers_behind : List ℕ → List (ℕ × SubscriberPort) → List ℕ → World → ℕ → World
 readers_behind publishers readers subscribers m zero = m
 readers_behind publishers readers subscribers m (suc count) =

@@ -1,4 +1,4 @@
--- The domain that lanes leave.
+-- The domain as the lanes leave it.
 use Rattle.std.specs.Prelude.{ℕ, ◌≡◌, ◌+◌, ◌*◌, ◌<◌, ◌≤◌, List, length, slice_get, Option, None, Some}
 use Rattle.iox_domain.specs.DomainPorts.MessagesSending.{with_uses}
 use Rattle.iox_domain.specs.DomainPorts.Publishers.{port_of}
@@ -18,9 +18,9 @@ use Rattle.iox_lanes_machine.specs.Fixed.{slots_at}
 use Rattle.iox_lanes.specs.Joined.{HasSlotsIf, IsLinkToIf, row_of}
 use Rattle.iox_lanes.specs.Spelling.{ReadingBack}
 
--- The publisher is as the lanes leave it: what waits at a connection by its order waits at the connection with its index, nothing waits at
--- a connection that the lanes don't have, the history is that of the lane, the sequence numbers go on after the lane's last one, and all
--- else is as it was.
+-- The publisher is as the lanes leave it. The messages that wait at a connection of the lanes, by its order, wait at the domain's
+-- connection with its index, and none waits at a connection that the lanes don't have. The history and the last sequence number are those
+-- of the lane. All else is as it was.
 pub record IsPortLeft {T U : Type 0} (reading : ReadingBack T U) (lanes : World) (from : ℕ) (row : List ℕ) (lane : PublisherLaneState)
     (old new : PublisherPort T U) : Type 0 where
   pub rest : new ≡ record old {
@@ -48,7 +48,7 @@ IsLeftAt reading lanes readers indices None old new = new ≡ old
 IsLeftAt reading lanes readers indices (Some place) old new =
     IsPortLeftIf reading lanes (place * readers) (row_of readers indices place) (slice_get lanes.publishers place) old new
 
--- The publisher at this place of the lanes is this one of the domain, and the lanes have its connections.
+-- The publisher at this place of the lanes has the slots of this publisher of the domain, and the lanes have its connections.
 pub record JoinsAt {T U : Type 0} (lanes : World) (port : Option (PublisherPort T U)) (place readers : ℕ) (indices : List ℕ) : Type 0 where
   pub slots : HasSlotsIf port (slots_at lanes place)
   pub link_count : place * readers + readers ≤ length lanes.links
@@ -73,7 +73,7 @@ OnlyPublishers old new = new ≡ record old
 abbrev pub AllRest : World → Type 0
 AllRest lanes = (connection : ℕ) → Rests lanes connection
 
--- The unrest of the lanes that this error means.
+-- The reason why lanes aren't at rest that this error reports.
 abbrev pub unrest_of : IntoDomainError → Unrest
 unrest_of error.PartyInCall = unrest.PartyInCall
 unrest_of error.SamplesOut = unrest.SamplesOut

@@ -1,4 +1,4 @@
--- How large the lanes of a domain are, and what follows for their loans.
+-- The sizes of a domain's lanes, and what follows for their loans and sends.
 use Rattle.std.specs.Prelude.{ℕ, ◌≡◌, ◌+◌, ◌*◌, ◌<◌, ◌≤◌, ◌^◌, List, [], ◌∷◌, ◌++◌, true, length, max, slice_get, Some}
 use Rattle.iox_domain_values.specs.declared.service_sizes.ServiceSizes.{ServiceSizes}
 use Rattle.iox_lanes_machine.specs.LanesParties.Parties.{PublisherLaneState, SubscriberLaneState}
@@ -17,11 +17,11 @@ use Rattle.iox_lanes_machine.specs.declared.sizes.LaneSizes.{LaneSizes}
 use Rattle.iox_lanes.specs.Finding.{WasFound}
 use Rattle.iox_lanes.specs.Holding.{kind_of}
 
--- How many messages may wait at a connection of the lanes: as many as agreed, and at least one.
+-- The maximum number of waiting messages at a connection of the lanes: the agreed buffer size, and at least one.
 abbrev pub most_waiting : ServiceSizes → ℕ
 most_waiting agreed = max agreed.subscriber_max_buffer_size 1
 
--- How many messages of a connection of the lanes may wait or be borrowed together.
+-- The maximum number of messages of a connection of the lanes that wait or are borrowed, taken together.
 abbrev pub most_at : ServiceSizes → ℕ
 most_at agreed = most_waiting agreed + agreed.subscriber_max_borrowed_samples
 
@@ -29,8 +29,8 @@ most_at agreed = most_waiting agreed + agreed.subscriber_max_borrowed_samples
 abbrev pub slots_used : ServiceSizes → ℕ → ℕ → ℕ
 slots_used agreed subscribers loans = subscribers * most_at agreed + agreed.history_size + loans
 
--- These sizes are the agreed ones, for this many publishers, subscribers and words: the kind of ring, how many messages may wait, how many
--- samples a subscriber may borrow, and how many messages a publisher keeps.
+-- These sizes are the agreed ones, for this many publishers, subscribers and words: the kind of ring, the maximum number of waiting
+-- messages, the borrow limit and the history size.
 pub record AreAgreed (agreed : ServiceSizes) (publishers subscribers payload_count header_count : ℕ) (sizes : LaneSizes) : Type 0 where
   pub as_many_publishers : sizes.publishers ≡ publishers
   pub as_many_subscribers : sizes.subscribers ≡ subscribers
@@ -41,9 +41,9 @@ pub record AreAgreed (agreed : ServiceSizes) (publishers subscribers payload_cou
   pub user_header : sizes.user_header_words ≡ header_count
   pub payload : sizes.payload_words ≡ payload_count
 
--- Lanes before their first step have the agreed sizes: they were made of these; a completion ring has a cell for each message that may wait
--- or be borrowed at its connection, and one more; each publisher has a connection to each subscriber, and the agreed history size; and each
--- subscriber may borrow as many samples as agreed.
+-- Lanes before their first step have the agreed sizes: they were made of them. A completion ring has a cell for each message that may wait
+-- or be borrowed at its connection, and one more. Each publisher has a connection to each subscriber, and the agreed history size. Each
+-- subscriber has the agreed borrow limit.
 pub record AreSized (agreed : ServiceSizes) (publishers subscribers payload_count header_count : ℕ) (m : World) : Type 0 where
   pub sizes : LaneSizes
   pub are_agreed : AreAgreed agreed publishers subscribers payload_count header_count sizes
@@ -54,8 +54,9 @@ pub record AreSized (agreed : ServiceSizes) (publishers subscribers payload_coun
   pub borrowing : (place : ℕ) (lane : SubscriberLaneState) → slice_get m.subscribers place ≡ Some lane
       → lane.port.most_borrowed ≡ agreed.subscriber_max_borrowed_samples
 
--- Wherever steps brought such lanes, a loan that isn't over yet has made at most 4 * S * (B + R + 2) + 2 steps with the next one, for S
--- subscribers at each of which B messages may wait and R samples be borrowed, as agreed; as long as at most 2^63 steps were made.
+-- Lanes of agreed sizes (`AreSized`) made any steps, at most 2^63 of them. For a loan that isn't over yet, its beginning, the steps that
+-- its publisher made since then and the next one are at most 4 * S * (B + R + 2) + 2, for S subscribers, the agreed maximum of B waiting
+-- messages at each, and the agreed borrow limit R.
 abbrev pub AgreedLoansEndSoon : Type 0
 AgreedLoansEndSoon = (agreed : ServiceSizes) (publishers subscribers payload_count header_count : ℕ) (begun : World)
     → AreSized agreed publishers subscribers payload_count header_count begun
@@ -65,8 +66,9 @@ AgreedLoansEndSoon = (agreed : ServiceSizes) (publishers subscribers payload_cou
     → IsInCall (led (happens m (Publisher place) (Begin call.LoanUninit)) entries) place m.moments
     → 1 + own_steps (happens m (Publisher place) (Begin call.LoanUninit)) place entries + 1 ≤ 4 * subscribers * (most_at agreed + 2) + 2
 
--- Wherever steps brought such lanes, a send that isn't over yet has made at most 4 * S * (B + R + 3) + W + 7 steps with the next one, where
--- W is the number of words between the three words of the header and the payload, below 2^61; as long as at most 2^63 steps were made.
+-- Lanes of agreed sizes (`AreSized`) made any steps, at most 2^63 of them. For a send that isn't over yet, its beginning, the steps that
+-- its publisher made since then and the next one are at most 4 * S * (B + R + 3) + W + 7, where W is the number of words between the three
+-- words of the header and the payload, and is less than 2^61.
 abbrev pub AgreedSendsEndSoon : Type 0
 AgreedSendsEndSoon = (agreed : ServiceSizes) (publishers subscribers payload_count header_count : ℕ) (begun : World)
     → AreSized agreed publishers subscribers payload_count header_count begun → header_count < 2 ^ 61
@@ -77,8 +79,8 @@ AgreedSendsEndSoon = (agreed : ServiceSizes) (publishers subscribers payload_cou
     → 1 + own_steps (happens m (Publisher place) (Begin (call.Send loan))) place entries + 1
     ≤ 4 * subscribers * (most_at agreed + 3) + header_count + 7
 
--- A loan of such lanes ends with a slot, if fewer loans were out than may be when it began, and the publisher has as many slots as it can
--- use; as long as at most 2^63 steps were made, and for slots with numbers below 2^64.
+-- Lanes of agreed sizes (`AreSized`) made any steps, at most 2^63 of them. A loan of theirs ends with a slot if the publisher was below its
+-- loan limit when the loan began, and has as many slots as it can use, with numbers below 2^64.
 abbrev pub AgreedSlotsSuffice : Type 0
 AgreedSlotsSuffice = (agreed : ServiceSizes) (publishers subscribers payload_count header_count : ℕ) (begun : World)
     → AreSized agreed publishers subscribers payload_count header_count begun

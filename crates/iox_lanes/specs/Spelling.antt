@@ -24,7 +24,7 @@ pub record ReadingBack (T U : Type 0) : Type 0 where
   pub payload : List ℕ → T
   pub middle : List ℕ → Option ℕ × U
 
--- The reading in which payloads and user headers are read from words like this; a sequence number comes before a user header, where
--- messages have one.
+-- The reading that reads payloads and user headers with these functions; a sequence number comes before a user header, where messages have
+-- one.
 abbrev pub reading_back : {T U : Type 0} → Bool → (List ℕ → T) → (List ℕ → U) → ReadingBack T U
 reading_back numbered payload_of header_of = record { payload = payload_of; middle = middle_of numbered header_of }

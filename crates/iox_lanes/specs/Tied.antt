@@ -15,7 +15,8 @@ abbrev pub tie_for : {T U : Type 0} → PublisherPort T U → Option SubscriberP
 tie_for port None = 0
 tie_for port (Some reader) = unwrap_or (get_or port.ties.items reader.place None) 0
 
--- The indices of the connections to which the publisher has tied the places of the subscribers with these numbers, in their order.
+-- The indices of the connections to which the publisher has tied the places of the subscribers with these numbers, in the order of the
+-- numbers.
 abbrev pub ties_for : {T U : Type 0} → List (ℕ × SubscriberPort) → List ℕ → PublisherPort T U → List ℕ
 ties_for subscribers numbers port = map (λ number. tie_for port (subscriber_of number subscribers)) numbers
 

@@ -98,7 +98,7 @@ pub(crate) fn build<T: Words, U: Words>(
     })
 }
 
-// The sizes of the lanes: each publisher has as many slots and loans as the one that has most.
+// The sizes of the lanes: the loan limit and the number of slots are the largest that one of the publishers has.
 fn sizes_of<T: Words, U: Words>(
     domain: &Domain<T, U>,
     numbers: &[u64],
@@ -139,7 +139,7 @@ fn kind_of(overflows: bool) -> RingKind
     }
 }
 
-// The most loans that any of the publishers with these numbers may have out.
+// The largest loan limit of the publishers with these numbers.
 fn most_loans<T: Words, U: Words>(domain: &Domain<T, U>, numbers: &[u64]) -> u64
     ensures { result ≡ most_loans_of domain.now.state.ports.publishers numbers.now }
 {
@@ -150,7 +150,7 @@ fn most_loans<T: Words, U: Words>(domain: &Domain<T, U>, numbers: &[u64]) -> u64
     most
 }
 
-// How many loans the publisher with this number may have out; 0 if there is none.
+// The loan limit of the publisher with this number; 0 if there is none.
 fn loans_at<T: Words, U: Words>(domain: &Domain<T, U>, number: u64) -> u64
     ensures { result ≡ loans_if (port_of number domain.now.state.ports.publishers) }
 {
@@ -182,7 +182,7 @@ fn slots_at<T: Words, U: Words>(domain: &Domain<T, U>, number: u64) -> u64
     }
 }
 
-// How many slots a publisher has, those of segments that are no longer loaned included.
+// The number of slots that a publisher has, including those of segments from which it no longer loans.
 fn slots_of<T: Words, U: Words>(port: &PublisherPort<T, U>) -> u64
     ensures { result ≡ slots_in port.now }
 {
@@ -230,7 +230,7 @@ fn publisher_of<T: Words, U: Words>(domain: &Domain<T, U>, number: u64) -> &Publ
     }
 }
 
-// The lanes find of a publisher how many slots and loans it has, the node and number that its headers name, and whether its sends fail.
+// The lanes find a publisher's number of slots, its loan limit, the node and number that its headers name, and whether its sends fail.
 fn find_publisher<T: Words, U: Words>(
     lanes: &mut NewLanes,
     domain: &Domain<T, U>,
@@ -453,7 +453,7 @@ fn find_middle<U: Words>(
     Ok(())
 }
 
-// One of the words between header and payload.
+// One of the words between header and payload, by its place.
 fn middle_word<U: Words>(numbered: bool, sequence: Option<u64>, user_header: &U, word: usize) -> u64
     ensures { result ≡ slice_index (middle_words numbered U.parts (sequence, user_header.now)) word }
 {

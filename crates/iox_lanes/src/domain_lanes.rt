@@ -62,7 +62,7 @@ pub(crate) struct Opened<T> {
     pub(crate) one: Vec<T>,
 }
 
-// Such lanes with the messages that they keep.
+// The opened lanes with the messages that they keep.
 #[derive(Drop)]
 struct Recorded<T> {
     lanes: Lanes,
@@ -72,13 +72,14 @@ struct Recorded<T> {
     one: Vec<T>,
 }
 
-/// Makes lanes of a domain: each publisher and subscriber that it lists, in the order of their places, with the buffer size of each
-/// connection, the slots, loans and history of each publisher, whether its sends fail at a full mailbox, what waits at each connection, the
-/// words of each message, and the order in which each subscriber goes over its connections. The completion rings are empty.
+/// Makes lanes of a domain. They have each publisher and subscriber that the domain lists, in the order of their places; the buffer size of
+/// each connection; the slots, loan limit and history of each publisher, and whether its sends fail at a full mailbox; what waits at each
+/// connection; the words of each message; and the order in which each subscriber goes over its connections. The completion rings are empty.
 ///
-/// The lanes are as `LaneMachine::new` makes them and what they found leaves them, and no port is inside a call; so each theorem on lanes
+/// The lanes are made by `LaneMachine::new` and then find what the domain has, and no port is inside a call; so each theorem on lanes
 /// applies to them. Their sizes are those that the service agreed on: its buffer size (at least one), its borrow limit and its history
-/// size. Each publisher has as many loans and slots as the publisher of the domain that has most. There are fewer than 2^64 slots.
+/// size. Each publisher gets the largest loan limit and the largest number of slots that a publisher of the domain has. There are fewer
+/// than 2^64 slots.
 ///
 /// The lanes keep their messages. Those that wait or are in a history have the first numbers, publisher by publisher and slot by slot; each
 /// message that is sent gets the next number.
@@ -88,8 +89,8 @@ struct Recorded<T> {
 /// there, has one word more than a user header, in front of it. It doesn't matter what a write passes in that word. As values, the user
 /// header is a [`WithSequence`](iox_lanes_parties::WithSequence).
 ///
-/// Returns the first error of `refusal` that applies, before anything is built. Otherwise it returns `OutOfMemory`, only if an allocation
-/// fails, as it would for the numbers of 2^61 subscribers. With an error the domain comes back as it was. The lanes check each piece that
+/// Returns the first error of `refusal` that applies, before anything is built. Otherwise it returns `OutOfMemory` only if an allocation
+/// fails, as it does for the numbers of 2^61 subscribers. With an error, the domain is returned as it was. The lanes check each piece that
 /// they take in; it is proved that none is left out, so they have all that the domain has.
 pub fn into_lanes<T: Words, U: Words>(
     alloc: Global,

@@ -31,7 +31,8 @@ impl NewLanes {
     ghost use Rattle.iox_lanes.specs.Failing.{failing};
     ghost use Rattle.iox_lanes.specs.Finding.{NothingCameBack, failing_behind, is_given_back};
 
-    /// Lanes of these sizes. `AllocError` is returned only where an allocation fails; memory can't contain the numbers of 2^61 subscribers.
+    /// Lanes of these sizes. `AllocError` is returned only where an allocation fails; it does for 2^61 subscribers, whose numbers no memory
+    /// can contain.
     #[tactic(auto, using(crate::proofs::Failing::as_many_made))]
     pub fn new(alloc: Global, sizes: LaneSizes) -> Result<NewLanes, AllocError>
         requires some { 0 < sizes.buffer }
@@ -45,13 +46,13 @@ impl NewLanes {
             return Err(AllocError);
         }
         let lanes = LaneMachine::new(alloc, sizes)?;
-        // So few words that each has a number.
+        // There are fewer than 2^64 words, so each has a number.
         let _words = lanes.table().words();
         Ok(NewLanes { sizes, lanes })
     }
 
-    /// The lanes find this, if it may be found; samples in a completion ring may not. Only `Found::Sender` says whether the sends of a
-    /// publisher fail. `AllocError` is returned only where an allocation fails.
+    /// The lanes find this, if it may be found; a sample in a completion ring must not be handed in. Only `Found::Sender` changes whether
+    /// the sends of a publisher fail. `AllocError` is returned only where an allocation fails.
     #[tactic(auto, using(crate::proofs::Found::found_on))]
     pub fn find(&mut self, found: Found) -> Result<(), AllocError>
         requires { is_given_back found ≡ false }
@@ -70,7 +71,7 @@ impl NewLanes {
         &self.lanes
     }
 
-    /// The lanes, which were made of these sizes and found only what they were given; no port is inside a call.
+    /// The lanes, which were made of these sizes and found only what was handed to `find`; no port is inside a call.
     #[tactic(auto, using(crate::proofs::Found::came))]
     pub fn into_lanes(self) -> LaneMachine
         ensures came { CameTo result }

@@ -49,7 +49,7 @@ pub use iox_lanes_parties::{
     values_in,
 };
 pub use iox_lanes_threads::{
-    EndError, EndedThreads, LanePublisher, LaneSubscriber, LaneThreads, OpenError, end,
+    EndError, EndedThreads, LanePublisher, LaneSubscriber, LaneThreads, OpenError, are_all, end,
     open_threads,
 };
 pub use iox_queues_base::Words;

@@ -34,14 +34,14 @@ pub struct StillLanes<T, U> {
 }
 
 impl<T: Words, U: Words> DomainLanes<T, U> {
-    /// The domain as the lanes leave it. What waits at each connection by its order waits there in the domain. Each publisher's history is
-    /// that of its lane. Each message has the values, user header, number of elements and sequence number that its slot contains, and its
-    /// publisher goes on after the last sequence number of its lane. All else is as it was when the lanes began; if the lanes made no step,
-    /// the domain is as it was. Nothing is allocated.
+    /// The domain as the lanes leave it. The messages that wait at each connection of the lanes, by its order, wait at the same connection
+    /// of the domain. Each publisher's history is that of its lane. Each message has the values, user header, number of elements and
+    /// sequence number that its slot contains, and each publisher has the last sequence number of its lane. All else is as it was when the
+    /// lanes began; if the lanes made no step, the domain is as it was. Nothing is allocated.
     ///
     /// Returns `PartyInCall` while a party is inside a call, otherwise `SamplesOut` while a loan or a sample is out; then the lanes come
-    /// back as they were. What is said of the messages holds for at most 2^63 steps, and for lanes that are joined with the domain beside
-    /// them (`IsJoined`), as those of `into_lanes` are, and remain after any steps.
+    /// back as they were. What this comment says of the messages holds for lanes that made at most 2^63 steps and are joined with the
+    /// domain beside them (`IsJoined`). The lanes of `into_lanes` are joined, and remain so after any steps.
     ///
     /// Not in `iceoryx2`.
     pub fn into_domain(self) -> Result<Domain<T, U>, StillLanes<T, U>>
@@ -149,8 +149,8 @@ fn has_words<T: Words, U: Words>(lanes: &LaneMachine, numbered: bool) -> bool
     true
 }
 
-// The lanes that go back, and the index that each of their connections has in the domain, `readers` for each publisher. Where messages have
-// sequence numbers, each slot has that of its message.
+// The lanes that go back, and the index that each of their connections has in the domain, `readers` for each publisher. `numbered` says
+// whether each slot has the sequence number of its message.
 #[derive(Clone, Copy)]
 struct LeftLanes<'a> {
     lanes: &'a LaneMachine,
@@ -235,7 +235,8 @@ fn lane_at(lanes: &LaneMachine, place: usize) -> Option<&PublisherLane>
     lanes.publishers().get(place)
 }
 
-// The indices of the connections of the publisher at this place, out of those of all, and the number of its first connection.
+// The indices of the connections of the publisher at this place, out of the indices of all connections, and the number of its first
+// connection.
 fn row_at<'a>(
     lanes: &LaneMachine,
     place: usize,

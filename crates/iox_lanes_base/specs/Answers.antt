@@ -14,7 +14,7 @@ use Rattle.iox_queues_steps.specs.declared.rings.ends.Push.TheVariants as push
 use Rattle.iox_queues_steps.specs.declared.rings.ends.Pop.{Pop}
 use Rattle.iox_queues_steps.specs.declared.rings.ends.Pop.TheVariants as pop
 
--- The answer of a push on a refusing ring; none while it is under way.
+-- The answer of a push on a refusing ring; none while it is in progress.
 abbrev pub refusing_push_answer : refusing_push_type.Push → Option PushAnswer
 refusing_push_answer refusing_push.Idle = None
 refusing_push_answer (refusing_push.Begun limit value) = None
@@ -23,7 +23,7 @@ refusing_push_answer (refusing_push.SawRoom value write next) = None
 refusing_push_answer (refusing_push.Filled value next) = None
 refusing_push_answer (refusing_push.Pushed value answer) = Some answer
 
--- The answer of a pop or a look on a refusing ring; none while it is under way.
+-- The answer of a pop or a look on a refusing ring; none while it is in progress.
 abbrev pub refusing_pop_answer : refusing_pop_type.Pop → Option PopAnswer
 refusing_pop_answer refusing_pop.Idle = None
 refusing_pop_answer refusing_pop.Begun = None
@@ -35,7 +35,7 @@ refusing_pop_answer refusing_pop.LookBegun = None
 refusing_pop_answer (refusing_pop.LookRead read) = None
 refusing_pop_answer (refusing_pop.Looked some) = Some (Saw some)
 
--- The answer of a push on a ring of either kind; none while it is under way.
+-- The answer of a push on a ring of either kind; none while it is in progress.
 abbrev pub push_answer : Push → Option PushAnswer
 push_answer (push.Overflowing overflowing_push.Idle) = None
 push_answer (push.Overflowing (overflowing_push.Begun limit value)) = None
@@ -47,7 +47,7 @@ push_answer (push.Overflowing (overflowing_push.SawOldest value read next oldest
 push_answer (push.Overflowing (overflowing_push.Pushed value answer)) = Some answer
 push_answer (push.Refusing p) = refusing_push_answer p
 
--- The answer of a pop or a look on a ring of either kind; none while it is under way.
+-- The answer of a pop or a look on a ring of either kind; none while it is in progress.
 abbrev pub pop_answer : Pop → Option PopAnswer
 pop_answer (pop.Overflowing overflowing_pop.Idle) = None
 pop_answer (pop.Overflowing overflowing_pop.Begun) = None

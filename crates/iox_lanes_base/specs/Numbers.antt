@@ -18,7 +18,8 @@ connection_words sizes = 4 + sizes.submission_cells + sizes.completion_cells
 abbrev pub slot_words : TableSizes → ℕ
 slot_words sizes = 3 + sizes.user_header_words + sizes.payload_words
 
--- The number of the first word of the slots. The slots follow the connections, and these follow a first word that isn't the service's.
+-- The number of the first word of the slots. The table begins with a word that isn't the service's; then come the connections, and then the
+-- slots.
 abbrev pub slots_first : TableSizes → ℕ
 slots_first sizes = 1 + sizes.connections * connection_words sizes
 
@@ -52,7 +53,7 @@ abbrev pub number_of : TableSizes → SharedWord → ℕ
 number_of sizes (Ring connection ring word) = ring_first sizes connection ring + ring_word_number word
 number_of sizes (Slot slot word) = slots_first sizes + slot * slot_words sizes + slot_word_number sizes word
 
--- How many cells a ring has at most.
+-- The maximum number of cells of a ring.
 abbrev pub most_cells : TableSizes → ConnectionRing → ℕ
 most_cells sizes Submission = sizes.submission_cells
 most_cells sizes Completion = sizes.completion_cells
@@ -74,7 +75,7 @@ abbrev pub IsWord : TableSizes → SharedWord → Type 0
 IsWord sizes (Ring connection ring word) = (connection < sizes.connections) × IsRingWord (most_cells sizes ring) word
 IsWord sizes (Slot slot word) = (slot < sizes.slots) × IsSlotWord sizes word
 
--- The counts of words are below 2^64.
+-- The counts of words are less than 2^64.
 pub record IsSmall (sizes : TableSizes) : Type 0 where
   pub connection : connection_words sizes < 2 ^ 64
   pub slot : slot_words sizes < 2 ^ 64
@@ -85,7 +86,7 @@ abbrev pub AreApart : Type 0
 AreApart = (sizes : TableSizes) (one other : SharedWord) → IsWord sizes one → IsWord sizes other
     → number_of sizes one ≡ number_of sizes other → one ≡ other
 
--- The number of each word of a service is above 0, and below the count of the table's words.
+-- The number of each word of a service is larger than 0, and less than the number of words of the table.
 abbrev pub AreWithin : Type 0
 AreWithin = (sizes : TableSizes) (word : SharedWord) → IsWord sizes word
     → (0 < number_of sizes word) × (number_of sizes word < words_of sizes)

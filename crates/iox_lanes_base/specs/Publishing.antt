@@ -50,7 +50,7 @@ publisher_next (Pushing slot place route push delivery) = on_ring route.connecti
 publisher_next (Sent slot delivery) = Local
 publisher_next (Dropping slot) = Local
 
--- The stage of a loan that takes back at this connection; after the last connection it looks for a slot.
+-- The stage of a loan that takes samples back at this connection; after the last connection it looks for a slot.
 abbrev pub loan_from : ℕ → Option Route → PublisherCall
 loan_from place None = Lending
 loan_from place (Some route) = LoanReclaims place route Begun
@@ -98,12 +98,12 @@ push_at routes slot place delivery = push_from slot place delivery (slice_get ro
 abbrev pub nothing_sent : Delivery
 nothing_sent = record { taken = 0; refused = 0 }
 
--- The stage of a send that takes back at this connection; after the last connection it begins to push.
+-- The stage of a send that takes samples back at this connection; after the last connection it begins to push.
 abbrev pub sweep_from : List Route → ℕ → ℕ → Option Route → PublisherCall
 sweep_from routes slot place None = push_at routes slot 0 nothing_sent
 sweep_from routes slot place (Some route) = SendReclaims slot place route Begun
 
--- The stage of a send that takes back at this place.
+-- The stage of a send that takes samples back at this place.
 abbrev pub sweep_at : List Route → ℕ → ℕ → PublisherCall
 sweep_at routes slot place = sweep_from routes slot place (slice_get routes place)
 
@@ -115,13 +115,13 @@ send_reclaimed routes slot place route pop (Some (Got (Some back))) = SendReclai
 send_reclaimed routes slot place route pop (Some (Got None)) = sweep_at routes slot (successor place)
 send_reclaimed routes slot place route pop (Some (Saw some)) = sweep_at routes slot (successor place)
 
--- The delivery with one connection more that took the message, or refused it.
+-- The delivery with one more connection that took the message, or refused it.
 abbrev pub counted : Delivery → PushAnswer → Delivery
 counted delivery Kept = record delivery { taken = successor delivery.taken }
 counted delivery (LeftOut oldest) = record delivery { taken = successor delivery.taken }
 counted delivery Refused = record delivery { refused = successor delivery.refused }
 
--- The stage of a send after an answer of its push: it goes on with the push, or to the next connection once the push is over.
+-- The stage of a send after an answer of its push: it goes on with the push, or to the next connection after the push is over.
 abbrev pub pushed : List Route → ℕ → ℕ → Route → Push → Delivery → Option PushAnswer → PublisherCall
 pushed routes slot place route push delivery None = Pushing slot place route push delivery
 pushed routes slot place route push delivery (Some answer) = push_at routes slot (successor place) (counted delivery answer)
@@ -143,7 +143,7 @@ publisher_take routes words (Pushing slot place route push delivery) answer =
 publisher_take routes words (Sent slot delivery) answer = Idle
 publisher_take routes words (Dropping slot) answer = Idle
 
--- Whether no call is under way.
+-- Whether no call is in progress.
 abbrev pub publisher_is_idle : PublisherCall → Bool
 publisher_is_idle Idle = true
 publisher_is_idle (LoanReclaims place route pop) = false

@@ -6,6 +6,6 @@ use Rattle.iox_lanes_base.specs.declared.calls.route.Route.{Route}
 abbrev pub known_as : Route → Route → Route
 known_as route own = if own.connection == route.connection then route else own
 
--- The connections of a port, of which those with this one's number are replaced by it.
+-- The connections of a port after each one with the number of `route` was replaced by `route`.
 abbrev pub rerouted : Route → List Route → List Route
 rerouted route routes = map (known_as route) routes

@@ -28,7 +28,7 @@ use Rattle.iox_lanes_base.specs.declared.calls.subscriber.SubscriberCall.TheVari
 use Rattle.iox_lanes_base.specs.declared.calls.subscriber.SubscriberChange.{SubscriberChange}
 use Rattle.iox_lanes_base.specs.declared.calls.subscriber.SubscriberChange.TheVariants as change
 
--- The word of header, user header and payload with this number; they lie one after the other.
+-- The word of header, user header and payload with this number; these lie one after the other.
 abbrev pub word_at : SlotExtent → ℕ → SlotWord
 word_at extent word =
     if nat_lt word 3 then Header word
@@ -45,16 +45,17 @@ subscriber_next (WasRead slot) = Local
 subscriber_next (Releasing place route push) = on_ring route.connection Completion route.completion_cells (refusing.push_next push)
 subscriber_next (Released done) = Local
 
--- Whether as many samples are borrowed as may be.
+-- Whether the maximum number of samples is borrowed.
 abbrev pub is_full : ℕ → Option ℕ → Bool
 is_full most None = false
 is_full most (Some borrowed) = not (nat_lt borrowed most)
 
--- Whether as many samples of the connection at this place are borrowed as may be.
+-- Whether the maximum number of samples is borrowed from the connection at this place.
 abbrev pub is_full_at : List ℕ → ℕ → ℕ → Bool
 is_full_at borrowed most place = is_full most (slice_get borrowed place)
 
--- The receipt of a receive that got no message: it is refused if it saw a message where as many samples are borrowed as may be.
+-- The receipt of a receive that got no message: it is refused if a message waits at a connection from which the maximum number of samples
+-- is borrowed.
 abbrev pub nothing_received : Bool → Receipt
 nothing_received waits = if waits then receipt.ExceedsMaxBorrows else receipt.Nothing
 
@@ -79,14 +80,15 @@ abbrev pub read_at : ℕ → SlotExtent → ℕ → SubscriberCall
 read_at slot extent word =
     if nat_lt word (3 + extent.user_header_words + extent.payload_words) then Reading slot word extent else WasRead slot
 
--- The stage of a release after an answer of its push: it goes on with the push, or ends once the push is over.
+-- The stage of a release after an answer of its push: it goes on with the push, or ends after the push is over.
 abbrev pub released : ℕ → Route → Push → Option PushAnswer → SubscriberCall
 released place route push None = Releasing place route push
 released place route push (Some Kept) = Released true
 released place route push (Some (LeftOut oldest)) = Released true
 released place route push (Some Refused) = Released false
 
--- The stage after the answer of the next access; `borrowed` says how many samples of each connection are borrowed, of at most `most`.
+-- The stage after the answer of the next access; `borrowed` has the number of samples that are borrowed from each connection, and `most` is
+-- their maximum.
 abbrev pub subscriber_take : List Route → List ℕ → ℕ → SubscriberCall → ℕ → SubscriberCall
 subscriber_take routes borrowed most Idle answer = Idle
 subscriber_take routes borrowed most (Receiving place route pop waits) answer =
@@ -98,7 +100,7 @@ subscriber_take routes borrowed most (Releasing place route push) answer =
     released place route (refusing.push_take push answer) (refusing_push_answer (refusing.push_take push answer))
 subscriber_take routes borrowed most (Released done) answer = Idle
 
--- Whether no call is under way.
+-- Whether no call is in progress.
 abbrev pub subscriber_is_idle : SubscriberCall → Bool
 subscriber_is_idle Idle = true
 subscriber_is_idle (Receiving place route pop waits) = false

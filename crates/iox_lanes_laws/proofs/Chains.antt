@@ -1,4 +1,4 @@
--- Behind a call that no other call overlaps the next one may begin.
+-- After a call that no other call overlaps the next one may begin.
 use Rattle.std.proofs.Common.{ℕ, zero, suc, ◌≡◌, ◌<◌, ◌≤◌, ◌^◌, List, get_or, slice_get, Option, Some, None, is_some, Bool, false, refl}
 use Rattle.std.proofs.Common.{sym, subst, arith}
 use Rattle.std.specs.List.{All}

@@ -20,7 +20,7 @@ use Rattle.iox_lanes_laws.specs.Courses.{WritesStore}
 pub next_place : (k : ℕ) → k < 2 ^ 64 - 1 → successor k ≡ k + 1
 next_place k h = omega (arith, h)
 
--- no call is under way
+-- no call is in progress
 pub idle_course : (routes : List Route) (words answers : List ℕ) → publisher_course routes words Idle answers ≡ quiet_course answers
 idle_course routes words [] = refl
 idle_course routes words (answer ∷ answers) = ap (λ (rest : List SharedAccess). Local ∷ rest) (idle_course routes words answers)

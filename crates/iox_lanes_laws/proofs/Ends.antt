@@ -1,4 +1,4 @@
--- Behind a call that no other call overlaps nobody is inside a call.
+-- After a call that no other call overlaps nobody is inside a call.
 use Rattle.std.proofs.Common.{ℕ, ◌≡◌, true, List, slice_get, Option, Some, None, refl, sym, ◌∙◌, ap, subst, inl, inr}
 use Rattle.std.specs.List.{All}
 use Rattle.std.proofs.lemmas.Bool.Decides.{eqb_tells}

@@ -65,7 +65,7 @@ led_on from entries m party step leads fit =
     led_more from entries entry ∙ ap (λ (w : World). after_entry (fits w party step) w entry) leads ∙ ap
     (λ (b : Bool). after_entry b m entry) fit
 
--- a receive that is under way, by the moment of its begin
+-- a receive that is in progress, by the moment of its begin
 record IsGoing (m : World) (place first : ℕ) : Type 0 where
   before : World
   came : CameTo before

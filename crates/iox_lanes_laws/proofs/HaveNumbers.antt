@@ -266,7 +266,7 @@ module _ (m : World) (who : ℕ) (lane : PublisherLaneState) (P : ℕ → ℕ �
   none_in_hand c idle = ap (λ (p : Push). length (put_in_hand (read_at m.table route) p)) idle
       ∙ ap (λ (xs : List PutNow). length xs) (idle_hand (read_at m.table route) route.kind)
 
-  -- none stands behind those of the sends that ended
+  -- none stands after those of the sends that ended
   none_more : (c : PublisherCall) → length (puts_at m.orders route) ≡ ended_so_far + done_at place c + in_hand_at m.table route c
       → done_at place c ≡ 0 → push_on route.connection route.kind c ≡ push_idle route.kind → ended_so_far ≤ number → ⊥
   none_more c all done idle past = absurd (omega (arith, all_there, all, done, none_in_hand c idle, past))
@@ -425,7 +425,7 @@ module _ (ms : List MessageState) where
   put_by moment slot false true waiting all h = more_by moment slot waiting all h
   put_by moment slot false false waiting all h = all
 
-  -- and what waits behind it
+  -- and what waits after it
   after_by : (o : Bool) (limit moment : ℕ) (waiting : List ℕ) (act : Act) → HaveBy moment waiting
       → ((put : PutNow) → slice_get (put_of act) 0 ≡ Some put → Has ms put.value moment) → HaveBy moment (after_act o limit waiting act)
   after_by o limit moment waiting (Put value answer) all own =

@@ -1,4 +1,4 @@
--- What waits at each connection behind a call of a publisher that no other call overlaps.
+-- What waits at each connection after a call of a publisher that no other call overlaps.
 use Rattle.std.proofs.Common.{ℕ, zero, suc, ◌≡◌, ◌+◌, ◌≤◌, ◌^◌, ◌&&◌, ◌||◌, not, cond, Bool, true, false, nat_lt, if◌then◌else◌, List, []}
 use Rattle.std.proofs.Common.{◌∷◌, ◌++◌, length, get_or, slice_get, Option, Some, None, refl, sym, ◌∙◌, ap, subst, inl, inr, arith}
 use Rattle.std.proofs.Common.{append_assoc, append-nil, length-append}

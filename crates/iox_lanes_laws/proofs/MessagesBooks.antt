@@ -14,7 +14,7 @@ use Rattle.iox_lanes_machine.proofs.Entries.{choose_other, count_append, put_at_
 use Rattle.iox_lanes_machine.proofs.Entries.{refers_other}
 use Rattle.iox_lanes_machine.proofs.Changes.{else_refers}
 
--- a slot stands in the history, or one of so many connections has it
+-- a slot stands in the history, or one of n connections has it
 abbrev pub IsUsed : ℕ → BookState → ℕ → Type 0
 IsUsed connections book slot = (0 < count slot book.history) ⊎ ((place : ℕ) × (place < connections) × (refers_to book place slot ≡ true))
 
@@ -118,7 +118,7 @@ put_back book at own place slot is h = elim (eqb_tells own slot) [
       )
 ]
 
--- a slot with a use behind a change had one before, or the change gave it
+-- a slot with a use after a change had one before, or the change gave it
 pub given_or_was : (connections : ℕ) (book : BookState) (c : PublisherChange) (slot : ℕ) → PutsOwn book c
     → IsUsed connections (changed c book) slot → IsUsed connections book slot ⊎ IsGiven c slot
 given_or_was connections book change.Nothing slot own h = inl h

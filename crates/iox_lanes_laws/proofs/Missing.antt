@@ -109,7 +109,7 @@ go_put false limit low high q value more h = by_test (nat_lt (length q) limit)
     by_test true = subst (λ (xs : List ℕ). GoUpTo low xs high) (sym (append_assoc q (value ∷ []) more)) h
     by_test false = go_without low q value more high h
 
--- what is taken, and behind it what waits then, goes up if what waited, and behind it what is put, does
+-- what is taken, and after it what waits then, goes up if what waited, and after it what is put, does
 taken_go : (o : Bool) (limit low high : ℕ) (q : List ℕ) (acts : List Act) → Acts o limit q acts
     → GoUpTo low (q ++ sequences_put acts) high → GoUpTo low (sequences_taken acts ++ after_acts o limit q acts) high
 taken_go o limit low high q [] answers h = subst (λ (xs : List ℕ). GoUpTo low xs high) (append-nil q) h

@@ -92,12 +92,12 @@ after_acts_so f o limit q [] = refl
 after_acts_so f o limit q (act ∷ acts) = after_acts_so f o limit (after_act o limit q act) acts
     ∙ ap (λ (w : List ℕ). after_acts o limit w (map (numbered_act f) acts)) (after_so f o limit q act)
 
--- acts of a whole order answer, so those behind some of them do
+-- acts of a whole order answer, so those after some of them do
 behind : (o : Bool) (limit : ℕ) (q : List ℕ) (xs ys : List Act) → Acts o limit q (xs ++ ys) → Acts o limit (after_acts o limit q xs) ys
 behind o limit q [] ys h = h
 behind o limit q (x ∷ xs) ys h = behind o limit (after_act o limit q x) xs ys h.1
 
--- an order that some acts of one moment stand behind
+-- an order that some acts of one moment stand after
 numbered_more : (ms : List MessageState) (order : List Placed) (moment : ℕ) (acts : List Act)
     → numbered ms (order ++ at moment acts) ≡ numbered ms order ++ map (numbered_act (number_by ms moment)) acts
 numbered_more ms [] moment [] = refl
@@ -106,7 +106,7 @@ numbered_more ms [] moment (act ∷ acts)
 numbered_more ms (placed ∷ order) moment acts
     = ap (λ (xs : List Act). numbered_act (number_by ms placed.moment) placed.act ∷ xs) (numbered_more ms order moment acts)
 
--- what stands before the end of a list stands there with more behind it
+-- what stands before the end of a list stands there with more after it
 pub kept_at : (ms more : List MessageState) (k : ℕ) → k < length ms → slice_get (ms ++ more) k ≡ slice_get ms k
 kept_at [] more k below = absurd (omega (arith, below))
 kept_at (m ∷ ms) more zero below = refl
@@ -120,7 +120,7 @@ last_kept ms more slot moment (suc count) within =
     (ap (was_sent_by slot moment) (kept_at ms more count (omega (arith, within))))
     (last_kept ms more slot moment count (omega (arith, within)))
 
--- the one behind a list
+-- the one after a list
 pub next_at : (ms : List MessageState) (one : MessageState) → slice_get (ms ++ one ∷ []) (length ms) ≡ Some one
 next_at [] one = refl
 next_at (m ∷ ms) one = next_at ms one

@@ -113,7 +113,7 @@ subscriber_orders : (m : World) (place : ℕ) (c : Call) (at : Option Subscriber
 subscriber_orders m place c None = refl
 subscriber_orders m place c (Some lane) = refl
 
--- the orders behind a step that goes on
+-- the orders after a step that goes on
 publisher_orders : (m : World) (place : ℕ) (at : Option PublisherLaneState) → (publisher_goes_on m place at).orders ≡ m.orders
 publisher_orders m place None = refl
 publisher_orders m place (Some lane) = refl
@@ -122,7 +122,7 @@ reader_orders : (m : World) (place : ℕ) (at : Option SubscriberLaneState) → 
 reader_orders m place None = refl
 reader_orders m place (Some lane) = refl
 
--- acts stand behind one order
+-- acts stand after one order
 stands : (first ms : List MessageState) (m n : World) (acts : List Act) (at_one : Option ℕ) → n.links ≡ m.links
     → n.orders ≡ added m.orders at_one m.moments acts → m.moments < n.moments → IsKept n → n.moments ≤ 2 ^ 63 → ArePast m ms
     → AllNumbered first m ms → AllNumbered first n (ms ++ [])

@@ -76,7 +76,7 @@ there_append connection (x ∷ xs) ys =
     ∙ sym (append_assoc (if x.connection == connection then x.answer ∷ [] else []) (answers_there connection xs)
     (answers_there connection ys))
 
--- takes that stand between two moments, one list of them behind the other
+-- takes that stand between two moments, one list of them after the other
 wider : (low less high most : ℕ) (xs : List PopCall) (ys : List PopAnswer) → less ≤ low → high ≤ most
     → AllZip (StandsBetween low high) xs ys → AllZip (StandsBetween less most) xs ys
 wider low less high most [] [] le ge h = h
@@ -105,7 +105,7 @@ now_between now high [] below = tt
 now_between now high (answer ∷ answers) below =
     (record { answered = refl; begun = omega arith; not_yet = below }, now_between now high answers below)
 
--- the orders behind a step
+-- the orders after a step
 publisher_begins_orders : (m : World) (who : ℕ) (c : Call) (at : Option PublisherLaneState)
     → (publisher_begins m who c at).orders ≡ m.orders
 publisher_begins_orders m who c None = refl
@@ -161,7 +161,7 @@ begin_takes : (m : World) (party : Party) (c : Call) (connection : ℕ) (b : Boo
 begin_takes m party c connection true = refl
 begin_takes m party c connection false = refl
 
--- behind a step an order has the takes that it had, and those of the step
+-- after a step an order has the takes that it had, and those of the step
 record StepTakes (connection moment : ℕ) (before : List Placed) (answers : List PopAnswer) (n : World) : Type 0 where
   order : List Placed
   got : slice_get n.orders connection ≡ Some order
@@ -253,7 +253,7 @@ one_then m entry entries connection link before s up past rest =
           rest.stand));
     }
 
--- what is so of the entries behind one is so of it and them
+-- what is so of the entries after one is so of it and them
 entry_follows : (m : World) (entry : Entry) (entries : List Entry) (connection : ℕ) (link : LinkState) (before : List Placed) (b : Bool)
     → fits m entry.party entry.step ≡ b → IsKept m → (led (after_entry b m entry) entries).moments ≤ 2 ^ 63
     → slice_get m.links connection ≡ Some link → slice_get m.orders connection ≡ Some before
@@ -313,7 +313,7 @@ rises_takes low (one ∷ order) high h =
     All-append (λ (take : PopCall). take.first ≤ high) (map (pop_call one.moment one.moment) (take_of one.act)) (takes order)
     (act_takes one.moment high one.act (rises_end one.moment order high h.1)) (rises_takes one.moment order high h.1)
 
--- takes that stand behind a moment
+-- takes that stand after a moment
 all_behind : (last low high : ℕ) (xs : List PopCall) (ys : List PopAnswer) → last ≤ low → AllZip (StandsBetween low high) xs ys
     → All (λ (take : PopCall). last ≤ take.first) xs
 all_behind last low high [] ys le h = All-nil (λ (take : PopCall). last ≤ take.first)
@@ -321,7 +321,7 @@ all_behind last low high (x ∷ xs) [] le h = absurd h
 all_behind last low high (x ∷ xs) (y ∷ ys) le h =
     All-cons (λ (take : PopCall). last ≤ take.first) x xs (omega (arith, le, (h.0).begun)) (all_behind last low high xs ys le h.1)
 
--- where entries lead, one list of them behind the other
+-- where entries lead, one list of them after the other
 led_both : (m : World) (entries more : List Entry) → led m (entries ++ more) ≡ led (led m entries) more
 led_both m [] more = refl
 led_both m (entry ∷ entries) more = led_both (after_entry (fits m entry.party entry.step) m entry) entries more

@@ -167,7 +167,7 @@ waits_more link before after acts more
     = ap (after_acts (overflows link.kind) link.limit link.found) more ∙ after_acts-append (overflows link.kind) link.limit link.found
     (acts_of before) acts
 
--- what stands behind some acts is answered by what they leave
+-- what stands after some acts is answered by what they leave
 acts_behind : (o : Bool) (limit : ℕ) (q : List ℕ) (xs ys : List Act) → Acts o limit q (xs ++ ys) → Acts o limit (after_acts o limit q xs) ys
 acts_behind o limit q [] ys h = h
 acts_behind o limit q (x ∷ xs) ys h = acts_behind o limit (after_act o limit q x) xs ys h.1

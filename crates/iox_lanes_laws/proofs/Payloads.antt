@@ -205,7 +205,7 @@ store_step items slot k lane place fit s = record {
   asked = s.asked;
 }
 
--- behind its last step the slot holds that
+-- after its last step the slot holds that
 last_holds : (items : List ℕ) (slot : ℕ) (k : World) (lane : PublisherLaneState) (place : ℕ) → Stores items slot k lane place
     → k.moments ≤ 2 ^ 63 → publisher_is_over lane.port.call ≡ true
     → payload_held (happens k (Publisher place) GoOn).table slot ≡ items
@@ -267,7 +267,7 @@ writes_hold_in_turn = λ m n place slot payload user_header t.
         })
         goes few
 
--- what the numbers of a publisher's record are behind its last step
+-- what the numbers of a publisher's record are after its last step
 record SameNumbers (was now : BookState) : Type 0 where
   first : now.first ≡ was.first
   most_loans : now.most_loans ≡ was.most_loans

@@ -1,4 +1,4 @@
--- A publisher's call makes the accesses of its course in any run, and ends right behind the last one.
+-- A publisher's call makes the accesses of its course in any run, and ends right after the last one.
 use Rattle.std.proofs.Common.{ℕ, ◌≡◌, ◌+◌, ◌-◌, ◌<◌, ◌≤◌, ◌^◌, ◌==◌, ◌&&◌, ◌⊎◌, nat_lt, Bool, true, false, if◌then◌else◌, List, [], ◌∷◌}
 use Rattle.std.proofs.Common.{◌++◌, length, slice_get, Option, Some, None, refl, sym, ◌∙◌, ap, ap₂, subst, inl, inr, arith, append-nil}
 use Rattle.std.proofs.Common.{append_assoc}
@@ -134,7 +134,7 @@ begun_goes : (k : RingKind) (limit slot : ℕ) → push_next (push_begun k limit
 begun_goes kind.Overflowing limit slot quiet = absurd (cc quiet)
 begun_goes kind.Refusing limit slot quiet = absurd (cc quiet)
 
--- a stage whose step touches no word is the last one, or that of the history, or no call is under way
+-- a stage whose step touches no word is the last one, or that of the history, or no call is in progress
 abbrev Goes : PublisherCall → Type 0
 Goes publishing.Idle = Unit {0}
 Goes (publishing.LoanReclaims place route p) = refusing.pop_next p ≡ own.Local → ⊥

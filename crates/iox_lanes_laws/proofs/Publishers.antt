@@ -211,7 +211,7 @@ start m place c before k found fit few =
       book = book_begun m.moments c before may;
     }
 
--- behind a last step no call is under way
+-- after a last step no call is in progress
 over_idle : (routes : List Route) (stored : List ℕ) (c : PublisherCall) (a : ℕ) → publisher_is_over c ≡ true
     → publisher_is_idle (publisher_take routes stored c a) ≡ true
 over_idle routes stored publishing.Idle a h = absurd (cc h)
@@ -226,7 +226,7 @@ over_idle routes stored (publishing.Pushing slot place route p delivery) a h = a
 over_idle routes stored (publishing.Sent slot delivery) a h = refl
 over_idle routes stored (publishing.Dropping slot) a h = refl
 
--- a whole call, from its begin to behind its end
+-- a whole call, from its begin to after its end
 pub record WholeCall (m : World) (place : ℕ) (c : Call) (before : PublisherLaneState) (n : World) (after : PublisherLaneState) : Type 0
   where
     pub was : IsKept m

@@ -32,7 +32,7 @@ use Rattle.iox_lanes_laws.specs.ReceiveCourses.{receive_course, read_course, wor
 use Rattle.iox_lanes_laws.specs.ReceiveCourses.{ReleasesPush}
 use Rattle.iox_lanes_laws.proofs.CourseLaws.{next_place}
 
--- no call is under way
+-- no call is in progress
 idle_course : (routes : List Route) (borrowed : List ℕ) (most : ℕ) (answers : List ℕ)
     → subscriber_course routes borrowed most Idle answers ≡ quiet_course answers
 idle_course routes borrowed most [] = refl
@@ -212,7 +212,7 @@ read_over routes borrowed most slot extent word [] = refl
 read_over routes borrowed most slot extent word (answer ∷ answers)
     = ap (λ (rest : List SharedAccess). Local ∷ rest) (idle_course routes borrowed most answers)
 
--- a read from a word on, where so many are left
+-- a read from a word on, where n are left
 read_run : (routes : List Route) (borrowed : List ℕ) (most slot : ℕ) (extent : SlotExtent) (word left : ℕ)
     → word + left ≡ words_in extent → words_in extent < 2 ^ 64 - 1
     → (answers : List ℕ) → subscriber_course routes borrowed most (read_at slot extent word) answers

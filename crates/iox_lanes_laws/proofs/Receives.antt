@@ -64,7 +64,7 @@ use Rattle.iox_lanes_laws.proofs.PublisherLaws.{stage_idle, idle_pushes}
 use Rattle.iox_lanes_laws.proofs.Subscribers.{Alone, Keeps, next_lane, next_call, orders_are, links_are, next_samples, begun_mail}
 use Rattle.iox_lanes_laws.proofs.Subscribers.{few_first, WholeCall, whole, answered_by}
 
--- what waits at each connection behind a step of a pop or a look
+-- what waits at each connection after a step of a pop or a look
 record MailMoves (k n : World) (route : Route) (a : Option PopAnswer) : Type 0 where
   here : Given (mail_at k route.connection) (mail_at n route.connection) a
   elsewhere : (connection : ℕ) → (connection ≡ route.connection → ⊥) → mail_at n connection ≡ mail_at k connection
@@ -180,7 +180,7 @@ Since m before k lane (subscribing.Released done) = ⊥
 samples_stay : (before lane : SubscriberLaneState) → lane.port.samples ≡ before.port.samples → SamplesStay before lane
 samples_stay before lane e = λ slot. ap (λ (xs : List (Option ℕ)). get_or xs slot None) e
 
--- behind the last place
+-- after the last place
 all_past : (m : World) (before : SubscriberLaneState) (place : ℕ) (Is : Route → Type 0) → slice_get before.port.routes place ≡ None
     → NoneBefore before place Is → NoneOf before Is
 all_past m before place Is none h = λ at route there. h at route

@@ -185,7 +185,7 @@ releases_in_turn = λ m n place sample before after t found now.
     })
     t found now)
 
--- a read of this sample is under way
+-- a read of this sample is in progress
 abbrev pub IsReading : ℕ → SubscriberCall → Type 0
 IsReading sample subscribing.Idle = ⊥
 IsReading sample (subscribing.Receiving place route p waits) = ⊥

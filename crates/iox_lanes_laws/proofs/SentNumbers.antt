@@ -60,7 +60,7 @@ has_more ms more slot moment h = record {
   early = h.early;
 }
 
--- what stands behind a list
+-- what stands after a list
 pub at_behind : {X : Type 0} (xs more : List X) (k : ℕ) → slice_get (xs ++ more) (length xs + k) ≡ slice_get more k
 at_behind [] more k = ap (slice_get more) (omega arith)
 at_behind (x ∷ xs) more k =

@@ -48,7 +48,7 @@ fourth number head long = elim (cases_lt 3 (length head)) [
     width true = length-set head 3 number
     width false = refl
 
--- the message of a send that begins has the sequence number behind the last one
+-- the message of a send that begins has the sequence number after the last one
 pub begun_sequence : (m : World) (who loan x : ℕ) (lane : PublisherLaneState)
     → IsPublisher m.table.sizes (publisher_begun m.moments (call.Send loan) lane) → 0 < m.table.sizes.user_header_words
     → lane.last ≡ Some x → x + 1 < 2 ^ 64 → sequence_of (message_of m.table m.moments who loan lane) ≡ x + 1
@@ -89,15 +89,15 @@ of_other m who place call.Receive (Some lane) other = refl
 of_other m who place (call.Read sample) (Some lane) other = refl
 of_other m who place (call.Release sample) (Some lane) other = refl
 
--- A publisher's messages have sequence numbers that count up from behind `last`, and it gave that of the last of them; they are no more
--- than there were steps.
+-- A publisher's messages have sequence numbers that count up from the one after `last`, and it gave that of the last of them; they are no
+-- more than there were steps.
 pub record CountsOn (who last : ℕ) (publishers : List PublisherLaneState) (moments : ℕ) (sent : List MessageState) : Type 0 where
   pub given : (lane : PublisherLaneState) → slice_get publishers who ≡ Some lane
       → lane.last ≡ Some (last + length (messages_of who sent))
   pub counts : CountUp last (map sequence_of (messages_of who sent))
   pub few : length (messages_of who sent) ≤ moments
 
--- a publisher that stands behind a step gave last what one gave that stood before it
+-- a publisher that stands after a step gave last what one gave that stood before it
 record GaveAsBefore (publishers : List PublisherLaneState) (who : ℕ) (lane : PublisherLaneState) : Type 0 where
   before : PublisherLaneState
   found : slice_get publishers who ≡ Some before

@@ -115,7 +115,7 @@ sends_now None = 0
 sends_now (Some slot) = 1
 
 -- Each send of a publisher that ended, by its place among them, and the one that goes on: while it lasts, its slot has the message whose
--- sequence number is as far behind `last`. So many messages were sent as sends ended, and one more where one goes on.
+-- sequence number is as far after `last`. n messages were sent as sends ended, and one more where one goes on.
 pub record SendsOn (who last : ℕ) (publishers : List PublisherLaneState) (calls : List FinishedCall) (ms sent : List MessageState) : Type 0
   where
     pub ended_have : (number : ℕ) (send : FinishedCall) → slice_get calls number ≡ Some send → (slot : ℕ) → send.call ≡ name.Send slot
@@ -257,7 +257,7 @@ begins_send who last m place c (Some own) ms sent e fit k less low wide on h = e
   | inr other ↦ begins_other who last m place own ms sent e k less low wide on h c fit other.1
 ]
 
--- a call that ends: a send, or no send was under way
+-- a call that ends: a send, or no send was in progress
 record EndsSend (c : PublisherCall) : Type 0 where
   slot : ℕ
   delivery : Delivery

@@ -41,7 +41,7 @@ use Rattle.iox_lanes_machine.specs.Left.{StoresHeld, HoldsAllHead}
 use Rattle.iox_lanes_machine.specs.Slots.{StandsAtLoan}
 use Rattle.iox_lanes_laws.proofs.MessagesBooks.{IsGiven, PutsOwn}
 
--- the slot of a send that is under way
+-- the slot of a send that is in progress
 abbrev pub sending : PublisherCall → Option ℕ
 sending publishing.Idle = None
 sending (publishing.LoanReclaims place route p) = None
@@ -117,7 +117,7 @@ sends_on routes words (publishing.Pushing own place route p delivery) a inside
 sends_on routes words (publishing.Sent own delivery) a inside = absurd (cc inside)
 sends_on routes words (publishing.Dropping own) a inside = absurd (cc inside)
 
--- behind a last step nothing is sent
+-- after a last step nothing is sent
 pub sends_over : (routes : List Route) (words : List ℕ) (c : PublisherCall) (a : ℕ) → publisher_is_over c ≡ true
     → sending (publisher_take routes words c a) ≡ None
 sends_over routes words publishing.Idle a over = absurd (cc over)
@@ -132,7 +132,7 @@ sends_over routes words (publishing.Pushing own place route p delivery) a over =
 sends_over routes words (publishing.Sent own delivery) a over = refl
 sends_over routes words (publishing.Dropping own) a over = refl
 
--- who sends a slot behind a step sent it before
+-- who sends a slot after a step sent it before
 pub sent_before : (routes : List Route) (words : List ℕ) (c : PublisherCall) (a slot : ℕ)
     → sending (publisher_take routes words c a) ≡ Some slot → sending c ≡ Some slot
 sent_before routes words c a slot h = by_test (publisher_is_over c) refl

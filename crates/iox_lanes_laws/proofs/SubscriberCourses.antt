@@ -1,4 +1,4 @@
--- A subscriber's call makes the accesses of its course in any run, and ends right behind the last one; a release after four.
+-- A subscriber's call makes the accesses of its course in any run, and ends right after the last one; a release after four.
 use Rattle.std.proofs.Common.{ℕ, ◌≡◌, ◌+◌, ◌-◌, ◌<◌, ◌≤◌, ◌^◌, ◌==◌, ◌&&◌, ◌⊎◌, ◌||◌, not, nat_lt, Bool, true, false, if◌then◌else◌, List}
 use Rattle.std.proofs.Common.{[], ◌∷◌, ◌++◌, length, set, slice_get, Option, Some, None, refl, sym, ◌∙◌, ap, subst, inl, inr, arith}
 use Rattle.std.proofs.Common.{append-nil, append_assoc, length-append}
@@ -96,7 +96,7 @@ first_goes kind.Overflowing false quiet = absurd (cc quiet)
 first_goes kind.Refusing true quiet = absurd (cc quiet)
 first_goes kind.Refusing false quiet = absurd (cc quiet)
 
--- a stage whose step touches no word is the last one, or no call is under way
+-- a stage whose step touches no word is the last one, or no call is in progress
 abbrev pub Goes : SubscriberCall → Type 0
 Goes subscribing.Idle = Unit {0}
 Goes (subscribing.Receiving place route p waits) = pop_next p ≡ own.Local → ⊥
@@ -154,7 +154,7 @@ quiet_ends (subscribing.WasRead slot) g busy quiet = refl
 quiet_ends (subscribing.Releasing place route p) g busy quiet = absurd (g (quiet_ring _ _ _ (refusing.push_next p) quiet))
 quiet_ends (subscribing.Released done) g busy quiet = refl
 
--- a release has so many steps left, of five before its last one; other calls have none
+-- a release has n steps left, of five before its last one; other calls have none
 abbrev pushes_left : refusing_push_type.Push → ℕ
 pushes_left push.Idle = 0
 pushes_left (push.Begun limit value) = 5

@@ -243,7 +243,7 @@ start m place c before k found fit few =
       first = asked.1;
     }
 
--- behind a last step no call is under way
+-- after a last step no call is in progress
 over_idle : (routes : List Route) (borrowed : List ℕ) (most : ℕ) (c : SubscriberCall) (a : ℕ) → subscriber_is_over c ≡ true
     → subscriber_is_idle (subscriber_take routes borrowed most c a) ≡ true
 over_idle routes borrowed most subscribing.Idle a h = absurd (cc h)
@@ -263,7 +263,7 @@ over_quiet (subscribing.WasRead slot) h = refl
 over_quiet (subscribing.Releasing place route p) h = refl
 over_quiet (subscribing.Released done) h = refl
 
--- a whole call, from its begin to behind its end
+-- a whole call, from its begin to after its end
 pub record WholeCall (m : World) (place : ℕ) (c : Call) (before : SubscriberLaneState) (P : World → SubscriberLaneState → Type 0)
     (n : World) (after : SubscriberLaneState) : Type 0 where
   pub last : LastStep m place before (name_of c) P n

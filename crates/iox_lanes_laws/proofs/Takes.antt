@@ -538,7 +538,7 @@ all_taking place first start w takes (entry ∷ entries) small few p =
     subst (Taking place first start (led w (entry ∷ entries)))
     (append_assoc takes t (own_takes (λ party. is_receiver party place) (after_entry b w entry) entries)) rest
 
--- what a receive that is under way took
+-- what a receive that is in progress took
 pub receive_takes : (m : World) → CameTo m → (place : ℕ) (lane : SubscriberLaneState) (entries : List Entry)
     → slice_get m.subscribers place ≡ Some lane → subscriber_fits lane (Begin call.Receive) ≡ true → length lane.port.routes < 2 ^ 64 - 1
     → (led (happens m (Subscriber place) (Begin call.Receive)) entries).moments ≤ 2 ^ 63

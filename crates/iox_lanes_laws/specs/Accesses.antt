@@ -1,4 +1,4 @@
--- The accesses of a whole call in any run of lanes, however the steps of others come between its own.
+-- The accesses of a whole call in any run of lanes, however the steps of other parties come between its own.
 use Rattle.std.specs.Prelude.{ℕ, ◌≡◌, ◌-◌, ◌<◌, ◌≤◌, ◌^◌, ◌&&◌, ◌⊎◌, Bool, true, false, if◌then◌else◌, List, [], ◌∷◌, ◌++◌, length}
 use Rattle.std.specs.Prelude.{slice_get, Option, Some, None}
 use Rattle.iox_lanes_base.specs.Subscribing.{subscriber_is_idle}
@@ -48,7 +48,7 @@ publisher_call_course lane call.Receive answers = []
 publisher_call_course lane (call.Read sample) answers = []
 publisher_call_course lane (call.Release sample) answers = []
 
--- How many words of a slot a publisher's call stores.
+-- The number of words of a slot that a publisher's call stores.
 abbrev pub words_stored : PublisherLaneState → Call → ℕ
 words_stored lane call.LoanUninit = 0
 words_stored lane (call.Write loan payload user_header) = length payload.items
@@ -58,8 +58,8 @@ words_stored lane call.Receive = 0
 words_stored lane (call.Read sample) = 0
 words_stored lane (call.Release sample) = 0
 
--- A publisher's call that began, and is still under way after these entries, on lanes that made at most 2^63 steps; connections and stored
--- words are fewer than 2^64 - 1.
+-- A publisher's call that began, and is still in progress after these entries, on lanes that made at most 2^63 steps; there are fewer than
+-- 2^64 - 1 connections, and fewer than 2^64 - 1 stored words.
 pub record IsPublisherCall (m : World) (place : ℕ) (lane : PublisherLaneState) (c : Call) (entries : List Entry) : Type 0 where
   pub found : slice_get m.publishers place ≡ Some lane
   pub may : publisher_fits lane (Begin c) ≡ true
@@ -68,8 +68,8 @@ pub record IsPublisherCall (m : World) (place : ℕ) (lane : PublisherLaneState)
   pub few : (led (happens m (Publisher place) (Begin c)) entries).moments ≤ 2 ^ 63
   pub inside : IsInCall (led (happens m (Publisher place) (Begin c)) entries) place m.moments
 
--- In any run the accesses of a publisher's call are the course of the call, by their answers. It holds for fewer than 2^64 - 1 connections
--- and words, as long as at most 2^63 steps were made.
+-- In any run the accesses of a publisher's call are the course of the call, as its answers determine it. This holds for fewer than 2^64 - 1
+-- connections and words, as long as at most 2^63 steps were made.
 abbrev pub PublishersKeepCourse : Type 0
 PublishersKeepCourse = (m : World) (place : ℕ) (lane : PublisherLaneState) (c : Call) (entries : List Entry)
     → IsPublisherCall m place lane c entries
@@ -108,8 +108,8 @@ pub record IsInSubscriberCall (m : World) (place first : ℕ) : Type 0 where
   pub since : lane.first ≡ first
   pub busy : subscriber_is_idle lane.port.call ≡ false
 
--- A subscriber's call that began, and is still under way after these entries, on lanes that made at most 2^63 steps; connections and the
--- words of a slot are fewer than 2^64 - 1.
+-- A subscriber's call that began, and is still in progress after these entries, on lanes that made at most 2^63 steps; there are fewer than
+-- 2^64 - 1 connections, and a slot has fewer than 2^64 - 1 words.
 pub record IsSubscriberCall (m : World) (place : ℕ) (lane : SubscriberLaneState) (c : Call) (entries : List Entry) : Type 0 where
   pub found : slice_get m.subscribers place ≡ Some lane
   pub may : subscriber_fits lane (Begin c) ≡ true
@@ -118,8 +118,8 @@ pub record IsSubscriberCall (m : World) (place : ℕ) (lane : SubscriberLaneStat
   pub few : (led (happens m (Subscriber place) (Begin c)) entries).moments ≤ 2 ^ 63
   pub inside : IsInSubscriberCall (led (happens m (Subscriber place) (Begin c)) entries) place m.moments
 
--- In any run the accesses of a subscriber's call are the course of the call, by their answers. It holds for fewer than 2^64 - 1 connections
--- and words, as long as at most 2^63 steps were made.
+-- In any run the accesses of a subscriber's call are the course of the call, as its answers determine it. This holds for fewer than
+-- 2^64 - 1 connections and words, as long as at most 2^63 steps were made.
 abbrev pub SubscribersKeepCourse : Type 0
 SubscribersKeepCourse = (m : World) (place : ℕ) (lane : SubscriberLaneState) (c : Call) (entries : List Entry)
     → IsSubscriberCall m place lane c entries
@@ -133,8 +133,8 @@ SubscribersEndAtOnce = (m : World) (place : ℕ) (lane : SubscriberLaneState) (c
     → access_of (led (happens m (Subscriber place) (Begin c)) entries) (Subscriber place) GoOn ≡ Local
     → ends (led (happens m (Subscriber place) (Begin c)) entries) (Subscriber place) GoOn ≡ true
 
--- A release that is still under way made at most four steps since it began. So it ends with its sixth entry, its beginning and its last
--- step included.
+-- A release that is still in progress made at most four steps since it began. So it ends with its sixth entry, counting its beginning and
+-- its last step.
 abbrev pub ReleasesEndSoon : Type 0
 ReleasesEndSoon = (m : World) (place sample : ℕ) (lane : SubscriberLaneState) (entries : List Entry)
     → IsSubscriberCall m place lane (call.Release sample) entries

@@ -60,7 +60,7 @@ abbrev pub SubscribersKeepPace : Type 0
 SubscribersKeepPace = (call : SubscriberCall) (answer : ℕ)
     → is_of_samples (subscriber_change call answer) ≡ moves (subscriber_next call) answer
 
--- A receive only looks at a connection exactly where as many samples of the connection are borrowed as may be.
+-- A receive only looks at a connection exactly if the maximum number of samples is borrowed from the connection.
 abbrev pub LimitsHold : Type 0
 LimitsHold = (borrowed : List ℕ) (most place count : ℕ) → slice_get borrowed place ≡ Some count
     → (most ≤ count → is_full_at borrowed most place ≡ true) × (count < most → is_full_at borrowed most place ≡ false)

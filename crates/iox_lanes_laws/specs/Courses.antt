@@ -19,7 +19,7 @@ publisher_course routes words call [] = []
 publisher_course routes words call (answer ∷ answers) =
     publisher_next call ∷ publisher_course routes words (publisher_take routes words call answer) answers
 
--- The accesses of local steps, which touch no word.
+-- The accesses of local steps, none of which touches a word.
 abbrev pub quiet_course : List ℕ → List SharedAccess
 quiet_course [] = []
 quiet_course (answer ∷ answers) = Local ∷ quiet_course answers
@@ -28,8 +28,8 @@ quiet_course (answer ∷ answers) = Local ∷ quiet_course answers
 abbrev pub back : Route → Word → SharedWord
 back route word = Ring route.connection Completion word
 
--- The accesses of taking back at a connection: both positions are loaded; if they are equal, `next` follows, otherwise the oldest cell is
--- loaded, the read position is stored, and all is done again.
+-- The accesses of taking samples back at a connection: both positions are loaded. If they are equal, `next` follows; otherwise the oldest
+-- cell is loaded, the read position is stored, and all this is done again.
 abbrev pub reclaim_course : Route → (List ℕ → List SharedAccess) → List ℕ → List SharedAccess
 reclaim_course route next [] = []
 reclaim_course route next (read ∷ []) = Load (back route Read) ∷ []

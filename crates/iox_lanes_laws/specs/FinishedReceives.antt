@@ -16,9 +16,9 @@ use Rattle.iox_lanes_machine.specs.WholeReads.{CameTo}
 use Rattle.iox_lanes_machine.specs.World.{World, happens}
 use Rattle.iox_lanes_laws.specs.Takes.{Visits, own_takes}
 
--- A receive that ended on the way to these lanes: the lanes where it began, the subscriber then, the entries up to its last step and those
--- after it. It took or looked once at each connection, in their order, up to the first that gave a message, and its answer is what these
--- takes say. It holds for fewer than 2^64 - 1 connections.
+-- A receive that ended on the way to these lanes, with the lanes and the subscriber when it began, the entries up to its last step, and
+-- those after it. It took or looked once at each connection, in their order, up to the first that gave a message, and its answer is what
+-- these takes say. This holds for fewer than 2^64 - 1 connections.
 pub record WasReceived (m : World) (ended : FinishedCall) : Type 0 where
   pub before : World
   pub came : CameTo before
@@ -37,14 +37,15 @@ pub record WasReceived (m : World) (ended : FinishedCall) : Type 0 where
       × Visits lane.port.borrowed lane.port.most_borrowed 0 false lane.port.routes
       (own_takes (λ party. is_receiver party place) (happens before (Subscriber place) (Begin call.Receive)) during) (Received given)
 
--- Each receive that ended took its message so (`WasReceived`).
+-- Each receive that ended took its message as `WasReceived` says.
 abbrev pub AllReceivesTook : World → Type 0
 AllReceivesTook m = (ended : FinishedCall) → Contains m.finished ended → ended.call ≡ name.Receive → WasReceived m ended
 
--- Each receive that ended took its message so, as long as at most 2^63 steps were made.
+-- Each receive that ended took its message as `WasReceived` says, as long as at most 2^63 steps were made.
 abbrev pub ReceivesFollow : World → Type 0
 ReceivesFollow m = m.moments ≤ 2 ^ 63 → AllReceivesTook m
 
--- On all lanes that came somewhere by steps, each receive that ended took its message so, as long as at most 2^63 steps were made.
+-- On all lanes that came somewhere by steps, each receive that ended took its message as `WasReceived` says, as long as at most 2^63 steps
+-- were made.
 abbrev pub FinishedReceivesFollow : Type 0
 FinishedReceivesFollow = (m : World) → CameTo m → ReceivesFollow m

@@ -13,7 +13,7 @@ use Rattle.iox_lanes_laws.specs.Messages.{MessageState}
 use Rattle.iox_lanes_laws.specs.Numbered.{found_messages, last_number}
 use Rattle.iox_lanes_laws.specs.Recorded.{RecordState, RecordsRun}
 
--- Some message was sent or found in this slot by this moment, so the slot has a number then.
+-- Some message was sent or found in this slot by this moment, so the slot has a number at this moment.
 abbrev pub HasNumber : List MessageState → ℕ → ℕ → Type 0
 HasNumber messages moment slot = (number : ℕ) × (last_number messages slot moment (length messages) ≡ Some number)
 
@@ -30,8 +30,8 @@ slots_named (Take (Saw some)) = []
 abbrev pub OrderHasNumbers : List MessageState → List Placed → Type 0
 OrderHasNumbers messages order = All (λ placed. All (HasNumber messages placed.moment) (slots_named placed.act)) order
 
--- Whatever is run from before the first step on, if the messages that were found then were kept: each message that was found to wait has a
--- number, and so has each that is put, dropped or taken by an order. It holds as long as at most 2^63 steps were made.
+-- In each run from before the first step on, if the messages that were found were kept then: each message that was found to wait has a
+-- number, and so has each message that an order puts, drops or takes. This holds as long as at most 2^63 steps were made.
 abbrev pub OrdersHaveNumbers : Type 0
 OrdersHaveNumbers = (r : RecordState) (entries : List Entry) (made : ℕ) (n : RecordState) → CameTo r.lanes → r.lanes.moments ≡ 0
     → r.messages ≡ found_messages r.lanes → RecordsRun r entries made n → n.lanes.moments ≤ 2 ^ 63

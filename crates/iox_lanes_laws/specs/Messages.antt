@@ -25,8 +25,8 @@ pub record MessageState : Type 0 where
 abbrev pub payload_held : TableWords → ℕ → List ℕ
 payload_held table slot = listed (λ word. held_by table (Slot slot (Payload word))) table.sizes.payload_words
 
--- The message that a loan is when its send begins at this moment: the header and the user header that are kept for it, and the payload that
--- its slot contains.
+-- The message that a loan becomes when its send begins at this moment: the header and the user header that are kept for it, and the payload
+-- that its slot contains.
 abbrev pub message_of : TableWords → ℕ → ℕ → ℕ → PublisherLaneState → MessageState
 message_of table moment publisher loan lane
     = record { publisher = publisher; slot = loan; moment = moment; words = head_of loan lane ++ payload_held table loan }

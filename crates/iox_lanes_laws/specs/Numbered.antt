@@ -14,7 +14,7 @@ use Rattle.iox_lanes_machine.specs.World.{World}
 use Rattle.iox_lanes_laws.specs.Messages.{MessageState}
 use Rattle.iox_lanes_laws.specs.declared.messages.placed_message.PlacedMessage.{PlacedMessage}
 
--- The message found in a publisher's slot with this many uses: if it has any, a message with the words that the slot contains.
+-- The message found in a publisher's slot with this many uses: if the slot has any use, a message with the words that the slot contains.
 abbrev pub found_in : World → ℕ → ℕ → ℕ → List MessageState
 found_in m publisher slot uses =
     if nat_lt 0 uses

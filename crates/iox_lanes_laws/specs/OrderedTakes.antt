@@ -1,4 +1,4 @@
--- The takes of receives are in the order of their connection.
+-- The takes of receives are entries of the order of their connection.
 use Rattle.std.specs.Prelude.{ℕ, ◌≡◌, ◌+◌, ◌<◌, ◌≤◌, ◌^◌, ◌==◌, if◌then◌else◌, List, [], ◌∷◌, ◌++◌, Contains, map, slice_get}
 use Rattle.std.specs.Prelude.{Some, true}
 use Rattle.std.specs.List.{All, AllZip}
@@ -28,7 +28,7 @@ answers_there connection [] = []
 answers_there connection (take ∷ more) =
     (if take.connection == connection then take.answer ∷ [] else []) ++ answers_there connection more
 
--- The take or look of an order has this answer, and its moment is at least `low` and below `high`.
+-- The take or look of an order has this answer, and its moment is at least `low` and less than `high`.
 pub record StandsBetween (low high : ℕ) (take : PopCall) (answer : PopAnswer) : Type 0 where
   pub answered : take.answer ≡ answer
   pub begun : low ≤ take.first
@@ -44,8 +44,8 @@ StepsTakeNow = (m : World) → CameTo m → (party : Party) (step : Move) → fi
     × (takes after ≡ takes before ++ map (pop_call m.moments m.moments)
     (answers_there connection (if is_receiver party link.subscriber then step_takes m party step else [])))
 
--- What came into an order after the entries of `before`: exactly the takes and looks of `own` at this connection, each once and one after
--- the other, from the moment `low` on and before the next moment of these lanes.
+-- What was added to an order after the entries of `before`: exactly the takes and looks of `own` at this connection, each once and one
+-- after the other, from the moment `low` on and before the next moment of these lanes.
 pub record TakesFollow (connection low : ℕ) (before : List Placed) (own : List PlacedTake) (n : World) : Type 0 where
   pub order : List Placed
   pub got : slice_get n.orders connection ≡ Some order
@@ -55,7 +55,7 @@ pub record TakesFollow (connection low : ℕ) (before : List Placed) (own : List
 
 -- For lanes that came somewhere by steps, and whatever entries follow: the takes and looks of a connection's order are those before the
 -- entries, followed by exactly those that its subscriber made there by these entries, in their order, from the first of their moments on
--- and before the next one. It holds as long as at most 2^63 steps were made.
+-- and before the next one. This holds as long as at most 2^63 steps were made.
 abbrev pub TakesStandInOrder : Type 0
 TakesStandInOrder = (m : World) → CameTo m → (entries : List Entry) → (led m entries).moments ≤ 2 ^ 63
     → (connection : ℕ) (link : LinkState) (before : List Placed) → slice_get m.links connection ≡ Some link

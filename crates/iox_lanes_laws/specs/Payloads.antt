@@ -1,4 +1,4 @@
--- What a call that no other call overlaps leaves of the payloads of slots, and of the ports.
+-- What a call that no other call overlaps leaves in the payloads of slots, and in the ports.
 use Rattle.std.specs.Prelude.{ℕ, ◌≡◌, ◌<◌, length, slice_get, Some}
 use Rattle.std.specs.Global.{Vec}
 use Rattle.iox_lanes_machine.specs.LanesParties.Parties.{PublisherLaneState, SubscriberLaneState, name_of}
@@ -16,7 +16,7 @@ abbrev pub PayloadsStayInTurn : Type 0
 PayloadsStayInTurn = (m n : World) (party : Party) (c : Call) → IsInTurn m party c n → (slot : ℕ) → slot < m.table.sizes.slots
     → (name_of c ≡ name.Write slot → ⊥) → payload_held n.table slot ≡ payload_held m.table slot
 
--- The slot that such a call writes then has exactly the words of the write as payload.
+-- A slot that is written by a call that no other call overlaps then has exactly the words of the write as its payload.
 abbrev pub WritesHoldInTurn : Type 0
 WritesHoldInTurn = (m n : World) (place slot : ℕ) (payload user_header : Vec ℕ)
     → IsInTurn m (Publisher place) (call.Write slot payload user_header) n → payload_held n.table slot ≡ payload.items

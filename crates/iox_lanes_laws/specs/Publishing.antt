@@ -1,4 +1,4 @@
--- What a call of a publisher leaves that no other call overlaps.
+-- What a publisher's call that no other call overlaps leaves.
 use Rattle.std.specs.Prelude.{ℕ, ◌≡◌, ◌+◌, ◌-◌, ◌<◌, ◌^◌, ◌↔◌, ◌||◌, not, Bool, false, nat_lt, List, [], ◌∷◌, ◌++◌, length, drop}
 use Rattle.std.specs.Prelude.{count_by, slice_get, Option, Some, None}
 use Rattle.iox_lanes_machine.specs.QueuesSteps.Order.{after_put}
@@ -50,9 +50,9 @@ HistoryStays before after = after.port.book.history ≡ before.port.book.history
 abbrev pub AllInUse : World → PublisherLaneState → Type 0
 AllInUse m lane = (slot : ℕ) → IsOwn lane.port.book slot → IsInUse m lane slot
 
--- A loan is refused exactly where as many loans are out as may be. It finds no slot exactly where fewer are out and each slot of the
--- publisher is in use. The slot that it gets was the publisher's and not in use, and is an unwritten loan from then on. Each other slot is
--- what it was.
+-- A loan is refused exactly if the publisher has as many loans as its loan limit allows. It finds no slot exactly if the publisher has
+-- fewer loans and each of its slots is in use. The slot that it gets was the publisher's and not in use, and is an unwritten loan from then
+-- on. Each other slot is what it was.
 pub record Lends (m : World) (before : PublisherLaneState) (given : LoanAnswer) (after : PublisherLaneState) : Type 0 where
   pub refused : given ≡ loan.ExceedsMaxLoans ↔ loans_out before.port.book ≡ before.port.book.most_loans
   pub lacks : given ≡ loan.OutOfMemory ↔ (loans_out before.port.book < before.port.book.most_loans) × AllInUse m before
@@ -64,18 +64,18 @@ pub record Lends (m : World) (before : PublisherLaneState) (given : LoanAnswer) 
 abbrev pub newest : ℕ → List ℕ → List ℕ
 newest most slots = drop (length slots - most) slots
 
--- Whether there is a connection, and it takes one message more: its ring overflows, or fewer messages wait than may.
+-- Whether there is a connection, and it takes one more message: its ring overflows, or fewer messages wait than its maximum.
 abbrev pub takes_in : Option LinkState → List ℕ → Bool
 takes_in None waiting = false
 takes_in (Some link) waiting = overflows link.kind || nat_lt (length waiting) link.limit
 
--- Whether the connection of this route takes one message more.
+-- Whether the connection of this route takes one more message.
 abbrev pub route_takes : World → Route → Bool
 route_takes m route = takes_in (slice_get m.links route.connection) (mail_at m route.connection)
 
--- A send puts its slot into the mailbox of each connection of its publisher and into no other. Its delivery counts how many took the slot,
--- and how many didn't. The slot isn't a loan any longer, and is the newest of the history, which drops its oldest one if it would be too
--- long.
+-- A send puts its slot into the mailbox of each connection of its publisher and into no other. Its delivery counts how many mailboxes took
+-- the slot, and how many didn't. The slot isn't a loan any longer, and is the newest of the history, which drops its oldest slot if it
+-- would be too long.
 pub record Sends (m : World) (place slot : ℕ) (before : PublisherLaneState) (delivery : Delivery) (n : World)
     (after : PublisherLaneState) : Type 0 where
   pub put : (connection : ℕ) (link : LinkState) → slice_get m.links connection ≡ Some link → link.publisher ≡ place
@@ -87,7 +87,7 @@ pub record Sends (m : World) (place slot : ℕ) (before : PublisherLaneState) (d
   pub loans : LoanEnds before after slot
   pub history : after.port.book.history ≡ newest before.port.book.kept (before.port.book.history ++ slot ∷ [])
 
--- A loan that no other call overlaps ends so (`Lends`), for slots with numbers below 2^64.
+-- A loan that no other call overlaps ends as `Lends` says, for slots with numbers less than 2^64.
 abbrev pub LoansInTurn : Type 0
 LoansInTurn = (m n : World) (place : ℕ) (before after : PublisherLaneState) → IsInTurn m (Publisher place) call.LoanUninit n
     → slice_get m.publishers place ≡ Some before → slice_get n.publishers place ≡ Some after
@@ -95,8 +95,8 @@ LoansInTurn = (m n : World) (place : ℕ) (before after : PublisherLaneState) �
     → (given : LoanAnswer) × IsAnswered m (Publisher place) call.LoanUninit (answer.Lent given) n × OnlyPublisher m place n
     × MailStays m n × HistoryStays before after × Lends m before given after
 
--- A send that no other call overlaps ends so (`Sends`). Its answer is `UnableToDeliver` exactly where its publisher fails at a full mailbox
--- and some connection refused the message.
+-- A send that no other call overlaps ends as `Sends` says. Its answer is `UnableToDeliver` exactly if its publisher's sends fail at a full
+-- mailbox and some connection refused the message.
 abbrev pub SendsInTurn : Type 0
 SendsInTurn = (m n : World) (place slot : ℕ) (before after : PublisherLaneState) → IsInTurn m (Publisher place) (call.Send slot) n
     → slice_get m.publishers place ≡ Some before → slice_get n.publishers place ≡ Some after

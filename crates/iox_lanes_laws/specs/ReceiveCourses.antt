@@ -23,8 +23,8 @@ subscriber_course routes borrowed most call [] = []
 subscriber_course routes borrowed most call (answer ∷ answers) =
     subscriber_next call ∷ subscriber_course routes borrowed most (subscriber_take routes borrowed most call answer) answers
 
--- The accesses of a pop from this position of an overflowing ring: the cell of the position is loaded, and the read position exchanged; if
--- the exchange fails, the same follows from the position found.
+-- The accesses of a pop from this position of an overflowing ring: the cell of the position is loaded, and the read position is exchanged.
+-- If the exchange fails, the same is done from the position that it found.
 abbrev pub popping_course : Route → ℕ → List ℕ → List SharedAccess
 popping_course route read [] = []
 popping_course route read (slot ∷ []) = Load (sent route (Cell (read % route.submission_cells))) ∷ []
@@ -44,8 +44,8 @@ abbrev pub got_course : RingKind → Route → ℕ → List ℕ → List SharedA
 got_course Overflowing route read answers = popping_course route read answers
 got_course Refusing route read answers = taking_course route read answers
 
--- The accesses of a receive at a connection: both positions are loaded; if nothing waits, or as many samples are borrowed as may be, `next`
--- follows, otherwise the oldest slot is taken.
+-- The accesses of a receive at a connection: both positions are loaded; if nothing waits, or the maximum number of samples is borrowed,
+-- `next` follows; otherwise the oldest slot is taken.
 abbrev pub visit_course : Bool → Route → (List ℕ → List SharedAccess) → List ℕ → List SharedAccess
 visit_course full route next [] = []
 visit_course full route next (read ∷ []) = Load (sent route Read) ∷ []
@@ -72,7 +72,7 @@ read_course slot extent word zero (answer ∷ answers) = Local ∷ quiet_course 
 read_course slot extent word (suc left) (answer ∷ answers) = Load (Slot slot (word_at extent word))
     ∷ read_course slot extent (word + 1) left answers
 
--- How many words a slot has.
+-- The number of words of a slot.
 abbrev pub words_in : SlotExtent → ℕ
 words_in extent = 3 + extent.user_header_words + extent.payload_words
 

@@ -32,8 +32,8 @@ recorded_after r party step = record { lanes = happens r.lanes party step; messa
 abbrev pub RecordsAt : RecordState → Party → Move → Type 0
 RecordsAt r party step = Records r.lanes party step ⊎ (0 < length (begun_messages r.lanes party step))
 
--- What a step answers, and what it leaves: the lanes make their step, and the message whose send begins comes behind the others. An
--- allocation fails only where something is recorded.
+-- The answer of a step, and what it leaves: the lanes make their step, and the message whose send begins is appended to the others. An
+-- allocation fails only if something is recorded.
 abbrev pub RecordsTo : RecordState → Party → Move → Stepped → RecordState → Type 0
 RecordsTo r party step stepped.Went n = StepsTo r.lanes party step stepped.Went n.lanes
     × (n.messages ≡ r.messages ++ begun_messages r.lanes party step)
@@ -60,9 +60,9 @@ AreAsHeld m messages = All (λ message. message.words ≡ slot_held m.table mess
 abbrev pub ArePast : World → List MessageState → Type 0
 ArePast m messages = All (λ message. message.moment ≤ m.moments) messages
 
--- Whatever is run from a state in which nobody is inside a call and the kept messages are as their slots have them: a read that ends after
--- it returns exactly the words of the last message that is kept for its slot, or the words that the slot had at first if none is. It holds
--- as long as at most 2^63 steps were made.
+-- In each run from a state in which nobody is inside a call and the kept messages are as their slots have them: a read that ends after the
+-- run returns exactly the words of the last message that is kept for its slot, or the words that the slot had at first if none is kept.
+-- This holds as long as at most 2^63 steps were made.
 abbrev pub ReadsGiveWhatIsKept : Type 0
 ReadsGiveWhatIsKept = (r : RecordState) (entries : List Entry) (made : ℕ) (n : RecordState) → CameTo r.lanes → AllBetween r.lanes
     → AreAsHeld r.lanes r.messages → RecordsRun r entries made n → n.lanes.moments ≤ 2 ^ 63
@@ -70,8 +70,8 @@ ReadsGiveWhatIsKept = (r : RecordState) (entries : List Entry) (made : ℕ) (n :
     → (call : FinishedCall) (slot : ℕ) → after.lanes.finished ≡ n.lanes.finished ++ call ∷ [] → call.call ≡ name.Read slot
     → after.lanes.read ≡ n.lanes.read ++ last_in (slot_held r.lanes.table slot) n.messages slot
 
--- If a message is kept for the slot of such a read, the read returns the message with this number: the last one that was sent in the slot
--- by the end of the read.
+-- If a message is kept for the slot of such a read (`ReadsGiveWhatIsKept`), the read returns the message with this number: the last one
+-- that was sent in the slot by the end of the read.
 abbrev pub ReadsGiveMessages : Type 0
 ReadsGiveMessages = (r : RecordState) (entries : List Entry) (made : ℕ) (n : RecordState) → CameTo r.lanes → AllBetween r.lanes
     → AreAsHeld r.lanes r.messages → ArePast r.lanes r.messages → RecordsRun r entries made n → n.lanes.moments ≤ 2 ^ 63
@@ -80,10 +80,10 @@ ReadsGiveMessages = (r : RecordState) (entries : List Entry) (made : ℕ) (n : R
     → (number : ℕ) (message : MessageState) → last_number n.messages slot n.lanes.moments (length n.messages) ≡ Some number
     → slice_get n.messages number ≡ Some message → after.lanes.read ≡ n.lanes.read ++ message.words
 
--- Whatever is run from before the first step on: the order of each connection answers as a mailbox does with the numbers of its messages in
--- place of their slots; at first the numbers of the messages found to wait are in it. So a take gives the number of the oldest message that
--- waits, under which it was put. A slot without a message counts as 0, so found messages have different numbers only if `with_found` kept
--- them. It holds as long as at most 2^63 steps were made.
+-- In each run from before the first step on: the order of each connection answers as a mailbox does with the numbers of its messages in
+-- place of their slots; the mailbox begins with the numbers of the messages that were found to wait. So a take gives the number of the
+-- oldest message that waits, under which it was put. A slot without a message counts as 0, so found messages have different numbers only if
+-- `with_found` kept them. This holds as long as at most 2^63 steps were made.
 abbrev pub OrdersFollowNumbers : Type 0
 OrdersFollowNumbers = (r : RecordState) (entries : List Entry) (made : ℕ) (n : RecordState) → CameTo r.lanes → r.lanes.moments ≡ 0
     → ArePast r.lanes r.messages → RecordsRun r entries made n → n.lanes.moments ≤ 2 ^ 63

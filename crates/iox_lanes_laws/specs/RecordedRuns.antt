@@ -17,7 +17,7 @@ AreSomeOf (one ∷ some) [] = ⊥
 AreSomeOf (one ∷ some) (entry ∷ entries) = ((one ≡ entry) × AreSomeOf some entries) ⊎ AreSomeOf (one ∷ some) entries
 
 -- The run is one of the lanes alone, by exactly those of its entries that were made, in their order, as many as the run answers. The
--- messages whose sends these entries began come behind the others.
+-- messages whose sends these entries began are appended to the others.
 pub record IsRunOfLanes (r : RecordState) (entries : List Entry) (made : ℕ) (n : RecordState) : Type 0 where
   pub steps : List Entry
   pub some_of : AreSomeOf steps entries
@@ -27,7 +27,7 @@ pub record IsRunOfLanes (r : RecordState) (entries : List Entry) (made : ℕ) (n
   pub through : SendsThrough r.lanes steps sent n.lanes
   pub kept : n.messages ≡ r.messages ++ sent
 
--- A run of lanes that keep messages is such a run of the lanes alone (`IsRunOfLanes`).
+-- A run of lanes that keep messages is a run of the lanes alone, as `IsRunOfLanes` says.
 abbrev pub RecordsRunLanes : Type 0
 RecordsRunLanes = (r : RecordState) (entries : List Entry) (made : ℕ) (n : RecordState) → RecordsRun r entries made n
     → IsRunOfLanes r entries made n
@@ -53,11 +53,11 @@ AllAreRecorded r [] n = n ≡ r
 AllAreRecorded r (entry ∷ entries) n =
     (fits r.lanes entry.party entry.step ≡ true) × AllAreRecorded (recorded_after r entry.party entry.step) entries n
 
--- A run that answers as many as it has entries made each of them.
+-- A run that made as many entries as it has made each of them.
 abbrev pub FullRunsGo : Type 0
 FullRunsGo = (m : World) (entries : List Entry) (n : World) → RunsTo m entries (length entries) n → AllGo m entries n
 
--- A run of lanes that keep messages that answers as many as it has entries made each of them.
+-- A run of lanes that keep messages, if it made as many entries as it has, made each of them.
 abbrev pub FullRunsAreRecorded : Type 0
 FullRunsAreRecorded = (r : RecordState) (entries : List Entry) (n : RecordState) → RecordsRun r entries (length entries) n
     → AllAreRecorded r entries n

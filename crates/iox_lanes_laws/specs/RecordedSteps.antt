@@ -20,7 +20,7 @@ use Rattle.iox_lanes_machine.specs.Told.{Told}
 use Rattle.iox_lanes_machine.specs.World.{World}
 use Rattle.iox_lanes_laws.specs.Recorded.{RecordState, RecordsTo}
 
--- What `Lanes::run` ensures for all lanes: of their orders, the calls that ended, their loans, and the words read.
+-- What `Lanes::run` ensures of all lanes: of their orders, the calls that ended, their loans, and the words read.
 pub record AllFollow (m : World) : Type 0 where
   pub orders : OrdersFollow m
   pub receipts : ReceiptsFollow m
@@ -31,7 +31,7 @@ pub record AllFollow (m : World) : Type 0 where
   pub reads : ReadsLie m
   pub releases : ReleasesFollow m
 
--- A step of lanes that keep messages ensures all that `Lanes::step` says of one, also where no message could be kept and nothing changed.
+-- A step of lanes that keep messages ensures all that `Lanes::step` says of a step, also if no message could be kept and nothing changed.
 pub record MakesStep (r : RecordState) (party : Party) (step : Move) (answer : Stepped) (n : RecordState) : Type 0 where
   pub steps : RecordsTo r party step answer n
   pub apart : StaysApart r.lanes party step answer n.lanes

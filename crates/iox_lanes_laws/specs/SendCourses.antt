@@ -57,8 +57,8 @@ oldest_course ring cells read next (oldest ∷ []) = Load (ring (Cell (read % ce
 oldest_course ring cells read next (oldest ∷ found ∷ answers) =
     Load (ring (Cell (read % cells))) ∷ Exchange (ring Read) read (successor read) ∷ next answers
 
--- A push on an overflowing ring: both positions are loaded, the cell and the write position are stored; if too many messages may wait then,
--- the oldest one is dropped; then `next` follows.
+-- A push on an overflowing ring: both positions are loaded, the cell and the write position are stored; if more messages wait then than the
+-- maximum, the oldest one is dropped; then `next` follows.
 abbrev pub overflowing_course : (Word → SharedWord) → ℕ → ℕ → ℕ → (List ℕ → List SharedAccess) → List ℕ → List SharedAccess
 overflowing_course ring cells limit slot next [] = []
 overflowing_course ring cells limit slot next (write ∷ []) = Load (ring Write) ∷ []
@@ -79,7 +79,7 @@ pushes_course slot [] answers = quiet_course answers
 pushes_course slot (route ∷ routes) answers =
     push_course route.kind (sent route) route.submission_cells route.limit slot (pushes_course slot routes) answers
 
--- The accesses of a send: header and user header, the step for the history, taking back at each connection, and a push to each.
+-- The accesses of a send: header and user header, the step for the history, taking samples back at each connection, and a push to each.
 abbrev pub send_course : ℕ → List ℕ → List Route → List ℕ → List SharedAccess
 send_course slot words routes answers =
     head_course slot 0 (local_course (sweep_course (pushes_course slot routes) routes)) words answers

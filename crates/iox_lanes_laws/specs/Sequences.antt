@@ -41,14 +41,14 @@ messages_of who messages = filter (λ message. message.publisher == who) message
 abbrev pub sent_between : RecordState → RecordState → ℕ → List MessageState
 sent_between r n who = messages_of who (drop (length r.messages) n.messages)
 
--- Each number is one above the one before it, and the first is one above `last`.
+-- Each number is one more than the one before it, and the first is one more than `last`.
 abbrev pub CountUp : ℕ → List ℕ → Type 0
 CountUp last [] = Unit {0}
 CountUp last (number ∷ more) = (number ≡ last + 1) × CountUp number more
 
 -- The messages of one publisher whose sends began in a run have sequence numbers that rise by one, beginning after the publisher's last
--- number before the run; and its last number after the run is larger by as many. It holds for a publisher whose last number was below 2^63,
--- if headers have a word for the number, and as long as at most 2^63 steps were made.
+-- number before the run; and its last number after the run is larger by the number of these messages. This holds for a publisher whose last
+-- number was less than 2^63, if headers have a word for the number, and as long as at most 2^63 steps were made.
 abbrev pub SequencesCountUp : Type 0
 SequencesCountUp = (r : RecordState) (entries : List Entry) (made : ℕ) (n : RecordState) → CameTo r.lanes → RecordsRun r entries made n
     → n.lanes.moments ≤ 2 ^ 63 → 0 < r.lanes.table.sizes.user_header_words
@@ -57,8 +57,8 @@ SequencesCountUp = (r : RecordState) (entries : List Entry) (made : ℕ) (n : Re
     × ((after : PublisherLaneState) → slice_get n.lanes.publishers who ≡ Some after
     → after.last ≡ Some (last + length (sent_between r n who)))
 
--- A read that ends returns as its fourth word the sequence number that the message of its slot was sent with, whatever was run from a state
--- in which nobody was inside a call and the kept messages were as their slots had them. It holds as long as at most 2^63 steps were made.
+-- In each run from a state in which nobody is inside a call and the kept messages are as their slots have them: a read that ends returns as
+-- its fourth word the sequence number with which the message of its slot was sent. This holds as long as at most 2^63 steps were made.
 abbrev pub ReadsGiveSequences : Type 0
 ReadsGiveSequences = (r : RecordState) (entries : List Entry) (made : ℕ) (n : RecordState) → CameTo r.lanes → AllBetween r.lanes
     → AreAsHeld r.lanes r.messages → ArePast r.lanes r.messages → RecordsRun r entries made n → n.lanes.moments ≤ 2 ^ 63
@@ -68,7 +68,7 @@ ReadsGiveSequences = (r : RecordState) (entries : List Entry) (made : ℕ) (n : 
     → slice_get n.messages number ≡ Some message → get_or after.lanes.read (length n.lanes.read + 3) 0 ≡ sequence_of message
 
 -- While a slot is in a history or at a connection, no step changes which message it has: it has the message with the same number as before
--- the step. It holds if the first kept messages were sent or found by then, and as long as at most 2^63 steps were made.
+-- the step. This holds if the first kept messages were sent or found before the step, and as long as at most 2^63 steps were made.
 abbrev pub UsedSlotsKeepMessages : Type 0
 UsedSlotsKeepMessages = (r : RecordState) → CameTo r.lanes → ArePast r.lanes r.messages → r.lanes.moments ≤ 2 ^ 63 → (slot : ℕ)
     → IsRemembered r.lanes slot ⊎ IsAtConnection r.lanes slot
@@ -76,7 +76,7 @@ UsedSlotsKeepMessages = (r : RecordState) → CameTo r.lanes → ArePast r.lanes
     → (moment : ℕ) → r.lanes.moments ≤ moment
     → last_number n.messages slot moment (length n.messages) ≡ last_number r.messages slot r.lanes.moments (length r.messages)
 
--- The numbers rise from `low`, each above the one before it, and end at `high` at most.
+-- The numbers rise from `low`, each larger than the one before it, and end at `high` at most.
 abbrev pub GoUpTo : ℕ → List ℕ → ℕ → Type 0
 GoUpTo low [] high = low ≤ high
 GoUpTo low (number ∷ more) high = (low < number) × GoUpTo number more high
@@ -112,8 +112,8 @@ pub record IsSequenceOf (last : ℕ) (sent : List MessageState) (number : ℕ) :
   pub same : sequence_of message ≡ number
 
 -- A sequence number was missed at a connection where these acts were made, beginning with what was found to wait there. No message with
--- this number was taken, and none waits. If it is above the last one from before the run, it is that of a message that was sent in the run,
--- and lost here once. Otherwise it was lost here in the run exactly if its message was found to wait.
+-- this number was taken, and none waits. If it is larger than the last number from before the run, it is that of a message that was sent in
+-- the run, and lost here once. Otherwise it was lost here in the run exactly if its message was found to wait.
 pub record IsMissed (last : ℕ) (sent : List MessageState) (found waits : List ℕ) (acts : List Act) (number : ℕ) : Type 0 where
   pub not_taken : count number (sequences_taken acts) ≡ 0
   pub not_waiting : count number waits ≡ 0
@@ -122,9 +122,9 @@ pub record IsMissed (last : ℕ) (sent : List MessageState) (found waits : List 
   pub found_here : number ≤ last → count number (sequences_lost acts) ≡ count number found
 
 -- Of two messages that were taken at a connection one directly after the other, the second one has the larger sequence number, and exactly
--- the numbers between theirs were missed there. It holds for whatever was run from before the first step on, for a publisher whose last
--- number was below 2^63, if headers have a word for the number, if the numbers of the messages found to wait rise up to that last one at
--- most, and as long as at most 2^63 steps were made.
+-- the numbers between theirs were missed there. This holds in each run from before the first step on, for a publisher whose last number was
+-- less than 2^63, if headers have a word for the number, if the numbers of the messages found to wait rise up to that last number at most,
+-- and as long as at most 2^63 steps were made.
 abbrev pub GapsAreMissed : Type 0
 GapsAreMissed = (r : RecordState) (entries : List Entry) (made : ℕ) (n : RecordState) → CameTo r.lanes → r.lanes.moments ≡ 0
     → r.messages ≡ found_messages r.lanes → RecordsRun r entries made n → n.lanes.moments ≤ 2 ^ 63

@@ -1,4 +1,4 @@
--- What no run changes of subscribers: their connections, and how many samples each may borrow.
+-- What no run changes of subscribers: their connections and their borrow limits.
 use Rattle.std.specs.Prelude.{ℕ, List, slice_get, Option, Some, None}
 use Rattle.iox_lanes_machine.specs.LanesParties.Parties.{SubscriberLaneState}
 use Rattle.iox_lanes_machine.specs.LanesParties.declared.call.Entry.{Entry}

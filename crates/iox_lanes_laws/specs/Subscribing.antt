@@ -1,4 +1,4 @@
--- What a call of a subscriber leaves that no other call overlaps.
+-- What a subscriber's call that no other call overlaps leaves.
 use Rattle.std.specs.Prelude.{ℕ, ◌≡◌, ◌<◌, ◌++◌, true, ◌∷◌, length, slice_get, Some, None}
 use Rattle.iox_lanes_machine.specs.LanesBase.declared.calls.route.Route.{Route}
 use Rattle.iox_lanes_machine.specs.LanesBase.declared.calls.subscriber.Receipt.{Receipt}
@@ -30,7 +30,7 @@ OtherSamplesStay before slot after = (other : ℕ) → (other ≡ slot → ⊥) 
 abbrev pub SomeWait : World → Route → Type 0
 SomeWait m route = 0 < length (mail_at m route.connection)
 
--- The connection gives to the subscriber: a message waits there, and the subscriber borrows fewer samples from it than it may.
+-- The connection gives the subscriber a message: one waits there, and the subscriber borrows fewer samples from it than its borrow limit.
 abbrev pub Gives : World → SubscriberLaneState → Route → Type 0
 Gives m lane route = SomeWait m route × (borrowed_of route.connection lane < lane.port.most_borrowed)
 
@@ -49,8 +49,8 @@ pub record OneOf (lane : SubscriberLaneState) (Is : Route → Type 0) : Type 0 w
   pub at : slice_get lane.port.routes place ≡ Some route
   pub is : Is route
 
--- A receive took the oldest message that waits at the connection of this place, which is the first place whose connection gives; its slot
--- is borrowed from that connection from then on.
+-- A receive took the oldest message that waits at the connection of this place, which is the first place whose connection gives a message.
+-- Its slot is borrowed from that connection from then on.
 pub record Takes (m : World) (before : SubscriberLaneState) (place slot : ℕ) (n : World) (after : SubscriberLaneState) : Type 0 where
   pub route : Route
   pub at : slice_get before.port.routes place ≡ Some route
@@ -67,14 +67,14 @@ pub record TakesNone (m : World) (before : SubscriberLaneState) (n : World) (aft
   pub samples : SamplesStay before after
   pub none : NoneOf before (Gives m before)
 
--- A receive takes from the first connection that gives; if none does, it takes nothing, and is refused exactly where a message waits at one
--- of them.
+-- A receive takes from the first connection that gives a message. If none does, it takes nothing, and is refused exactly if a message waits
+-- at one of them.
 abbrev pub Receives : World → SubscriberLaneState → Receipt → World → SubscriberLaneState → Type 0
 Receives m before (receipt.Taken place slot) n after = Takes m before place slot n after
 Receives m before receipt.Nothing n after = TakesNone m before n after × NoneOf before (SomeWait m)
 Receives m before receipt.ExceedsMaxBorrows n after = TakesNone m before n after × OneOf before (SomeWait m)
 
--- A receive that no other call overlaps ends so (`Receives`).
+-- A receive that no other call overlaps ends as `Receives` says.
 abbrev pub ReceivesInTurn : Type 0
 ReceivesInTurn = (m n : World) (place : ℕ) (before after : SubscriberLaneState) → IsInTurn m (Subscriber place) call.Receive n
     → slice_get m.subscribers place ≡ Some before → slice_get n.subscribers place ≡ Some after

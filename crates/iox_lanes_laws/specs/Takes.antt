@@ -50,14 +50,14 @@ own_takes own m (entry ∷ entries) =
     (if fits m entry.party entry.step && own entry.party then step_takes m entry.party entry.step else [])
     ++ own_takes own (after_entry (fits m entry.party entry.step) m entry) entries
 
--- The receive is at this connection, where it only looks if as many samples are borrowed as may be.
+-- The receive is at this connection, where it only looks if the maximum number of samples is borrowed.
 pub record IsAtVisit (place : ℕ) (route : Route) (full waits : Bool) (c : SubscriberCall) : Type 0 where
   pub pop : Pop
   pub looks : pop_looks pop ≡ full
   pub stage : c ≡ Receiving place route pop waits
 
--- A take that gave a message is the last one, and the receive is about to answer it. A take that gave none was made where fewer samples are
--- borrowed than may be, and a look where as many are; then the receive goes on.
+-- A take that gave a message is the last one, and the receive is about to answer it. A take that gave none was made while fewer samples
+-- were borrowed than the maximum, and a look while the maximum was borrowed; then the receive goes on.
 abbrev pub Took : ℕ → Bool → Bool → PopAnswer → List PlacedTake → SubscriberCall → (Bool → Type 0) → Type 0
 Took place full waits (Got (Some slot)) more c rest = (full ≡ false) × (more ≡ []) × (c ≡ Received (receipt.Taken place slot))
 Took place full waits (Got None) more c rest = (full ≡ false) × rest waits
@@ -74,8 +74,8 @@ Visits borrowed most place waits (route ∷ routes) (take ∷ takes) c =
     (take.connection ≡ route.connection)
     × Took place (is_full_at borrowed most place) waits take.answer takes c (λ seen. Visits borrowed most (place + 1) seen routes takes c)
 
--- A receive that is still under way, in any run, took or looked so at its connections since it began (`Visits`), and these takes say what
--- it is about to answer. It holds for fewer than 2^64 - 1 connections, as long as at most 2^63 steps were made.
+-- A receive that is still in progress, in any run, took or looked at its connections since it began as `Visits` says, and these takes say
+-- what it is about to answer. This holds for fewer than 2^64 - 1 connections, as long as at most 2^63 steps were made.
 abbrev pub ReceivesTakeInOrder : Type 0
 ReceivesTakeInOrder = (m : World) → CameTo m → (place : ℕ) (lane : SubscriberLaneState) (entries : List Entry)
     → (is : IsSubscriberCall m place lane call.Receive entries)

@@ -27,7 +27,7 @@ pub record IsInTurn (m : World) (party : Party) (c : Call) (n : World) : Type 0 
   pub goes : GoesToEnd party more begun n
   pub few : n.moments ≤ 2 ^ 63
 
--- One call more ended: this one of the party, with this answer.
+-- One more call ended: this one of the party, with this answer.
 pub record IsAnswered (m : World) (party : Party) (c : Call) (given : Answer) (n : World) : Type 0 where
   pub call : FinishedCall
   pub more : n.finished ≡ m.finished ++ call ∷ []
@@ -39,6 +39,6 @@ pub record IsAnswered (m : World) (party : Party) (c : Call) (given : Answer) (n
 abbrev pub MailStays : World → World → Type 0
 MailStays m n = (connection : ℕ) → mail_at n connection ≡ mail_at m connection
 
--- After a call that no other call overlaps, nobody is inside a call, so the next one may be such a call, too.
+-- After a call that no other call overlaps, nobody is inside a call, so the next call, too, may be one that no other call overlaps.
 abbrev pub CallsEndInTurn : Type 0
 CallsEndInTurn = (m : World) (party : Party) (c : Call) (n : World) → IsInTurn m party c n → CameTo n × AllBetween n

@@ -1,4 +1,4 @@
--- What a write that no other call overlaps leaves of user headers, and what a send and a read make of that.
+-- The user headers that a write that no other call overlaps leaves, and what a later send and read make of them.
 use Rattle.std.specs.Prelude.{ℕ, ◌≡◌, ◌≤◌, ◌^◌, true, List, [], ◌∷◌, ◌++◌, slice_get, Some, take}
 use Rattle.std.specs.Global.{Vec}
 use Rattle.iox_lanes_machine.specs.LanesParties.Parties.{PublisherLaneState, kept_head}
@@ -30,13 +30,13 @@ WritesKeepUserHeaders = (m n : World) (place slot : ℕ) (payload user_header : 
     → IsInTurn m (Publisher place) (call.Write slot payload user_header) n → slice_get m.publishers place ≡ Some before
     → slice_get n.publishers place ≡ Some after → KeepsUserHeader before after slot user_header.items
 
--- The words of the message that a publisher sends in a slot after these were written: the first three words that it keeps for the slot, the
--- user header, whose first word becomes the next sequence number if messages have one, and the payload.
+-- The words of the message that a publisher sends in a slot after this user header and payload were written there: the first three words
+-- that it keeps for the slot, the user header, whose first word becomes the next sequence number if messages have one, and the payload.
 abbrev pub written_words : ℕ → PublisherLaneState → List ℕ → List ℕ → List ℕ
 written_words slot lane user_header payload =
     with_number (number_after lane.last) (take 3 (kept_head slot lane) ++ user_header) ++ payload
 
--- A send that begins directly after such a write of its slot sends exactly these words (`written_words`).
+-- A send that begins directly after a write of its slot that no other call overlaps sends exactly these words (`written_words`).
 abbrev pub SendsBeginAsWritten : Type 0
 SendsBeginAsWritten = (m n : World) (place slot : ℕ) (payload user_header : Vec ℕ) (before : PublisherLaneState)
     → IsInTurn m (Publisher place) (call.Write slot payload user_header) n → slice_get m.publishers place ≡ Some before
@@ -47,8 +47,8 @@ SendsBeginAsWritten = (m n : World) (place slot : ℕ) (payload user_header : Ve
       words = written_words slot before user_header.items payload.items;
     } ∷ []
 
--- Whatever steps follow the beginning of that send: a read of the slot returns exactly these words, or, if a later send began in the slot,
--- those of the last one. It holds as long as at most 2^63 steps were made.
+-- Whatever steps follow the beginning of that send (`SendsBeginAsWritten`): a read of the slot returns exactly the words that it sends, or,
+-- if a later send began in the slot, those of the last one. This holds as long as at most 2^63 steps were made.
 abbrev pub ReadsGiveWhatWasWritten : Type 0
 ReadsGiveWhatWasWritten = (m n : World) (place slot : ℕ) (payload user_header : Vec ℕ) (before : PublisherLaneState)
     → IsInTurn m (Publisher place) (call.Write slot payload user_header) n → slice_get m.publishers place ≡ Some before

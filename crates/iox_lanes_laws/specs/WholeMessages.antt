@@ -23,7 +23,7 @@ SendsThrough m (entry ∷ entries) sent n =
 
 -- From a state in which nobody is inside a call, whatever steps follow: a read returns exactly the words of the last message whose send
 -- began in its slot, header, user header and payload, as they were when that send began; or the words that the slot had at first if no send
--- began in it. It holds as long as at most 2^63 steps were made.
+-- began in it. This holds as long as at most 2^63 steps were made.
 abbrev pub ReadsGiveWhatWasSent : Type 0
 ReadsGiveWhatWasSent = (m : World) → CameTo m → AllBetween m → (entries : List Entry) (sent : List MessageState) (n : World)
     → SendsThrough m entries sent n → n.moments ≤ 2 ^ 63

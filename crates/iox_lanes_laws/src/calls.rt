@@ -1,6 +1,6 @@
 //! Theorems on the accesses that the calls of ports make.
 //!
-//! Each theorem is the contract of a function that does nothing; it is proved of the definitions that the contracts of the calls cite.
+//! Each theorem is the contract of a function that does nothing; it speaks of the definitions that the contracts of the calls cite.
 //!
 //! A proof uses a theorem by calling its function; then the theorem is among the facts that the caller knows:
 //!
@@ -27,15 +27,16 @@ pub fn subscribers_stay()
 {}
 
 /// A loan goes over its connections in their order. At each it loads the read and the write position of the completion ring. If they
-/// differ, it loads the oldest cell, stores the read position, and begins there again. After the last connection it touches no word.
+/// differ, it loads the oldest cell, stores the read position, and begins at this connection again. After the last connection it touches no
+/// word.
 pub fn loans_take_back()
     ensures { LoansTakeBack }
 {}
 
 /// A send stores the words of header and user header, makes one step for the history, takes samples back at each connection as a loan does,
 /// and then pushes to each connection in their order: it loads the write and the read position, and if there is space, it stores the cell
-/// and then the write position. An overflowing ring always has space; if then too many messages may wait, the push loads the oldest cell
-/// and exchanges the read position.
+/// and then the write position. An overflowing ring always has space; if more messages wait then than the maximum, the push loads the
+/// oldest cell and exchanges the read position.
 pub fn sends_push()
     ensures { SendsPush }
 {}
@@ -46,8 +47,8 @@ pub fn writes_store()
 {}
 
 /// A receive goes over its connections in their order. At each it loads the read and the write position of the submission ring. If a
-/// message waits, and fewer samples are borrowed than may be, it loads the oldest cell and moves the read position, and touches no word
-/// after that; after a failed exchange it goes on with the cell of the position that it found.
+/// message waits, and fewer samples are borrowed than the maximum, it loads the oldest cell and moves the read position, and touches no
+/// word after that; after a failed exchange it goes on with the cell of the position that it found.
 pub fn receives_visit()
     ensures { ReceivesVisit }
 {}
@@ -79,7 +80,7 @@ pub fn subscribers_keep_pace()
     ensures { SubscribersKeepPace }
 {}
 
-/// A receive takes nothing from a connection, and only looks, exactly where as many samples of the connection are borrowed as may be.
+/// A receive takes nothing from a connection, and only looks, exactly if the maximum number of samples is borrowed from the connection.
 pub fn limits_hold()
     ensures { LimitsHold }
 {}

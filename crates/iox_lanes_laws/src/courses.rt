@@ -34,14 +34,15 @@ pub fn releases_end_soon()
 {}
 
 /// A receive takes or looks once at each connection, in their order, up to the first that gives a message, whoever makes steps in between.
-/// It only looks exactly where as many samples are borrowed as may be. If no connection gives a message, its answer is `ExceedsMaxBorrows`
-/// if a look saw a message, and `Nothing` otherwise.
+/// It only looks exactly where the maximum number of samples is borrowed. If no connection gives a message, its answer is
+/// `ExceedsMaxBorrows` if a look saw a message, and `Nothing` otherwise.
 pub fn receives_take_in_order()
     ensures { ReceivesTakeInOrder }
 {}
 
-/// Each receive that ended did so, wherever steps brought the lanes: the call in `finished` began at its first moment, took or looked so by
-/// its own steps from then on, and at its last moment answered what these takes say. It holds as long as at most 2^63 steps were made.
+/// Each receive that ended took its message as [`receives_take_in_order`] says, wherever steps brought the lanes: the call in `finished`
+/// began at its first moment, took or looked at its connections by its own steps from then on, and at its last moment answered what these
+/// takes say. This holds as long as at most 2^63 steps were made.
 pub fn finished_receives_follow()
     ensures { FinishedReceivesFollow }
 {}
@@ -56,12 +57,12 @@ pub fn takes_stand_in_order()
 {}
 
 /// What a receive that ended took at a connection is one piece of the connection's order, within the time of the call: after what was taken
-/// there up to its first moment, and before what was taken from its last moment on. It holds as long as at most 2^63 steps were made.
+/// there up to its first moment, and before what was taken from its last moment on. This holds as long as at most 2^63 steps were made.
 pub fn receives_stand_in_order()
     ensures { ReceivesStandInOrder }
 {}
 
-/// No run changes how many samples a subscriber may borrow, nor its connections and their order. No subscriber is added or removed.
+/// No run changes a subscriber's borrow limit, nor its connections and their order. No subscriber is added or removed.
 pub fn borrow_limits_stay()
     ensures runs { RunsKeepLimits }
     ensures leads { EntriesKeepLimits }

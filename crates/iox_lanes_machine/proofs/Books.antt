@@ -27,7 +27,7 @@ clause_is u u' o o' h h' r r' a b c d k = record {
   alone = λ out. let x = k.alone (sym b ∙ out) in (omega (arith, c, x.0), omega (arith, d, x.1));
 }
 
--- no slot has more than so many uses
+-- no slot has more than n uses
 pub uses_few : (connections first slots : ℕ) (loans : List LoanMark) (history : List ℕ) (referred : List Bool) (uses : List ℕ)
     (slot : ℕ) → AreCounted connections first slots loans history referred uses → entry first uses slot 0 < 2 ^ 63
 uses_few connections first slots loans history referred uses slot k =

@@ -39,7 +39,7 @@ use Rattle.iox_lanes_machine.proofs.InTable.{start, same_ring}
 use Rattle.iox_lanes_machine.proofs.Kept.{cells_some}
 use Rattle.iox_lanes_machine.proofs.Within.{set_same, set_other}
 
--- a connection that may be found to have a buffer of so many messages, and where
+-- a connection that may be found to have a buffer of n messages, and where
 pub record MayBuffer (m : World) (place messages : ℕ) (lane : PublisherLaneState) : Type 0 where
   pub route : Route
   pub at : slice_get lane.port.routes place ≡ Some route

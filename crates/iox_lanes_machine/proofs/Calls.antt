@@ -85,7 +85,7 @@ hand_later : (party : Party) (first moments moments' : ℕ) (calls : List Finish
     → IsInHand party first moments calls → IsInHand party first moments' calls
 hand_later party first moments moments' calls le h = record { begun = omega (arith, h.begun, le); behind = h.behind }
 
--- a call that begins now began behind all that ended
+-- a call that begins now began after all that ended
 fresh_hand : (party : Party) (moments : ℕ) (calls : List FinishedCall) → moments < 2 ^ 63 → All (IsEnded moments) calls
     → IsInHand party moments (successor moments) calls
 fresh_hand party moments calls bound h = record {

@@ -1,4 +1,4 @@
--- The two ends of a ring as calls of ports: idle at a connection, fresh there, or under way.
+-- The two ends of a ring as calls of ports: idle at a connection, fresh there, or in progress.
 use Rattle.std.proofs.Common.{ℕ, ◌≡◌, ◌+◌, ◌==◌, ◌||◌, ◌⊎◌, Bool, true, false, if◌then◌else◌, nat_lt, List, slice_get, Option, Some, None}
 use Rattle.std.proofs.Common.{refl, sym, ◌∙◌, ap, subst, inl, inr}
 use Rattle.std.specs.List.{All}
@@ -384,7 +384,7 @@ next_pop links port who routes borrowed most place route p waits (Some (Saw some
     (fresh_receive links port who routes borrowed most (successor place) (waits || some) route.connection link all found)
     (done_pop link.kind link.limit words q push p s)
 
--- a call that begins, where none was under way
+-- a call that begins, where none was in progress
 no_push : (connection : ℕ) (kind : RingKind) (call : PublisherCall) → publisher_is_idle call ≡ true
     → push_on connection kind call ≡ push_idle kind
 no_push connection kind publishing.Idle h = refl

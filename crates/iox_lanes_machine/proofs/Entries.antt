@@ -15,7 +15,7 @@ pub choose_other : {X : Type 0} (test : Bool) (x y : X) → test ≡ false → (
 choose_other true x y h = absurd (cc)
 choose_other false x y h = refl
 
--- how often a number stands in two lists, one behind the other
+-- how often a number stands in two lists, one after the other
 pub count_append : (value : ℕ) (xs ys : List ℕ) → count value (xs ++ ys) ≡ count value xs + count value ys
 count_append value [] ys = omega arith
 count_append value (x ∷ xs) ys = omega (arith, count_append value xs ys)

@@ -117,7 +117,7 @@ stays m n links sizes publishers subscribers = record {
 pub same_fixed : (m : World) → StaysFixed m m
 same_fixed m = stays m m refl refl refl refl
 
--- behind what stays fixed, the next stays fixed
+-- after what stays fixed, the next stays fixed
 pub fixed_on : (m n o : World) → StaysFixed m n → StaysFixed n o → StaysFixed m o
 fixed_on m n o first next = record {
   links = next.links ∙ first.links;

@@ -247,7 +247,7 @@ link_stays m words links publishers c link size ring back k = record {
   cells = k.cells;
 }
 
--- the slots of publishers lie one behind the other still, if one of them has no more slots than it had, from the same one on
+-- the slots of publishers lie one after the other still, if one of them has no more slots than it had, from the same one on
 pub rows_within : (m : World) (words : List ℕ) (links : List LinkState) (place : ℕ) (lane now : PublisherLaneState)
     → slice_get m.publishers place ≡ Some lane → now.port.book.first ≡ lane.port.book.first
     → length now.port.book.loans ≤ length lane.port.book.loans

@@ -13,7 +13,7 @@ past_at book slot true e past = refl
 past_at book slot false e past = ap is_out
     (get_or_past book.loans (slot - book.first) mark.No (omega (arith, ltb-false slot book.first e, past)))
 
--- a slot behind those of a publisher is none of its loans
+-- a slot after those of a publisher is none of its loans
 pub free_beyond : (slots : ℕ) (lane : PublisherLaneState) → lane.port.book.first + length lane.port.book.loans ≤ slots
     → ((slot : ℕ) → slot < slots → is_out (loan_of slot lane.port.book) ≡ false)
     → (slot : ℕ) → is_out (loan_of slot lane.port.book) ≡ false

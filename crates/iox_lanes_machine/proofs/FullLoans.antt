@@ -223,7 +223,7 @@ back_empty m who routes stored at route seen k e slot =
     none_in s [] h = refl
     none_in s (x ∷ xs) h = absurd (omega (arith, h))
 
--- a loan is under way
+-- a loan is in progress
 abbrev pub IsLoan : PublisherCall → Type 0
 IsLoan publishing.Idle = ⊥
 IsLoan (publishing.LoanReclaims at route p) = Unit {0}
@@ -262,7 +262,7 @@ history_after here book (change.Put p v) at = refl
 history_after here book (change.LeftOut p v) at = refl
 history_after here book (change.DropLoan v) at = absurd at
 
--- what a loan has swept behind its step
+-- what a loan has swept after its step
 swept_next : (routes : List Route) (book : BookState) (slot at : ℕ) → at < length routes → length routes < 2 ^ 62
     → ((place : ℕ) → place < length routes → place < at → refers_to book place slot ≡ false) → refers_to book at slot ≡ false
     → (to : Option Route) → slice_get routes (successor at) ≡ to → (place : ℕ) → place < length routes

@@ -395,7 +395,7 @@ publisher_never_reads call (publishing.Pushing slot place route p delivery) samp
 publisher_never_reads call (publishing.Sent slot delivery) sample over h e = absurd (cc (sym h ∙ e))
 publisher_never_reads call (publishing.Dropping slot) sample over h e = absurd (cc (sym h ∙ e))
 
--- a subscriber whose read ends stands behind its last word
+-- a subscriber whose read ends stands after its last word
 reads_slot : (call : CallName) (c : SubscriberCall) (sample : ℕ) → subscriber_is_over c ≡ true → IsReceiverStageOf call c
     → call ≡ name.Read sample → c ≡ subscribing.WasRead sample
 reads_slot call subscribing.Idle sample over h e = absurd (cc over)

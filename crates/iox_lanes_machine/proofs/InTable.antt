@@ -23,7 +23,7 @@ use Rattle.iox_lanes_machine.specs.LanesBase.declared.words.word.SharedWord.{Sha
 use Rattle.iox_lanes_machine.specs.LanesBase.declared.words.word.SharedWord.TheVariants.{Ring, Slot}
 use Rattle.iox_lanes_machine.proofs.LanesBase.Numbering.{apart, within}
 
--- a ring with so many cells lies in the table
+-- a ring with n cells lies in the table
 pub record IsSeat (ring : ConnectionRing) (table : TableWords) (connection cells : ℕ) : Type 0 where
   pub there : connection < table.sizes.connections
   pub some : 0 < cells
@@ -34,7 +34,7 @@ pub record IsSeat (ring : ConnectionRing) (table : TableWords) (connection cells
 abbrev pub start : ConnectionRing → TableWords → ℕ → ℕ
 start ring table connection = number_of table.sizes (Ring connection ring (Cell 0))
 
--- the cells of a ring, if there are so many
+-- the cells of a ring, if there are n
 abbrev cells_in : ConnectionRing → TableWords → ℕ → ℕ → List ℕ
 cells_in ring table connection cells = take cells (drop (start ring table connection) table.words)
 

@@ -466,7 +466,7 @@ happens_left m (Subscriber place) GoOn fit w l u stay h = λ who lane found.
     other_lane m (happens m (Subscriber place) GoOn) (Subscriber place) who lane was w l u same.0 stay
     (spares_subscriber m place who lane) h
 
--- where a call ends, its publisher stands behind its last word
+-- where a call ends, its publisher stands after its last word
 write_slot : (call : CallName) (c : PublisherCall) (loan : ℕ) → publisher_is_over c ≡ true → IsStageOf call c → call ≡ name.Write loan
     → c ≡ publishing.Written loan
 write_slot call publishing.Idle loan over h e = absurd (cc over)

@@ -40,7 +40,7 @@ one_sweep cells connections n below =
     row : (k c : ℕ) → suc k * c ≡ k * c + c
     row k c = omega arith
 
--- the stages behind a connection
+-- the stages after a connection
 pub loan_left : (cells words : ℕ) (routes : List Route) (book : BookState) (n : ℕ) (at : Option Route) → slice_get routes n ≡ at
     → ((place : ℕ) → place < length routes → slots_at book place ≤ cells)
     → steps_left cells (length routes) words book (loan_from n at) ≤ sweeps_left cells (length routes - n) + 1
@@ -219,7 +219,7 @@ pub head_left : (cells connections words : ℕ) (book : BookState) (slot word : 
 head_left cells connections words book slot word None = omega arith
 head_left cells connections words book slot word (Some value) = omega arith
 
--- a call stands at one of so many words
+-- a call stands at one of n words
 abbrev pub StoresWord : ℕ → PublisherCall → Type 0
 StoresWord words publishing.Idle = Unit {0}
 StoresWord words (publishing.LoanReclaims at route p) = Unit {0}

@@ -1,4 +1,4 @@
--- Loans and sends end in so many steps of their publisher.
+-- Loans and sends end in n steps of their publisher.
 use Rattle.std.proofs.Common.{ℕ, ◌≡◌, ◌+◌, ◌-◌, ◌*◌, ◌<◌, ◌≤◌, ◌^◌, ◌⊎◌, not, Bool, true, false, List, [], ◌∷◌, length, set, slice_get}
 use Rattle.std.proofs.Common.{Option, Some, None, refl, sym, ◌∙◌, ap, subst, inl, inr, arith}
 use Rattle.std.proofs.lemmas.Bool.Decides.{eqb_tells}
@@ -350,7 +350,7 @@ pub may_begin : (m : World) (place : ℕ) (c : Call) (at : Option PublisherLaneS
 may_begin m place c None e fit = absurd (cc)
 may_begin m place c (Some lane) e fit = (lane, e, fit, set_same m.publishers place (publisher_begun m.moments c lane) lane e)
 
--- a call under way has a step left
+-- a call in progress has a step left
 some_left : (cells connections words : ℕ) (book : BookState) (c : PublisherCall) → publisher_is_idle c ≡ false
     → 0 < steps_left cells connections words book c
 some_left cells connections words book publishing.Idle busy = absurd (cc busy)

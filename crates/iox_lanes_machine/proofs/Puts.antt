@@ -36,7 +36,7 @@ stays [] ys k x e = absurd (cc)
 stays (y ∷ xs) ys zero x e = e
 stays (y ∷ xs) ys (suc k) x e = stays xs ys k x e
 
--- the first one behind so many
+-- the first one after n
 pub first_behind : {X : Type 0} (xs rest : List X) (k : ℕ) (x : X) → drop k xs ≡ x ∷ rest → slice_get xs k ≡ Some x
 first_behind [] rest zero x e = absurd (cc)
 first_behind [] rest (suc k) x e = absurd (cc)
@@ -52,7 +52,7 @@ pub puts_off : (orders : List (List Placed)) (to : Option ℕ) (moment : ℕ) (a
 puts_off orders to moment acts route off
     = ap puts (get_same (added orders to moment acts) orders route.connection [] (added_other orders to moment acts route.connection off))
 
--- those placed there stand behind them
+-- those placed there stand after them
 pub puts_on : (orders : List (List Placed)) (to : Option ℕ) (moment : ℕ) (acts : List Act) (route : Route) (order : List Placed)
     → to ≡ Some route.connection → slice_get orders route.connection ≡ Some order
     → puts_at (added orders to moment acts) route ≡ puts_at orders route ++ map (push_call moment moment) (put_values acts)
@@ -139,7 +139,7 @@ pub rise_le : (orders : List (List Placed)) (number low : ℕ) (routes : List Ro
 rise_le orders number low [] high h = h
 rise_le orders number low (route ∷ routes) high h = omega (arith, h.2, rise_le orders number (h.0).first routes high h.3)
 
--- one more put, behind them
+-- one more put, after them
 pub rise_more : (orders : List (List Placed)) (number low : ℕ) (routes : List Route) (high high' : ℕ) (route : Route) (put : PushCall)
     → slice_get (puts_at orders route) number ≡ Some put → high ≤ put.first → put.first ≤ high'
     → PutsRise orders number low routes high → PutsRise orders number low (routes ++ route ∷ []) high'

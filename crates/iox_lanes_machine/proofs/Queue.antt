@@ -1,4 +1,4 @@
--- The samples given back at a connection are a queue: a step puts one behind the others, or takes the first.
+-- The samples given back at a connection are a queue: a step puts one after the others, or takes the first.
 use Rattle.std.proofs.Common.{ℕ, ◌≡◌, ◌-◌, ◌==◌, Bool, true, false, nat_lt, if◌then◌else◌, List, [], ◌∷◌, ◌++◌, length, None, refl, ap}
 use Rattle.iox_lanes_parties.specs.QueuesSteps.Order.{Acts, after_acts}
 use Rattle.iox_lanes_parties.specs.QueuesSteps.declared.order.Act.TheVariants.{Put, Take}
@@ -35,7 +35,7 @@ takes_first cells write q pop.LookBegun h = refl
 takes_first cells write q (pop.LookRead seen) h = refl
 takes_first cells write q (pop.Looked some) h = refl
 
--- a push puts behind the others
+-- a push puts after the others
 pub puts_last : (cells read : ℕ) (q : List ℕ) (p : Push) → Acts false cells q (refusing.placed_by_push read p)
     → after_acts false cells q (refusing.placed_by_push read p) ≡ q ++ storing_refusing p
 puts_last cells read q push.Idle h = nothing_more q

@@ -94,7 +94,7 @@ pop_list table moments connection sends receives c cells size is st bound k =
         between_is table.sizes.completion_cells words k.list given c shape ∙ takes_first table.sizes.completion_cells words.write k.list
         c g.acts ∙ ap (λ (q : List ℕ). taking_refusing c ++ q) (g.after ∙ now)
 
--- a release puts its sample behind the others
+-- a release puts its sample after the others
 push_list : (table : TableWords) (moments connection : ℕ) (sends : PublisherCall) (receives : SubscriberCall) (p : Push) (cells : ℕ)
     → cells ≡ table.sizes.completion_cells → release_on connection receives ≡ p
     → IsSeat Completion table connection table.sizes.completion_cells → moments < 2 ^ 63

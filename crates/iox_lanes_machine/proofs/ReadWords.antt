@@ -1,4 +1,4 @@
--- Every step keeps that the words of reads lie one read behind the other.
+-- Every step keeps that the words of reads lie one read after the other.
 use Rattle.std.proofs.Common.{ℕ, ◌≡◌, ◌+◌, ◌*◌, Bool, true, false, if◌then◌else◌, nat_lt, List, [], ◌∷◌, ◌++◌, length, set, slice_get}
 use Rattle.std.proofs.Common.{Option, Some, None, refl, sym, ◌∙◌, ap, subst, inl, inr, arith, append-nil, append_assoc, length-append}
 use Rattle.std.proofs.Common.{length-set}
@@ -70,7 +70,7 @@ no_read : (finished : List FinishedCall) (c : FinishedCall) → is_read c.answer
 no_read finished c e = reads_append finished (c ∷ []) ∙ ap (λ (b : Bool). reads_of finished ++ ((if b then c ∷ [] else []) ++ [])) e ∙
     append-nil (reads_of finished)
 
--- the next read lies behind the others
+-- the next read lies after the others
 next_row : (k wide a b : ℕ) → a ≡ k * wide → b ≡ wide → a + b ≡ (k + 1) * wide
 next_row k wide a b e f = omega (arith, e, f)
 

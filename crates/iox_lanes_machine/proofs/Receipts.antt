@@ -309,7 +309,7 @@ pop_takes m connection who routes borrowed most (subscribing.WasRead slot) link 
 pop_takes m connection who routes borrowed most (subscribing.Releasing place route p) link order e all h found st bound k = absurd (cc)
 pop_takes m connection who routes borrowed most (subscribing.Released done) link order e all h found st bound k = absurd (cc)
 
--- what calls gave, one list of them behind the other
+-- what calls gave, one list of them after the other
 calls_append : (routes : List Route) (connection who : ℕ) (xs ys : List FinishedCall)
     → given_calls routes connection who (xs ++ ys) ≡ given_calls routes connection who xs ++ given_calls routes connection who ys
 calls_append routes connection who [] ys = refl

@@ -20,7 +20,7 @@ use Rattle.iox_lanes_machine.proofs.FoundFresh.{rows_after}
 use Rattle.iox_lanes_machine.proofs.Shrinking.{NoneFound, none_found, none_left, none_unlent, never_refers, resized_counted, resized_counts}
 use Rattle.iox_lanes_machine.proofs.Within.{publisher_within}
 
--- a publisher that may have so many slots: of none of them there is a use
+-- a publisher that may have n slots: of none of them there is a use
 pub record MayShrink (slots : ℕ) (lane : PublisherLaneState) : Type 0 where
   pub fits : slots ≤ length lane.port.book.uses
   pub unused : are_unused lane.port.book.uses ≡ true

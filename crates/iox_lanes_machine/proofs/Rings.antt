@@ -510,7 +510,7 @@ between_is cells words q p c s =
     let size : words.write - words.read ≡ length q = omega (arith, s.level) in
     ap (cells_from words words.read) size ∙ cells_are words words.read q s.held
 
--- nothing lies aside where no push is under way, one has just begun, or one was answered
+-- nothing lies aside where no push is in progress, one has just begun, or one was answered
 pub idle_aside : (read : ℕ) (k : RingKind) → aside read (push_idle k) ≡ []
 idle_aside read kind.Overflowing = refl
 idle_aside read kind.Refusing = refl

@@ -32,7 +32,7 @@ pub none_left : (xs : List Entry) → length xs ≡ 0 → xs ≡ []
 none_left [] h = refl
 none_left (x ∷ xs) h = absurd (omega arith)
 
--- a run behind a run
+-- a run after a run
 runs_on : (b : World) (entries : List Entry) (made : ℕ) (m : World) (more : List Entry) (k : ℕ) (n : World) → RunsTo b entries made m
     → RunsTo m more k n → RunsTo b (entries ++ more) (made + k) n
 runs_on b [] made m more k n h g = subst (λ (i : ℕ). RunsTo b more i n) (omega (arith, h.0))

@@ -529,7 +529,7 @@ same_world m n who fails routes first c links finished orders table moments h = 
       h.no_more));
 }
 
--- a call that is under way has begun
+-- a call that is in progress has begun
 is_begun : (m : World) (who : ℕ) (lane : PublisherLaneState) → slice_get m.publishers who ≡ Some lane → CallsFollow m
     → publisher_is_idle lane.port.call ≡ false → lane.first ≤ m.moments
 is_begun m who lane e calls busy = omega (arith, ((calls.publishers who lane e).1 busy).begun)

@@ -167,7 +167,7 @@ push_moves m n who fails routes first slot place route p p' delivery links sends
       (h.no_more i other found));
 }
 
--- a send that comes to the connection of a place, or behind the last one
+-- a send that comes to the connection of a place, or after the last one
 past : {X : Type 0} (xs : List X) (i : ℕ) → slice_get xs i ≡ None → length xs ≤ i
 past [] i e = omega arith
 past (x ∷ xs) zero e = absurd (cc)
@@ -248,7 +248,7 @@ pushes_begin m who fails routes first slot begun connections sent counts =
     (record { answers = []; puts = tt; in_order = begun; counted = refl })
     (λ i other found. (λ below. absurd (omega (arith, below)), λ le. counts i other found))
 
--- one put alone stands behind those of the sends that ended
+-- one put alone stands after those of the sends that ended
 record OnePut (call : PushCall) (ps : List PushCall) : Type 0 where
   put : PushCall
   is : ps ≡ put ∷ []
@@ -401,7 +401,7 @@ pub quiet_pushes : (m : World) (who : ℕ) (fails : Bool) (routes : List Route) 
 quiet_pushes m who fails routes first slot call begun q h
     = pushes_begin m who fails routes first slot begun h.connections h.sent (quiet_count m who fails routes first call q h)
 
--- the calls of all parties, one list behind the other
+-- the calls of all parties, one list after the other
 sends_append : (who : ℕ) (xs ys : List FinishedCall) → sends_of who (xs ++ ys) ≡ sends_of who xs ++ sends_of who ys
 sends_append who [] ys = refl
 sends_append who (x ∷ xs) ys =

@@ -46,12 +46,12 @@ use Rattle.iox_lanes_machine.proofs.InTable.{IsSeat, access_after, access_answer
 use Rattle.iox_lanes_machine.proofs.Kept.{waits}
 use Rattle.iox_lanes_machine.proofs.Within.{sizes_stay}
 
--- nothing lies aside where no push is under way, or one begins
+-- nothing lies aside where no push is in progress, or one begins
 pub fresh_aside : (read : ℕ) (k : RingKind) (limit : ℕ) (p : Push) → IsFreshPush k limit p → aside read p ≡ []
 fresh_aside read k limit p (inl e) = ap (aside read) e ∙ idle_aside read k
 fresh_aside read k limit p (inr h) = ap (aside read) h.1 ∙ begun_aside read k limit h.0
 
--- what lies aside behind the step of a push
+-- what lies aside after the step of a push
 next_aside : (read : ℕ) (links : List LinkState) (port : LinkState → ℕ) (who : ℕ) (routes : List Route) (slot place : ℕ) (route : Route)
     (p : Push) (delivery : Delivery) (link : LinkState) (answer : Option PushAnswer) → push_answer p ≡ answer
     → All (IsLinkOf links port who) routes → slice_get links route.connection ≡ Some link
@@ -63,7 +63,7 @@ next_aside read links port who routes slot place route p delivery link (Some ans
     (fresh_push_at links port who routes slot (successor place) (counted delivery answer) route.connection link all found) ∙ sym
     (answered_aside read p answer e)
 
--- what a step of a push moves, if its ring has so many cells
+-- what a step of a push moves, if its ring has n cells
 abbrev PushMoves : TableWords → ℕ → List Route → ℕ → ℕ → Route → Push → Delivery → LinkState → List Placed → ℕ → ℕ → ℕ → Type 0
 PushMoves table moments routes slot place route p delivery link order s limit cells =
     count s (waiting link (order ++ at moments (placed_by_push limit (held_by table (sent_word route.connection Read)) p)))

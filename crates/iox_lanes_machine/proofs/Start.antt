@@ -177,7 +177,7 @@ start_ring sizes connection h =
     (get_or-replicate (words_of (table_sizes sizes)) (number_of (table_sizes sizes) (sent_word connection Read)) 0 0
     (omega (arith, below, total, read_below Submission (start sizes).table connection)))
 
--- the connections of a publisher are numbered one behind the other
+-- the connections of a publisher are numbered one after the other
 pub start_connections : (sizes : LaneSizes) (who : ℕ) → who < sizes.publishers
     → HasConnections (listed (link_at sizes) (sizes.publishers * sizes.subscribers)) who (sending_routes sizes who sizes.subscribers)
 start_connections sizes who h = record {

@@ -99,7 +99,7 @@ stands (Some here) connection = elim (eqb_tells here connection) [
   | inr other ↦ inr (λ e. other.1 (some_is here connection e))
 ]
 
--- acts added elsewhere leave an order, those added here stand behind it
+-- acts added elsewhere leave an order, those added here stand after it
 pub added_other : (orders : List (List Placed)) (to : Option ℕ) (moment : ℕ) (acts : List Act) (connection : ℕ)
     → (to ≡ Some connection → ⊥) → slice_get (added orders to moment acts) connection ≡ slice_get orders connection
 added_other orders None moment acts connection off = refl

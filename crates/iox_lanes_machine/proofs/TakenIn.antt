@@ -78,7 +78,7 @@ routes_stay m f routes none = record {
   as_many = refl;
 }
 
--- what lanes take in, by the words, links and publishers that they have behind it
+-- what lanes take in, by the words, links and publishers that they have after it
 pub taken_in : (m : World) (f : Found) (words : List ℕ) (links : List LinkState) (publishers : List PublisherLaneState)
     → ((c : ℕ) → new_buffer m f c ≡ None) → ((who place : ℕ) → place_before f who place ≡ place) → IsFresh m
     → IsFresh (after m words links publishers)

@@ -55,7 +55,7 @@ OthersStay m (Publisher place) n =
 OthersStay m (Subscriber place) n =
     (n.publishers ≡ m.publishers) × ((other : ℕ) → (other ≡ place → ⊥) → slice_get n.subscribers other ≡ slice_get m.subscribers other)
 
--- How many calls ended: one if the step was the last one of a call, otherwise none.
+-- The number of calls that ended: one if the step was the last one of a call, otherwise none.
 abbrev pub more_ended : Stepped → ℕ
 more_ended stepped.Went = 0
 more_ended stepped.Finished = 1
@@ -71,8 +71,8 @@ grows_at m party GoOn = connection_at m party
 abbrev pub OrdersStay : World → Option ℕ → World → Type 0
 OrdersStay m grown n = (other : ℕ) → (grown ≡ Some other → ⊥) → slice_get n.orders other ≡ slice_get m.orders other
 
--- A step changes no other party, no other connection's order, and no other word than that of its party's next access; one call more ended
--- exactly if the step was a last one.
+-- A step changes no other party, no other connection's order, and no other word than that of its party's next access. One more call ended
+-- exactly if the step was the last one of a call.
 pub record StaysApart (m : World) (party : Party) (step : Move) (answer : Stepped) (n : World) : Type 0 where
   pub words : OthersHold m.table (access_of m party step) n.table
   pub parties : OthersStay m party n

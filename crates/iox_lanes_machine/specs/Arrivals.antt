@@ -1,4 +1,5 @@
--- What is taken at a connection is part of what was put there, in the order of the puts, and each put at most once.
+-- The slots that are taken at a connection are part of those that were put there, in the order of the puts, and each put is taken at most
+-- once.
 use Rattle.std.specs.Prelude.{ℕ, ◌≡◌, ◌≤◌, ◌^◌, ◌⊎◌, List, [], ◌∷◌, ◌++◌, map, slice_get, Some}
 use Rattle.iox_lanes_machine.specs.QueuesSteps.Order.{puts}
 use Rattle.iox_lanes_machine.specs.QueuesSteps.declared.order.Placed.{Placed}

@@ -28,18 +28,18 @@ IsAnswerOf call (answer.Received given) = call ≡ name.Receive
 IsAnswerOf call (answer.Read from) = (sample : ℕ) × (call ≡ name.Read sample)
 IsAnswerOf call (answer.Released done) = (sample : ℕ) × (call ≡ name.Release sample)
 
--- A call that ended has an answer of its own kind, began before its last step, and made that before now.
+-- A call that ended has an answer of its own kind, began before its last step, and made its last step before now.
 pub record IsEnded (moments : ℕ) (call : FinishedCall) : Type 0 where
   pub kind : IsAnswerOf call.call call.answer
   pub lasts : call.first < call.last
   pub past : call.last < moments
 
--- One call ended before the other did, and if they are of one party, even before the other began.
+-- One call ended before the other did; if both are of one party, the first ended even before the other began.
 pub record IsBefore (earlier later : FinishedCall) : Type 0 where
   pub ended : earlier.last < later.last
   pub apart : earlier.party ≡ later.party → earlier.last < later.first
 
--- Each call ended before those behind it.
+-- Each call ended before those that follow it in the list.
 abbrev pub AreInTurn : List FinishedCall → Type 0
 AreInTurn [] = Unit {0}
 AreInTurn (call ∷ calls) = All (IsBefore call) calls × AreInTurn calls
@@ -89,8 +89,8 @@ SubscriberFollows moments finished place lane =
     IsReceiverStageOf lane.call lane.port.call
     × (subscriber_is_idle lane.port.call ≡ false → IsInHand (Subscriber place) lane.first moments finished)
 
--- Each call that ended has an answer of its own kind; the calls ended one after the other, and those of one party don't overlap, the one
--- that it is in included.
+-- Each call that ended has an answer of its own kind; the calls ended one after the other, and those of one party, including the one that
+-- it is in, don't overlap.
 pub record CallsFollow (m : World) : Type 0 where
   pub ended : All (IsEnded m.moments) m.finished
   pub in_turn : AreInTurn m.finished

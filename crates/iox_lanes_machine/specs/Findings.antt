@@ -1,5 +1,5 @@
--- What lanes may find before their first step, and what they are then: messages that wait, samples in completion rings, histories, words of
--- slots, buffers of connections, slots and headers of publishers, and places of connections.
+-- What lanes may find before their first step, and the lanes after they found it: messages that wait, samples in completion rings,
+-- histories, words of slots, buffers of connections, slots and headers of publishers, and places of connections.
 use Rattle.std.specs.Prelude.{ℕ, ◌≡◌, ◌-◌, ◌==◌, ◌&&◌, Bool, true, false, nat_lt, nat_le, List, [], ◌∷◌, ◌++◌, length, set, slice_get}
 use Rattle.std.specs.Prelude.{Option, Some, None, Option}
 use Rattle.iox_lanes_machine.specs.QueuesSteps.Access.{successor}
@@ -25,17 +25,17 @@ use Rattle.iox_lanes_machine.specs.declared.found.Found.TheVariants as found
 abbrev pub back_found : TableWords → ℕ → ℕ
 back_found table connection = held_by table (Ring connection Completion Write)
 
--- Whether a connection takes one slot more: waiting messages and samples in its completion ring are together fewer than this ring has
--- cells.
+-- Whether a connection takes one more slot: waiting messages and samples in its completion ring are together fewer than the cells of this
+-- ring.
 abbrev pub takes_more : World → ℕ → LinkState → Bool
 takes_more m connection link = nat_lt (length link.found) (m.table.sizes.completion_cells - back_found m.table connection)
 
--- Whether there is a connection, and one message more may wait there.
+-- Whether there is a connection, and one more message may wait there.
 abbrev pub may_wait : World → ℕ → Option LinkState → Bool
 may_wait m connection None = false
 may_wait m connection (Some link) = nat_lt (length link.found) link.limit && takes_more m connection link
 
--- Whether there is a connection, and one sample more may be in its completion ring.
+-- Whether there is a connection, and one more sample may be in its completion ring.
 abbrev pub may_be_back : World → ℕ → Option LinkState → Bool
 may_be_back m connection None = false
 may_be_back m connection (Some link) = takes_more m connection link
@@ -67,8 +67,8 @@ abbrev pub newest_of : ℕ → Option PublisherLaneState → Bool
 newest_of slot None = false
 newest_of slot (Some lane) = may_remember slot lane.port.book
 
--- Whether a connection may have a buffer of this many messages: at least one and no more than may wait there, where nothing waits and no
--- sample is in the completion ring.
+-- Whether a connection may have a buffer of this many messages: at least one, and no more than its present maximum; and nothing waits
+-- there, and no sample is in its completion ring.
 abbrev pub takes_buffer : TableWords → ℕ → ℕ → LinkState → Bool
 takes_buffer table connection messages link = nat_lt 0 messages && nat_le messages link.limit && (length link.found == 0)
     && (back_found table connection == 0)
@@ -88,7 +88,7 @@ abbrev pub buffers_of : World → ℕ → ℕ → Option PublisherLaneState → 
 buffers_of m place messages None = false
 buffers_of m place messages (Some lane) = buffers_at m messages (slice_get lane.port.routes place)
 
--- Whether there is a publisher, and it may be cut to this many slots.
+-- Whether there is a publisher, and it may be reduced to this many slots.
 abbrev pub resizes_of : ℕ → Option PublisherLaneState → Bool
 resizes_of slots None = false
 resizes_of slots (Some lane) = may_resize slots lane.port.book
@@ -109,7 +109,7 @@ has_word sizes (Header word) = nat_lt word 3
 has_word sizes (UserHeader word) = nat_lt word sizes.user_header_words
 has_word sizes (Payload word) = nat_lt word sizes.payload_words
 
--- Whether this may be found, apart from the condition that no step was made.
+-- Whether this may be found, but for the condition that no step was made.
 abbrev pub finds_now : World → Found → Bool
 finds_now m (found.Waiting publisher place slot) = waits_of m place slot (slice_get m.publishers publisher)
 finds_now m (found.GivenBack publisher place slot) = back_of m place slot (slice_get m.publishers publisher)
@@ -120,16 +120,16 @@ finds_now m (found.Slots publisher slots most_loans) = resizes_of slots (slice_g
 finds_now m (found.Sender publisher node_id publisher_id fails last) = is_there (slice_get m.publishers publisher)
 finds_now m (found.Swapped subscriber one other) = swaps_of one other (slice_get m.subscribers subscriber)
 
--- Whether this may be found, which is so only before the first step.
+-- Whether this may be found; nothing may be found after the first step.
 abbrev pub finds : World → Found → Bool
 finds m f = (m.moments == 0) && finds_now m f
 
--- The table after the slot was stored in a cell of a ring, and the write position after it.
+-- The table after the slot was stored in a cell of a ring, and the position after that cell in the ring's write position.
 abbrev pub laid : TableWords → ℕ → ConnectionRing → ℕ → ℕ → TableWords
 laid table connection ring cell slot
     = stored_in (stored_in table (Ring connection ring (Cell cell)) slot) (Ring connection ring Write) (successor cell)
 
--- The lanes after a message was found to wait at a connection, behind those found there before.
+-- The lanes after a message was found to wait at a connection, after those found there before.
 abbrev pub waiting_in : World → ℕ → ℕ → ℕ → PublisherLaneState → ℕ → Option LinkState → World
 waiting_in m publisher place slot lane connection None = m
 waiting_in m publisher place slot lane connection (Some link) = record m {
@@ -149,7 +149,7 @@ abbrev pub waiting_of : World → ℕ → ℕ → ℕ → Option PublisherLaneSt
 waiting_of m publisher place slot None = m
 waiting_of m publisher place slot (Some lane) = waiting_at m publisher place slot lane (slice_get lane.port.routes place)
 
--- The lanes after a sample was found in the completion ring of a connection, behind those found there before.
+-- The lanes after a sample was found in the completion ring of a connection, after those found there before.
 abbrev pub given_at : World → ℕ → ℕ → ℕ → PublisherLaneState → Option Route → World
 given_at m publisher place slot lane None = m
 given_at m publisher place slot lane (Some route) = record m {
@@ -171,7 +171,7 @@ remembered_of m publisher slot (Some lane) = record m { publishers = set m.publi
 abbrev pub with_buffer : ℕ → Route → Route
 with_buffer messages route = record route { limit = messages; submission_cells = cells_of route.kind messages }
 
--- The subscribers, after this one's connection with this one's number was replaced, if there is such a subscriber.
+-- The subscribers, after this one's connection with the number of `route` was replaced by `route`, if there is such a subscriber.
 abbrev pub subscribers_meet : List SubscriberLaneState → ℕ → Route → Option SubscriberLaneState → List SubscriberLaneState
 subscribers_meet subscribers who route None = subscribers
 subscribers_meet subscribers who route (Some lane) = set subscribers who (receiver_meets route lane)
@@ -195,14 +195,14 @@ abbrev pub buffered_of : World → ℕ → ℕ → ℕ → Option PublisherLaneS
 buffered_of m publisher place messages None = m
 buffered_of m publisher place messages (Some lane) = buffered_at m publisher messages lane (slice_get lane.port.routes place)
 
--- The lanes after a publisher was found to have only its first slots, and this many loans that may be out.
+-- The lanes after a publisher was found to have only its first slots, and this loan limit.
 abbrev pub resized_of : World → ℕ → ℕ → ℕ → Option PublisherLaneState → World
 resized_of m publisher slots most_loans None = m
 resized_of m publisher slots most_loans (Some lane) = record m
     { publishers = set m.publishers publisher (lane_resized slots most_loans lane) }
 
--- The lanes after it was found what the headers of a publisher's messages name, whether its sends fail at a full mailbox, and what its last
--- sequence number is.
+-- The lanes after they found what the headers of a publisher's messages name, whether its sends fail at a full mailbox, and its last
+-- sequence number.
 abbrev pub named_of : World → ℕ → ℕ → ℕ → Bool → Option ℕ → Option PublisherLaneState → World
 named_of m publisher node_id publisher_id fails last None = m
 named_of m publisher node_id publisher_id fails last (Some lane) = record m {
@@ -226,12 +226,12 @@ with_found m (found.Sender publisher node_id publisher_id fails last) =
     named_of m publisher node_id publisher_id fails last (slice_get m.publishers publisher)
 with_found m (found.Swapped subscriber one other) = swapped_of m subscriber one other (slice_get m.subscribers subscriber)
 
--- What lanes answer when something is found, and what they are then.
+-- The answer of lanes that are told to find something, and the lanes afterwards.
 abbrev pub FindsTo : World → Found → Bool → World → Type 0
 FindsTo m f true n = (finds m f ≡ true) × (n ≡ with_found m f)
 FindsTo m f false n = (finds m f ≡ false) × (n ≡ m)
 
--- The lanes after a list of findings, each of which may be found in its turn.
+-- The lanes after a list of findings, each of which may be found when its turn comes.
 abbrev pub AreFound : World → List Found → World → Type 0
 AreFound m [] n = n ≡ m
 AreFound m (f ∷ fs) n = (finds m f ≡ true) × AreFound (with_found m f) fs n

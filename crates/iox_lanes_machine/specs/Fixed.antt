@@ -3,14 +3,14 @@ use Rattle.std.specs.Prelude.{ℕ, ◌≡◌, length, slice_get, Option, option_
 use Rattle.iox_lanes_machine.specs.LanesParties.Parties.{PublisherLaneState}
 use Rattle.iox_lanes_machine.specs.World.{World}
 
--- A publisher's slots: the number of the first one, how many there are, how many loans may be out, and the history size.
+-- A publisher's slots: the number of the first one, how many there are, the loan limit, and the history size.
 pub record FixedSlots : Type 0 where
   pub first : ℕ
   pub slots : ℕ
   pub most_loans : ℕ
   pub kept : ℕ
 
--- The number of a publisher's first slot, how many slots it has, how many loans may be out, and its history size.
+-- The number of a publisher's first slot, its number of slots, its loan limit, and its history size.
 abbrev pub fixed_slots : PublisherLaneState → FixedSlots
 fixed_slots lane = record {
   first = lane.port.book.first;
@@ -23,7 +23,7 @@ fixed_slots lane = record {
 abbrev pub slots_at : World → ℕ → Option FixedSlots
 slots_at m place = option_map fixed_slots (slice_get m.publishers place)
 
--- Connections, sizes of the words, fixed numbers of each publisher's slots, and how many publishers and subscribers there are, are the same
+-- Connections, sizes of the words, fixed numbers of each publisher's slots, and the numbers of publishers and subscribers are the same
 -- before and after.
 pub record StaysFixed (m n : World) : Type 0 where
   pub links : n.links ≡ m.links

@@ -22,13 +22,13 @@ use Rattle.iox_lanes_machine.specs.Slots.{SlotsInRows}
 use Rattle.iox_lanes_machine.specs.Uses.{given_back}
 use Rattle.iox_lanes_machine.specs.World.{World}
 
--- A publisher's record says of each connection that it has the slots that wait there or are in its completion ring, each once.
+-- By a publisher's record, each connection has the slots that wait there or are in its completion ring, each once.
 abbrev pub HasFound : World → PublisherLaneState → Type 0
 HasFound m lane = (place : ℕ) (route : Route) (link : LinkState) → slice_get lane.port.routes place ≡ Some route
     → slice_get m.links route.connection ≡ Some link
     → (slot : ℕ) → count slot link.found + count slot (given_back m.table route.connection) ≡ one_if (refers_to lane.port.book place slot)
 
--- A publisher between calls, with all its connections, whose record counts the uses of its slots, and of which no loan is out.
+-- A publisher between calls, with all its connections, whose record counts the uses of its slots, and which has no loan.
 pub record IsFreshPublisher (m : World) (who : ℕ) (lane : PublisherLaneState) : Type 0 where
   pub idle : lane.port.call ≡ publishing.Idle
   pub connections : HasConnections m.links who lane.port.routes
@@ -49,8 +49,8 @@ pub record IsFreshSubscriber (m : World) (who : ℕ) (lane : SubscriberLaneState
   pub borrowed : (place : ℕ) → place < length lane.port.routes → slice_get lane.port.borrowed place ≡ Some 0
   pub words : length lane.port.words ≡ width m.table.sizes
 
--- A connection whose two rings have, from their first cells on, what waits and what was returned: no more messages than may wait, and
--- together no more than the completion ring has cells.
+-- A connection whose two rings have, from their first cells on, the messages that wait and the samples that were returned: no more messages
+-- than may wait, and messages and samples together no more than the cells of the completion ring.
 pub record IsFreshLink (m : World) (connection : ℕ) (link : LinkState) : Type 0 where
   pub some : 0 < link.limit
   pub small : link.limit < 2 ^ 62

@@ -30,13 +30,13 @@ pub record IsHeld (m : World) (slot : ℕ) : Type 0 where
       (aside_at m.table connection link (publisher_stage (slice_get m.publishers link.publisher))) + one_if
       (borrows connection slot (slice_get m.subscribers link.subscriber))
 
--- The slot of a publisher is in use: it is a loan, is in the history, or waits, lies aside or is borrowed somewhere. A slot in a completion
--- ring isn't in use any longer.
+-- The slot of a publisher is in use: it is a loan, it is in the history, or waits, lies aside or is borrowed somewhere. A slot in a
+-- completion ring isn't in use any longer.
 abbrev pub IsInUse : World → PublisherLaneState → ℕ → Type 0
 IsInUse m lane slot = (is_out (loan_of slot lane.port.book) ≡ true) ⊎ ((0 < count slot lane.port.book.history) ⊎ IsHeld m slot)
 
--- If a loan ends without a slot, then each slot of its publisher was in use when it began, whatever was done in between; as long as at most
--- 2^63 steps were made.
+-- As long as at most 2^63 steps were made: if a loan ends without a slot, then each slot of its publisher was in use when it began,
+-- whatever was done in between.
 abbrev pub LoansFindAllUsed : Type 0
 LoansFindAllUsed = (m : World) → CameTo m → (place : ℕ) (entries : List Entry) → fits m (Publisher place) (Begin call.LoanUninit) ≡ true
     → (led (happens m (Publisher place) (Begin call.LoanUninit)) entries).moments ≤ 2 ^ 63

@@ -15,7 +15,7 @@ use Rattle.iox_lanes_machine.specs.Made.{listed}
 use Rattle.iox_lanes_machine.specs.Reads.{width}
 use Rattle.iox_lanes_machine.specs.World.{World}
 
--- How many words the user headers and the payloads of a service have.
+-- The numbers of words of the user headers and the payloads of a service.
 abbrev pub extent_of : TableSizes → SlotExtent
 extent_of sizes = record { user_header_words = sizes.user_header_words; payload_words = sizes.payload_words }
 
@@ -47,8 +47,8 @@ ReadsHold m = (place : ℕ) (lane : SubscriberLaneState) → slice_get m.subscri
 abbrev pub ReadsFollow : World → Type 0
 ReadsFollow m = m.moments ≤ 2 ^ 63 → ReadsHold m
 
--- A step that ends a read of a sample returns exactly the words that the slot contains, and the slot is still at a connection; as long as
--- at most 2^63 steps were made.
+-- As long as at most 2^63 steps were made: a step that ends a read of a sample returns exactly the words that the slot contains, and the
+-- slot is still at a connection.
 abbrev pub ReadsWhole : World → World → Type 0
 ReadsWhole m n = m.moments ≤ 2 ^ 63 → (call : FinishedCall) (sample : ℕ) → n.finished ≡ m.finished ++ call ∷ []
     → call.call ≡ name.Read sample

@@ -72,8 +72,9 @@ pub record FollowsMailbox (link : LinkState) (order : List Placed) (moments : �
   pub acts : Acts (overflows link.kind) link.limit link.found (acts_of order)
   pub rises : Rises 0 order moments
 
--- A connection has its order, and its submission ring contains what the order leaves, with the calls of its two ports at their stages; the
--- write position is less than 2^63 beyond the count of steps, so it doesn't wrap.
+-- The order of a connection answers as its mailbox does. The submission ring contains the messages that wait by this order, and fits how
+-- far the publisher's push and the subscriber's pop have come. The write position is less than the number of steps plus 2^63, so it doesn't
+-- wrap.
 pub record IsKeptAt (table : TableWords) (moments connection : ℕ) (link : LinkState) (order : List Placed) (sends : PublisherCall)
     (receives : SubscriberCall) : Type 0 where
   pub mailbox : FollowsMailbox link order moments
@@ -88,8 +89,8 @@ AreKept m = (connection : ℕ) (link : LinkState) (order : List Placed) → slic
     → IsKeptAt m.table m.moments connection link order (publisher_stage (slice_get m.publishers link.publisher))
     (subscriber_stage (slice_get m.subscribers link.subscriber))
 
--- The invariant of lanes. Parts that need unwrapped positions hold while at most 2^63 steps were made; before the first step the lanes are
--- as at the beginning.
+-- The invariant of lanes. Parts that need unwrapped positions hold while at most 2^63 steps were made. Before the first step, the lanes are
+-- as they were made, with what they found.
 pub record IsKept (m : World) : Type 0 where
   pub within : IsWithin m
   pub rings : m.moments ≤ 2 ^ 63 → AreKept m

@@ -1,4 +1,4 @@
--- How many slots a connection has, how many of them its subscriber borrows, and how many loans are out.
+-- The number of slots that a connection has, the number of them that its subscriber borrows, and the number of loans.
 use Rattle.std.specs.Prelude.{ℕ, ◌≡◌, ◌+◌, ◌<◌, ◌≤◌, ◌^◌, ◌⊎◌, Bool, true, false, length, get_or, slice_get, Some}
 use Rattle.iox_lanes_parties.specs.QueuesSteps.declared.rings.overflowing.push.Push as overflowing_type
 use Rattle.iox_lanes_parties.specs.QueuesSteps.declared.rings.overflowing.push.Push.TheVariants as overflowing
@@ -22,19 +22,19 @@ use Rattle.iox_lanes_parties.specs.Parties.{SubscriberLaneState, is_out}
 use Rattle.iox_lanes_machine.specs.Borrowing.{borrows}
 use Rattle.iox_lanes_machine.specs.LedgerUses.{total, refers_to}
 
--- How many slots the connection at this place has, by the publisher's own record.
+-- The number of slots that the connection at this place has, by the publisher's own record.
 abbrev pub slots_at : BookState → ℕ → ℕ
 slots_at book place = total (λ index. refers_to book place (book.first + index)) (length book.uses)
 
--- How many slots of a publisher are loans.
+-- The number of slots of a publisher that are loans.
 abbrev pub loans_out : BookState → ℕ
 loans_out book = total (λ index. is_out (get_or book.loans index mark.No)) (length book.loans)
 
--- How many samples a subscriber borrows from the connection.
+-- The number of samples that a subscriber borrows from the connection.
 abbrev pub borrowed_of : ℕ → SubscriberLaneState → ℕ
 borrowed_of connection lane = total (λ slot. borrows connection slot (Some lane)) (length lane.port.samples)
 
--- A push on an overflowing ring is under way, and hasn't stored its write position yet.
+-- A push on an overflowing ring is in progress, and hasn't stored its write position yet.
 abbrev pub OverflowingWaits : overflowing_type.Push → Type 0
 OverflowingWaits overflowing.Idle = ⊥
 OverflowingWaits (overflowing.Begun limit value) = Unit {0}
@@ -45,7 +45,7 @@ OverflowingWaits (overflowing.Full value seen next) = ⊥
 OverflowingWaits (overflowing.SawOldest value seen next oldest) = ⊥
 OverflowingWaits (overflowing.Pushed value answer) = ⊥
 
--- A push on a refusing ring is under way, and hasn't stored its write position yet.
+-- A push on a refusing ring is in progress, and hasn't stored its write position yet.
 abbrev pub RefusingWaits : refusing_type.Push → Type 0
 RefusingWaits refusing.Idle = ⊥
 RefusingWaits (refusing.Begun limit value) = Unit {0}
@@ -54,7 +54,7 @@ RefusingWaits (refusing.SawRoom value write next) = Unit {0}
 RefusingWaits (refusing.Filled value next) = Unit {0}
 RefusingWaits (refusing.Pushed value answer) = ⊥
 
--- A push on a ring of either kind is under way, and hasn't stored its write position yet.
+-- A push on a ring of either kind is in progress, and hasn't stored its write position yet.
 abbrev pub PushWaits : Push → Type 0
 PushWaits (ring.Overflowing push) = OverflowingWaits push
 PushWaits (ring.Refusing push) = RefusingWaits push
@@ -73,7 +73,7 @@ HasSwept (publishing.Pushing slot at route push delivery) place = (at < place) �
 HasSwept (publishing.Sent slot delivery) place = ⊥
 HasSwept (publishing.Dropping slot) place = ⊥
 
--- A pop that takes back is under way; if it found a sample, the connection has at least one slot.
+-- A pop that takes a sample back is in progress; if it found a sample, the connection has at least one slot.
 abbrev pub TakesSome : ℕ → Pop → Type 0
 TakesSome slots pop.Idle = ⊥
 TakesSome slots pop.Begun = Unit {0}
@@ -85,7 +85,7 @@ TakesSome slots pop.LookBegun = ⊥
 TakesSome slots (pop.LookRead seen) = ⊥
 TakesSome slots (pop.Looked some) = ⊥
 
--- A push on an overflowing ring is under way.
+-- A push on an overflowing ring is in progress.
 abbrev pub OverflowingGoes : overflowing_type.Push → Type 0
 OverflowingGoes overflowing.Idle = ⊥
 OverflowingGoes (overflowing.Begun limit value) = Unit {0}
@@ -96,12 +96,12 @@ OverflowingGoes (overflowing.Full value seen next) = Unit {0}
 OverflowingGoes (overflowing.SawOldest value seen next oldest) = Unit {0}
 OverflowingGoes (overflowing.Pushed value answer) = ⊥
 
--- A push on a ring of either kind is under way.
+-- A push on a ring of either kind is in progress.
 abbrev pub PushGoes : Push → Type 0
 PushGoes (ring.Overflowing push) = OverflowingGoes push
 PushGoes (ring.Refusing push) = RefusingWaits push
 
--- If the call takes back or pushes, its pop or push is under way.
+-- If the call takes a sample back or pushes, its pop or push is in progress.
 abbrev pub CallGoes : BookState → PublisherCall → Type 0
 CallGoes book publishing.Idle = Unit {0}
 CallGoes book (publishing.LoanReclaims at route pop) = TakesSome (slots_at book at) pop
@@ -115,15 +115,15 @@ CallGoes book (publishing.Pushing slot at route push delivery) = PushGoes push
 CallGoes book (publishing.Sent slot delivery) = Unit {0}
 CallGoes book (publishing.Dropping slot) = Unit {0}
 
--- The loans of a publisher are counted, if it has fewer than 2^64 slots; no more are out than may be, and the history isn't longer than it
--- may be.
+-- The loans of a publisher are counted, if it has fewer than 2^64 slots. There are no more than its loan limit, and the history isn't
+-- longer than the history size.
 pub record CountsLoans (book : BookState) : Type 0 where
   pub out : length book.loans < 2 ^ 64 → book.out ≡ loans_out book
   pub few : book.out ≤ book.most_loans
   pub kept : length book.history ≤ book.kept
 
 -- What a publisher's record says at this stage of its call: each of the `connections` connections has at most as many slots as its
--- completion ring has cells, and one fewer where the call has taken back all samples.
+-- completion ring has cells, and at least one fewer if the call has taken back all its samples.
 pub record HasRooms (cells connections : ℕ) (book : BookState) (call : PublisherCall) : Type 0 where
   pub most : (place : ℕ) → place < connections → slots_at book place ≤ cells
   pub swept : (place : ℕ) → place < connections → HasSwept call place → slots_at book place < cells
@@ -151,7 +151,7 @@ may_take (rings.Refusing pop.LookBegun) = false
 may_take (rings.Refusing (pop.LookRead seen)) = false
 may_take (rings.Refusing (pop.Looked some)) = false
 
--- A receive whose pop may still take a slot borrows fewer samples from the connection than it may.
+-- A receive whose pop may still take a slot borrows fewer samples from the connection than its maximum.
 abbrev pub MayBorrow : SubscriberLaneState → SubscriberCall → Type 0
 MayBorrow lane subscribing.Idle = Unit {0}
 MayBorrow lane (subscribing.Receiving place route p waits) = may_take p ≡ true → borrowed_of route.connection lane < lane.port.most_borrowed
@@ -171,7 +171,7 @@ ReleasesOk (subscribing.WasRead slot) = Unit {0}
 ReleasesOk (subscribing.Releasing place route push) = Unit {0}
 ReleasesOk (subscribing.Released done) = done ≡ true
 
--- A subscriber counts the samples that it borrows from each of its connections, and borrows no more than it may.
+-- A subscriber counts the samples that it borrows from each of its connections, and borrows no more than its maximum from each.
 pub record CountsBorrowed (lane : SubscriberLaneState) : Type 0 where
   pub numbers : (place : ℕ) (route : Route) → slice_get lane.port.routes place ≡ Some route
       → (slice_get lane.port.borrowed place ≡ Some (borrowed_of route.connection lane))

@@ -19,7 +19,7 @@ abbrev pub count : ℕ → List ℕ → ℕ
 count value [] = 0
 count value (x ∷ xs) = one_if (x == value) + count value xs
 
--- At how many of the first `places` places the test holds.
+-- The number of the first `places` places at which the test holds.
 abbrev pub total : (ℕ → Bool) → ℕ → ℕ
 total test zero = 0
 total test (suc places) = total test places + one_if (test places)
@@ -35,7 +35,7 @@ refers first width referred place slot =
     else if nat_lt (slot - first) width then get_or referred (place * width + (slot - first)) false
     else false
 
--- How many of the connections have the slot.
+-- The number of connections that have the slot.
 abbrev pub references : ℕ → ℕ → List Bool → ℕ → ℕ → ℕ
 references first width referred connections slot = total (λ place. refers first width referred place slot) connections
 
@@ -46,7 +46,7 @@ pub record IsCounted (uses : ℕ) (loan : Bool) (history references : ℕ) : Typ
   pub once : history ≤ 1
   pub alone : loan ≡ true → (history ≡ 0) × (references ≡ 0)
 
--- The uses of each of `slots` slots are counted so (`IsCounted`), and the publisher has fewer than 2^62 connections.
+-- The uses of each of `slots` slots are counted as `IsCounted` says, and the publisher has fewer than 2^62 connections.
 pub record AreCounted (connections first slots : ℕ) (loans : List LoanMark) (history : List ℕ) (referred : List Bool) (uses : List ℕ) :
     Type 0 where
   pub loans_each : length loans ≡ slots

@@ -24,7 +24,7 @@ HoldsHead table slot words head = (word : ℕ) → word < words → get_or head 
 abbrev pub HoldsAllHead : TableWords → ℕ → List ℕ → Type 0
 HoldsAllHead table slot head = HoldsHead table slot (3 + table.sizes.user_header_words) head
 
--- What a write or a send has stored so far is in its slot; `sends` says whether the call under way is a send.
+-- What a write or a send has stored so far is in its slot; `sends` says whether the call in progress is a send.
 abbrev pub StoresHeld : TableWords → Bool → List ℕ → List ℕ → PublisherCall → Type 0
 StoresHeld table sends payload head publishing.Idle = Unit {0}
 StoresHeld table sends payload head (publishing.LoanReclaims place route pop) = Unit {0}
@@ -49,8 +49,8 @@ StoresHold m = (place : ℕ) (lane : PublisherLaneState) → slice_get m.publish
 abbrev pub StoresFollow : World → Type 0
 StoresFollow m = m.moments ≤ 2 ^ 63 → StoresHold m
 
--- After a step that ends a write, its slot has the payload that the write was given; after one that ends a send, the header and user header
--- that the send stored. Both hold as long as at most 2^63 steps were made.
+-- As long as at most 2^63 steps were made: after a step that ends a write, its slot has the payload that the write was given; after a step
+-- that ends a send, its slot has the header and user header that the send stored.
 pub record StoresLeft (m n : World) : Type 0 where
   pub payload : m.moments ≤ 2 ^ 63 → (call : FinishedCall) (place loan : ℕ) (lane : PublisherLaneState)
       → n.finished ≡ m.finished ++ call ∷ [] → call.party ≡ Publisher place → slice_get m.publishers place ≡ Some lane

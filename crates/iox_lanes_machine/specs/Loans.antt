@@ -18,13 +18,14 @@ use Rattle.iox_lanes_machine.specs.World.{World}
 abbrev pub IsUsed : World → PublisherLaneState → ℕ → Type 0
 IsUsed m lane slot = (is_out (loan_of slot lane.port.book) ≡ true) ⊎ ((0 < count slot lane.port.book.history) ⊎ IsAtConnection m slot)
 
--- How many slots a publisher needs in the worst case: at each connection as many as may wait and be borrowed, which is one fewer than its
--- completion ring has cells; the history; and the loans.
+-- The number of slots that a publisher needs in the worst case: at each connection as many as may wait and be borrowed, which is one fewer
+-- than its completion ring has cells; the history; and the loans.
 abbrev pub worst_case : World → PublisherLaneState → ℕ
 worst_case m lane = length lane.port.routes * (m.table.sizes.completion_cells - 1) + lane.port.book.kept + lane.port.book.most_loans
 
--- A loan is refused exactly where as many loans are out as may be. It finds no slot only where each has a use. The slot that it gets is the
--- publisher's own, wasn't a loan, and is one now. With fewer loans out, and as many slots as the worst case needs, it gets one.
+-- A loan is refused exactly if its publisher has as many loans as its loan limit allows, and finds no slot only if each slot has a use. The
+-- slot that it gets is the publisher's own, wasn't a loan before, and is one now. If the publisher is below its loan limit, and has as many
+-- slots as the worst case needs, the loan gets a slot.
 pub record IsLent (m n : World) (place : ℕ) (lane : PublisherLaneState) (given : LoanAnswer) : Type 0 where
   pub refused : given ≡ loan.ExceedsMaxLoans → loans_out lane.port.book ≡ lane.port.book.most_loans
   pub refuses : loans_out lane.port.book ≡ lane.port.book.most_loans → given ≡ loan.ExceedsMaxLoans
@@ -35,7 +36,7 @@ pub record IsLent (m n : World) (place : ℕ) (lane : PublisherLaneState) (given
       × (given ≡ loan.Slot slot)
 
 -- Each loan that a step ends has the answer that the state before the step demands (`IsLent`), as long as at most 2^63 steps were made, and
--- for slots with numbers below 2^64.
+-- the numbers of slots are less than 2^64.
 abbrev pub LoansLent : World → World → Type 0
 LoansLent m n = m.moments ≤ 2 ^ 63 → (call : FinishedCall) (place : ℕ) (lane : PublisherLaneState) (given : LoanAnswer)
     → n.finished ≡ m.finished ++ call ∷ [] → call.party ≡ Publisher place → slice_get m.publishers place ≡ Some lane

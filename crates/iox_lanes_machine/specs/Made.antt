@@ -18,7 +18,7 @@ abbrev pub listed : {X : Type 0} → (ℕ → X) → ℕ → List X
 listed f zero = []
 listed f (suc count) = listed f count ++ f count ∷ []
 
--- How many cells a completion ring has: one for each message that may wait or be borrowed, and one more.
+-- The number of cells of a completion ring: one for each message that may wait or be borrowed, and one more.
 abbrev pub cells_back : LaneSizes → ℕ
 cells_back sizes = sizes.buffer + sizes.most_borrowed + 1
 
@@ -33,7 +33,7 @@ table_sizes sizes = record {
   payload_words = sizes.payload_words;
 }
 
--- The numbers of all connections, of all slots, and of the words of a slot are below 2^64.
+-- The numbers of all connections, of all slots, and of the words of a slot are less than 2^64.
 pub record AreCounted (sizes : LaneSizes) : Type 0 where
   pub connections : sizes.publishers * sizes.subscribers < 2 ^ 64
   pub slots : sizes.publishers * sizes.slots < 2 ^ 64

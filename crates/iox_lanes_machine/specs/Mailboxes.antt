@@ -29,7 +29,7 @@ positions_of table connection = record {
   completion_read = held_by table (Ring connection Completion Read);
 }
 
--- No more messages are between the two positions of the submission ring than may wait, and at most one more on an overflowing ring.
+-- At most as many messages as may wait are between the two positions of the submission ring, or one more on an overflowing ring.
 pub record AreNear (link : LinkState) (positions : Positions) : Type 0 where
   pub behind : positions.submission_read ≤ positions.submission_write
   pub near : positions.submission_write ≤ positions.submission_read + link.limit + (if overflows link.kind then 1 else 0)

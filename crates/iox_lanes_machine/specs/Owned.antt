@@ -17,17 +17,18 @@ abbrev pub MailIsOwn : World → ℕ → Type 0
 MailIsOwn m connection = m.moments ≤ 2 ^ 63 → (link : LinkState) → slice_get m.links connection ≡ Some link
     → (at slot : ℕ) → slice_get (mail_at m connection) at ≡ Some slot → IsSlotOf m link.publisher slot
 
--- The history of the publisher at this place has only slots of its own, and no more than it may.
+-- The history of the publisher at this place has only slots of its own, and at most as many as its history size.
 pub record RemembersOwn (m : World) (place : ℕ) (lane : PublisherLaneState) : Type 0 where
   pub own : (at slot : ℕ) → slice_get lane.port.book.history at ≡ Some slot → IsSlotOf m place slot
   pub few : length lane.port.book.history ≤ lane.port.book.kept
 
--- The history of each publisher has only slots of its own, and no more than it may, as long as at most 2^63 steps were made.
+-- As long as at most 2^63 steps were made: the history of each publisher has only slots of its own, and at most as many as its history
+-- size.
 abbrev pub HistoriesAreOwn : World → Type 0
 HistoriesAreOwn m = m.moments ≤ 2 ^ 63 → (place : ℕ) (lane : PublisherLaneState) → slice_get m.publishers place ≡ Some lane
     → RemembersOwn m place lane
 
--- No more messages wait at a connection at rest than may.
+-- The number of messages that wait at a connection at rest is at most the connection's maximum.
 abbrev pub MailHasRoom : World → ℕ → Type 0
 MailHasRoom m connection = Rests m connection → (link : LinkState) → slice_get m.links connection ≡ Some link
     → length (mail_at m connection) ≤ link.limit

@@ -1,4 +1,4 @@
--- How many steps a publisher's call may still make.
+-- The number of steps that a publisher's call still makes at most.
 use Rattle.std.specs.Prelude.{ℕ, ◌+◌, ◌-◌, ◌*◌}
 use Rattle.iox_lanes_parties.specs.QueuesSteps.declared.rings.overflowing.push.Push.TheVariants as overflowing
 use Rattle.iox_lanes_parties.specs.QueuesSteps.declared.rings.refusing.push.Push.TheVariants as refusing
@@ -11,8 +11,8 @@ use Rattle.iox_lanes_parties.specs.LanesBase.declared.calls.publisher.PublisherC
 use Rattle.iox_lanes_parties.specs.PublisherKeeping.{BookState}
 use Rattle.iox_lanes_machine.specs.LedgerRooms.{slots_at}
 
--- How many steps a pop that takes back may still make, at a connection with this many slots: four for each of them, and two that find no
--- more.
+-- The number of steps that a pop which takes samples back still makes at most, at a connection with this many slots: four for each of them,
+-- and two that find no more.
 abbrev pub taking_left : ℕ → Pop → ℕ
 taking_left slots pop.Idle = 0
 taking_left slots pop.Begun = 4 * slots + 2
@@ -24,7 +24,7 @@ taking_left slots pop.LookBegun = 0
 taking_left slots (pop.LookRead seen) = 0
 taking_left slots (pop.Looked some) = 0
 
--- How many steps a push may still make, at most six.
+-- The number of steps that a push still makes at most, which is at most six.
 abbrev pub pushing_left : Push → ℕ
 pushing_left (ring.Overflowing overflowing.Idle) = 0
 pushing_left (ring.Overflowing (overflowing.Begun limit value)) = 6
@@ -41,11 +41,11 @@ pushing_left (ring.Refusing (refusing.SawRoom value write next)) = 2
 pushing_left (ring.Refusing (refusing.Filled value next)) = 1
 pushing_left (ring.Refusing (refusing.Pushed value answer)) = 0
 
--- The most steps of taking samples back at this many connections, each with at most as many slots as it has cells.
+-- The maximum number of steps that take samples back at this many connections, each with at most `cells` slots.
 abbrev pub sweeps_left : ℕ → ℕ → ℕ
 sweeps_left cells connections = connections * (4 * cells + 2)
 
--- How many steps a call may still make, if it stores `words` words.
+-- The number of steps that a call still makes at most, if it stores `words` words.
 abbrev pub steps_left : ℕ → ℕ → ℕ → BookState → PublisherCall → ℕ
 steps_left cells connections words book publishing.Idle = 0
 steps_left cells connections words book (publishing.LoanReclaims at route pop)

@@ -1,4 +1,4 @@
--- How many steps a loan and a send take, however the steps of others come between theirs.
+-- The number of steps that a loan and a send take, however the steps of other parties come between theirs.
 use Rattle.std.specs.Prelude.{ℕ, ◌≡◌, ◌+◌, ◌*◌, ◌<◌, ◌≤◌, ◌^◌, Bool, true, false, List, [], ◌∷◌, slice_get, Some}
 use Rattle.iox_lanes_machine.specs.LanesBase.Publishing.{publisher_is_idle}
 use Rattle.iox_lanes_machine.specs.LanesParties.Parties.{PublisherLaneState}
@@ -41,9 +41,9 @@ pub record IsInCall (m : World) (place first : ℕ) : Type 0 where
   pub since : lane.first ≡ first
   pub busy : publisher_is_idle lane.port.call ≡ false
 
--- A loan that isn't over yet: its beginning, the steps that its publisher made since then and the next one are at most 4 * S * (B + R + 2)
--- + 2, for S subscribers that buffer B messages and borrow R samples, whatever other parties do in between. So no loan takes more steps. It
--- holds as long as at most 2^63 steps were made.
+-- As long as at most 2^63 steps were made: for a loan that isn't over yet, its beginning, the steps that its publisher made since then and
+-- the next one are at most 4 * S * (B + R + 2) + 2, for S subscribers that buffer B messages and borrow R samples, whatever other parties
+-- do in between. So no loan takes more steps.
 abbrev pub LoansEndSoon : Type 0
 LoansEndSoon = (m : World) (came : CameTo m) (place : ℕ) (entries : List Entry) → fits m (Publisher place) (Begin call.LoanUninit) ≡ true
     → (led (happens m (Publisher place) (Begin call.LoanUninit)) entries).moments ≤ 2 ^ 63
@@ -51,9 +51,10 @@ LoansEndSoon = (m : World) (came : CameTo m) (place : ℕ) (entries : List Entry
     → 1 + own_steps (happens m (Publisher place) (Begin call.LoanUninit)) place entries + 1
     ≤ 4 * came.sizes.subscribers * (came.sizes.buffer + came.sizes.most_borrowed + 2) + 2
 
--- A send that isn't over yet: its beginning, the steps that its publisher made since then and the next one are at most 4 * S * (B + R + 3)
--- + W + 7, for W words, fewer than 2^61, between the three words of the header and the payload: those of a user header, and the sequence
--- number, where messages have one. For a user header of U words, W + 7 is at most U + 8.
+-- As long as at most 2^63 steps were made: for a send that isn't over yet, its beginning, the steps that its publisher made since then and
+-- the next one are at most 4 * S * (B + R + 3) + W + 7. W, which is less than 2^61, is the number of words between the three words of the
+-- header and the payload: those of a user header, and the sequence number, where messages have one. For a user header of U words, W + 7 is
+-- at most U + 8.
 abbrev pub SendsEndSoon : Type 0
 SendsEndSoon = (m : World) (came : CameTo m) (place loan : ℕ) (entries : List Entry) → came.sizes.user_header_words < 2 ^ 61
     → fits m (Publisher place) (Begin (call.Send loan)) ≡ true

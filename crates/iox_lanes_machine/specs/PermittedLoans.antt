@@ -15,16 +15,16 @@ use Rattle.iox_lanes_machine.specs.Paces.{led, IsInCall}
 use Rattle.iox_lanes_machine.specs.WholeReads.{CameTo}
 use Rattle.iox_lanes_machine.specs.World.{World, fits, happens}
 
--- A loan of this publisher is refused exactly where as many loans are out as may be, and gets a slot where fewer are out and there are as
--- many slots as the worst case needs.
+-- A loan of this publisher is refused exactly if it has as many loans as its loan limit allows, and gets a slot if it has fewer loans and
+-- as many slots as the worst case needs.
 pub record EndsAsBegun (m : World) (lane : PublisherLaneState) (given : LoanAnswer) : Type 0 where
   pub refused : given ≡ loan.ExceedsMaxLoans → loans_out lane.port.book ≡ lane.port.book.most_loans
   pub refuses : loans_out lane.port.book ≡ lane.port.book.most_loans → given ≡ loan.ExceedsMaxLoans
   pub permitted : loans_out lane.port.book < lane.port.book.most_loans → worst_case m lane ≤ length lane.port.book.uses → (slot : ℕ)
       × (given ≡ loan.Slot slot)
 
--- Each loan ends as the state when it began demands (`EndsAsBegun`), whatever was done in between; as long as at most 2^63 steps were made,
--- and for slots with numbers below 2^64.
+-- As long as at most 2^63 steps were made, and for slots with numbers less than 2^64: each loan ends as the state when it began demands
+-- (`EndsAsBegun`), whatever was done in between.
 abbrev pub LoansEndAsBegun : Type 0
 LoansEndAsBegun = (m : World) → CameTo m → (place : ℕ) (entries : List Entry) → fits m (Publisher place) (Begin call.LoanUninit) ≡ true
     → (led (happens m (Publisher place) (Begin call.LoanUninit)) entries).moments ≤ 2 ^ 63

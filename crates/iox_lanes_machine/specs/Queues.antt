@@ -1,5 +1,4 @@
--- The completion ring of a connection is a queue: its subscriber's releases put their samples behind the others, and its publisher's calls
--- take the first.
+-- The completion ring of a connection is a queue: its subscriber's releases append their samples, and its publisher's calls take the first.
 use Rattle.std.specs.Prelude.{ℕ, ◌≡◌, ◌≤◌, ◌^◌, ◌⊎◌, true, false, [], ◌∷◌, ◌++◌, slice_get, Some}
 use Rattle.iox_lanes_machine.specs.LanesBase.declared.calls.route.Route.{Route}
 use Rattle.iox_lanes_machine.specs.LanesParties.Parties.{PublisherLaneState}
@@ -24,8 +23,8 @@ pub record IsTakenBack (m n : World) (who connection slot : ℕ) : Type 0 where
   pub had : refers_to before.port.book place slot ≡ true
   pub lacks : refers_to after.port.book place slot ≡ false
 
--- A step leaves the samples in the completion ring as they are; or the subscriber puts one behind them, which it borrowed until then; or
--- the publisher takes the first.
+-- A step leaves the samples in the completion ring as they are; or the subscriber appends one, which it borrowed until then; or the
+-- publisher takes the first.
 abbrev pub QueueMoves : World → Party → World → ℕ → LinkState → Type 0
 QueueMoves m party n connection link =
     (given_back n.table connection ≡ given_back m.table connection)
@@ -35,7 +34,7 @@ QueueMoves m party n connection link =
     ⊎ ((sample : ℕ) × (party ≡ Publisher link.publisher) × (given_back m.table connection ≡ sample ∷ given_back n.table connection)
     × IsTakenBack m n link.publisher connection sample))
 
--- A step moves the queue of each connection so (`QueueMoves`), as long as at most 2^63 steps were made.
+-- A step changes the queue of each connection only as `QueueMoves` says.
 abbrev pub GivenBackInTurn : World → Party → World → Type 0
 GivenBackInTurn m party n = n.moments ≤ 2 ^ 63 → (connection : ℕ) (link : LinkState) → slice_get m.links connection ≡ Some link
     → QueueMoves m party n connection link

@@ -22,11 +22,11 @@ abbrev pub reads_of : List FinishedCall → List FinishedCall
 reads_of [] = []
 reads_of (call ∷ calls) = (if is_read call.answer then call ∷ [] else []) ++ reads_of calls
 
--- How many words a read returns: header, user header and payload.
+-- The number of words that a read returns: header, user header and payload.
 abbrev pub width : TableSizes → ℕ
 width sizes = 3 + sizes.user_header_words + sizes.payload_words
 
--- Each read that ended has its words behind those of the reads before it, and there are no others.
+-- The words of each read that ended come after those of the reads before it, and there are no others.
 pub record ReadsLie (m : World) : Type 0 where
   pub each : (number : ℕ) (call : FinishedCall) → slice_get (reads_of m.finished) number ≡ Some call
       → call.answer ≡ answer.Read (number * width m.table.sizes)

@@ -61,7 +61,7 @@ given_calls routes connection who [] = []
 given_calls routes connection who (call ∷ calls) =
     (if is_receiver call.party who then given_answer routes connection call.answer else []) ++ given_calls routes connection who calls
 
--- The slot of this connection that a receive under way has, if any.
+-- The slot of this connection that a receive in progress has, if any.
 abbrev pub given_in_hand : List Route → ℕ → SubscriberCall → List ℕ
 given_in_hand routes connection subscribing.Idle = []
 given_in_hand routes connection (subscribing.Receiving place route pop waits) = []

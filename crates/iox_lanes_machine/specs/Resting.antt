@@ -1,4 +1,4 @@
--- Lanes whose ports are between calls: what waits at a connection, and whether anything is out.
+-- Lanes whose ports are between calls: what waits at a connection, and whether any loan or sample exists.
 use Rattle.std.specs.Prelude.{ℕ, ◌≡◌, ◌≤◌, ◌^◌, true, false, List, [], get_or, slice_get, Option, Some, None}
 use Rattle.std.specs.List.{All}
 use Rattle.iox_lanes_machine.specs.QueuesSteps.declared.order.Placed.{Placed}
@@ -34,12 +34,12 @@ pub record AllBetween (m : World) : Type 0 where
   pub publishers : All (λ lane. publisher_is_idle lane.port.call ≡ true) m.publishers
   pub subscribers : All (λ lane. subscriber_is_idle lane.port.call ≡ true) m.subscribers
 
--- No loan and no sample is out.
+-- There is no loan and no sample.
 pub record NoneOut (m : World) : Type 0 where
   pub loans : All (λ lane. (slot : ℕ) → is_out (loan_of slot lane.port.book) ≡ false) m.publishers
   pub samples : All (λ lane. (slot : ℕ) → is_borrowed (place_of slot lane) ≡ false) m.subscribers
 
--- Why lanes can't be handed on: a party is inside a call, or no party is and something is out.
+-- Why lanes can't be handed on: a party is inside a call; or no party is inside a call, and a loan or a sample exists.
 abbrev pub IsUnrest : Unrest → World → Type 0
 IsUnrest unrest.PartyInCall m = AllBetween m → ⊥
 IsUnrest unrest.SamplesOut m = AllBetween m × (NoneOut m → ⊥)

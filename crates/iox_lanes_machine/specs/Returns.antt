@@ -64,8 +64,8 @@ release_on connection (subscribing.WasRead slot) = push.Idle
 release_on connection (subscribing.Releasing place route p) = if route.connection == connection then p else push.Idle
 release_on connection (subscribing.Released done) = push.Idle
 
--- The completion ring contains a list of samples, which its two ends know, and its write position is less than 2^63 beyond the count of
--- steps.
+-- The completion ring contains a list of samples, which its two ends know, and its write position is less than the number of steps plus
+-- 2^63.
 pub record IsReturning (cells : ℕ) (table : TableWords) (moments connection : ℕ) (sends : PublisherCall) (receives : SubscriberCall) :
     Type 0 where
   pub list : List ℕ
@@ -91,7 +91,7 @@ pub record ReturnsKept (m : World) : Type 0 where
       → GoesRound m.table.sizes.completion_cells lane.port.routes
   pub rings : m.moments ≤ 2 ^ 63 → AreReturning m
 
--- No more samples are between the two positions of the completion ring than it has cells.
+-- At most as many samples as the completion ring has cells are between its two positions.
 pub record BackNear (cells : ℕ) (positions : Positions) : Type 0 where
   pub behind : positions.completion_read ≤ positions.completion_write
   pub near : positions.completion_write ≤ positions.completion_read + cells

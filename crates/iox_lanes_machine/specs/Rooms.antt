@@ -1,5 +1,5 @@
--- How many slots are at each connection: at most as many as its completion ring has cells, and one fewer once a call took all back; so no
--- release is refused.
+-- The number of slots at each connection: at most as many as its completion ring has cells, and fewer after a call took all samples back;
+-- so no release is refused.
 use Rattle.std.specs.Prelude.{ℕ, ◌≡◌, ◌+◌, ◌<◌, ◌≤◌, ◌^◌, true, List, length, slice_get, Option, Some, None}
 use Rattle.std.specs.List.{All}
 use Rattle.iox_lanes_machine.specs.LanesBase.declared.calls.route.Route.{Route}
@@ -11,7 +11,7 @@ use Rattle.iox_lanes_machine.specs.Sends.{IsAmong}
 use Rattle.iox_lanes_machine.specs.World.{World}
 use Rattle.iox_lanes_machine.specs.Links.{LinkState}
 
--- How many samples of each connection a subscriber may borrow; 0 if there is no subscriber.
+-- The maximum number of samples that a subscriber borrows from each connection; 0 if there is no subscriber.
 abbrev pub may_borrow : Option SubscriberLaneState → ℕ
 may_borrow None = 0
 may_borrow (Some lane) = lane.port.most_borrowed
@@ -41,8 +41,8 @@ ReleasesGaveBack m = All (λ call. GaveBack call.answer) m.finished
 abbrev pub ReleasesFollow : World → Type 0
 ReleasesFollow m = m.moments ≤ 2 ^ 63 → ReleasesGaveBack m
 
--- What every step keeps of the counts at connections: publishers' records and subscribers' counts stay within the cells, which are more
--- than may wait and be borrowed together.
+-- What every step keeps of the counts at connections: the counts of publishers' records and of subscribers stay within the numbers of
+-- cells, which are larger than what may wait and be borrowed together.
 pub record RoomsKept (m : World) : Type 0 where
   pub publishers : (place : ℕ) (lane : PublisherLaneState) → slice_get m.publishers place ≡ Some lane
       → HasRooms m.table.sizes.completion_cells (length lane.port.routes) lane.port.book lane.port.call
@@ -53,6 +53,6 @@ pub record RoomsKept (m : World) : Type 0 where
       → link.limit + may_borrow (slice_get m.subscribers link.subscriber) < m.table.sizes.completion_cells
   pub releases : ReleasesGaveBack m
 
--- The counts at connections stay within the cells (`RoomsKept`), as long as at most 2^63 steps were made.
+-- The counts at connections stay within the numbers of cells (`RoomsKept`), as long as at most 2^63 steps were made.
 abbrev pub RoomsFollow : World → Type 0
 RoomsFollow m = m.moments ≤ 2 ^ 63 → RoomsKept m

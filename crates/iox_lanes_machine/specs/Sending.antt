@@ -1,4 +1,4 @@
--- What a send under way knows of its slot: the connections that it hasn't come to don't have the slot.
+-- What a send in progress knows of its slot: the connections that it hasn't come to don't have the slot.
 use Rattle.std.specs.Prelude.{ℕ, ◌≡◌, ◌+◌, ◌<◌, ◌≤◌, false}
 use Rattle.iox_lanes_parties.specs.QueuesSteps.declared.rings.overflowing.push.Push as overflowing_type
 use Rattle.iox_lanes_parties.specs.QueuesSteps.declared.rings.overflowing.push.Push.TheVariants as overflowing

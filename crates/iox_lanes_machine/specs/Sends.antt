@@ -28,14 +28,14 @@ use Rattle.iox_lanes_machine.specs.Rings.{sent_word, push_on}
 use Rattle.iox_lanes_machine.specs.World.{World}
 use Rattle.iox_lanes_machine.specs.Links.{LinkState}
 
--- How many of these puts were taken.
+-- The number of these puts that were taken.
 abbrev pub taken_among : List PushAnswer → ℕ
 taken_among [] = 0
 taken_among (Kept ∷ answers) = taken_among answers + 1
 taken_among (LeftOut oldest ∷ answers) = taken_among answers + 1
 taken_among (Refused ∷ answers) = taken_among answers
 
--- How many of these puts were refused.
+-- The number of these puts that were refused.
 abbrev pub refused_among : List PushAnswer → ℕ
 refused_among [] = 0
 refused_among (Kept ∷ answers) = refused_among answers
@@ -74,7 +74,7 @@ pub record ArePut (orders : List (List Placed)) (routes : List Route) (number sl
   pub counted : delivery ≡ delivery_of answers
 
 -- The call is a send: its slot has one put at each connection of its publisher, within the time of the call, and its answer counts their
--- answers. It is `UnableToDeliver` exactly where the publisher fails at a full mailbox and some put was refused.
+-- answers. The answer is `UnableToDeliver` exactly if the publisher's sends fail at a full mailbox and some put was refused.
 pub record IsSent (orders : List (List Placed)) (fails : Bool) (routes : List Route) (number : ℕ) (call : FinishedCall) : Type 0 where
   pub slot : ℕ
   pub delivery : Delivery
@@ -133,7 +133,7 @@ PutSoFar table orders routes number first last (publishing.Pushing slot place ro
 PutSoFar table orders routes number first last (publishing.Sent slot delivery) = ArePut orders routes number slot first last delivery
 PutSoFar table orders routes number first last (publishing.Dropping slot) = Unit {0}
 
--- How many puts the send under way has finished at the connection of this place: one or none.
+-- The number of puts that the send in progress has finished at the connection of this place: one or none.
 abbrev pub done_at : ℕ → PublisherCall → ℕ
 done_at place publishing.Idle = 0
 done_at place (publishing.LoanReclaims at route pop) = 0
@@ -147,7 +147,7 @@ done_at place (publishing.Pushing slot at route push delivery) = if nat_lt place
 done_at place (publishing.Sent slot delivery) = 1
 done_at place (publishing.Dropping slot) = 0
 
--- How many puts the push under way has made at a connection.
+-- The number of puts that the push in progress has made at a connection.
 abbrev pub in_hand_at : TableWords → Route → PublisherCall → ℕ
 in_hand_at table route call = length (put_in_hand (read_at table route) (push_on route.connection route.kind call))
 
@@ -169,7 +169,8 @@ abbrev pub AreConnected : World → Type 0
 AreConnected m = (who : ℕ) (lane : PublisherLaneState) → slice_get m.publishers who ≡ Some lane
     → HasConnections m.links who lane.port.routes
 
--- The sends of a publisher, in their order, made exactly the puts at its connections, except those that the send under way has made so far.
+-- The sends of a publisher, in their order, made exactly the puts at its connections, except those that the send in progress has made so
+-- far.
 pub record SendsPut (m : World) (who : ℕ) (fails : Bool) (routes : List Route) (first : ℕ) (call : PublisherCall) : Type 0 where
   pub connections : HasConnections m.links who routes
   pub sent : (number : ℕ) (send : FinishedCall) → slice_get (sends_of who m.finished) number ≡ Some send

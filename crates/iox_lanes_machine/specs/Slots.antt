@@ -32,7 +32,7 @@ SlotsStay m party n = (slot : ℕ) (word : SlotWord) → IsWord m.table.sizes (S
 abbrev pub LoansApart : World → Type 0
 LoansApart m = (one other slot : ℕ) → IsLoanAt m one slot → IsLoanAt m other slot → one ≡ other
 
--- A call that stores words of a slot, marks it as written, puts it into the history or drops it has a loan.
+-- A call that stores words of a slot, marks it as written, puts it into the history or drops it does so with a loan.
 abbrev pub StandsAtLoan : BookState → PublisherCall → Type 0
 StandsAtLoan book publishing.Idle = Unit {0}
 StandsAtLoan book (publishing.LoanReclaims place route pop) = Unit {0}
@@ -52,7 +52,8 @@ SlotsInRows m = (one other : ℕ) (lane behind : PublisherLaneState) → slice_g
     → slice_get m.publishers other ≡ Some behind → one < other
     → lane.port.book.first + length lane.port.book.loans ≤ behind.port.book.first
 
--- Each publisher's call names only a loan of its own where it needs one, and the slots of publishers are in rows.
+-- Each publisher's call names only a loan of its own where it needs one, and the slots of a publisher come before those of later
+-- publishers.
 pub record LoansStand (m : World) : Type 0 where
   pub stages : (place : ℕ) (lane : PublisherLaneState) → slice_get m.publishers place ≡ Some lane
       → StandsAtLoan lane.port.book lane.port.call

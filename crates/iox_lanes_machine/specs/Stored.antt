@@ -1,4 +1,5 @@
--- What a connection's two rings contain besides the messages that wait there: what lies aside, and the samples that came back.
+-- What a connection's two rings contain besides the messages that wait there: delayed puts, which lie aside, and the samples that came
+-- back.
 use Rattle.std.specs.Prelude.{ℕ, zero, suc, ◌+◌, ◌-◌, ◌%◌, List, [], ◌∷◌, ◌++◌, length, slice_index}
 use Rattle.iox_lanes_parties.specs.QueuesSteps.Access.{RingWords}
 use Rattle.iox_lanes_parties.specs.QueuesSteps.declared.order.Act.{Act}
@@ -24,7 +25,7 @@ put_in (Take answer ∷ acts) = put_in acts
 abbrev pub aside : ℕ → Push → List ℕ
 aside read push = put_in (late_put read push)
 
--- The cells of a ring from a position on, as many as given.
+-- This many cells of a ring, from a position on.
 abbrev pub cells_from : RingWords → ℕ → ℕ → List ℕ
 cells_from words position zero = []
 cells_from words position (suc more) = slice_index words.cells (position % length words.cells) ∷ cells_from words (position + 1) more

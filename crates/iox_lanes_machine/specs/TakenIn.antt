@@ -24,7 +24,7 @@ use Rattle.iox_lanes_machine.specs.declared.found.Found.{Found}
 use Rattle.iox_lanes_machine.specs.declared.found.Found.TheVariants as found
 
 -- A slot may be found at the connection of this place of a publisher: it is the publisher's, and neither waits there nor is in the
--- completion ring; and the slots there are together fewer than this ring has cells.
+-- completion ring; and the slots that wait or are in the completion ring there are together fewer than the cells of this ring.
 pub record MayStand (m : World) (who place slot : ℕ) : Type 0 where
   pub lane : PublisherLaneState
   pub publisher : slice_get m.publishers who ≡ Some lane
@@ -36,8 +36,8 @@ pub record MayStand (m : World) (who place slot : ℕ) : Type 0 where
   pub lacks : count slot link.found + count slot (given_back m.table route.connection) ≡ 0
   pub room : length link.found + length (given_back m.table route.connection) < m.table.sizes.completion_cells
 
--- A slot may be found to be the newest of a publisher's history: it is the publisher's and not yet in the history, which has fewer slots
--- than it may.
+-- A slot may be found to be the newest of a publisher's history: it is the publisher's and not yet in the history, and the history has
+-- fewer slots than its maximum.
 pub record MayBeNewest (m : World) (who slot : ℕ) : Type 0 where
   pub lane : PublisherLaneState
   pub publisher : slice_get m.publishers who ≡ Some lane
@@ -45,13 +45,13 @@ pub record MayBeNewest (m : World) (who slot : ℕ) : Type 0 where
   pub lacks : count slot lane.port.book.history ≡ 0
   pub room : length lane.port.book.history < lane.port.book.kept
 
--- A slot may be found to wait: it may be found at the connection (`MayStand`), and fewer messages wait there than may.
+-- A slot may be found to wait: it may be found at the connection (`MayStand`), and fewer messages wait there than the connection's maximum.
 pub record MayBeMessage (m : World) (who place slot : ℕ) : Type 0 where
   pub stands : MayStand m who place slot
   pub fewer : length stands.link.found < stands.link.limit
 
--- The connection of this place of a publisher may be found to have a buffer: for at least one message and for no more than may wait there;
--- nothing waits there yet, and its completion ring is empty.
+-- The connection of this place of a publisher may be found to have a buffer, for at least one message and for no more than its present
+-- maximum: nothing waits there yet, and its completion ring is empty.
 pub record MayHaveBuffer (m : World) (who place messages : ℕ) : Type 0 where
   pub lane : PublisherLaneState
   pub publisher : slice_get m.publishers who ≡ Some lane
@@ -64,8 +64,8 @@ pub record MayHaveBuffer (m : World) (who place messages : ℕ) : Type 0 where
   pub no_message : link.found ≡ []
   pub no_sample : given_back m.table route.connection ≡ []
 
--- A publisher may be found to have this many slots: no more than it has, and nothing was found of it yet, so its history is empty, and at
--- its connections nothing waits and the completion rings are empty.
+-- A publisher may be found to have this many slots: no more than it has. Nothing was found of it yet: its history is empty, and at its
+-- connections nothing waits and the completion rings are empty.
 pub record MayHaveSlots (m : World) (who slots : ℕ) : Type 0 where
   pub lane : PublisherLaneState
   pub publisher : slice_get m.publishers who ≡ Some lane
@@ -81,8 +81,8 @@ pub record MayChangePlaces (m : World) (who one other : ℕ) : Type 0 where
   pub has_one : one < length lane.port.routes
   pub has_other : other < length lane.port.routes
 
--- This may be found, apart from the condition that no step was made. Of a word it needs only that the slot has the word, and of a sender
--- that the publisher exists.
+-- This may be found if no step was made yet; that condition isn't part of this definition. For a word, the slot must have this word; for a
+-- sender, the publisher must exist.
 abbrev pub MayBeFound : World → Found → Type 0
 MayBeFound m (found.Waiting publisher place slot) = MayBeMessage m publisher place slot
 MayBeFound m (found.GivenBack publisher place slot) = MayStand m publisher place slot
@@ -94,7 +94,7 @@ MayBeFound m (found.Sender publisher node_id publisher_id fails last) =
     (lane : PublisherLaneState) × (slice_get m.publishers publisher ≡ Some lane)
 MayBeFound m (found.Swapped subscriber one other) = MayChangePlaces m subscriber one other
 
--- This may be found, which is so only before the first step.
+-- This may be found; nothing may be found after the first step.
 pub record IsFirst (m : World) (f : Found) : Type 0 where
   pub first : m.moments ≡ 0
   pub may : MayBeFound m f
@@ -204,7 +204,7 @@ new_slots (found.Slots publisher slots most_loans) who = number_if (publisher ==
 new_slots (found.Sender publisher node_id publisher_id fails last) who = None
 new_slots (found.Swapped subscriber one other) who = None
 
--- The number of loans that may be out that a finding gives to a publisher, if any.
+-- The loan limit that a finding gives to a publisher, if any.
 abbrev pub new_loans : Found → ℕ → Option ℕ
 new_loans (found.Waiting publisher place slot) who = None
 new_loans (found.GivenBack publisher place slot) who = None
@@ -259,16 +259,17 @@ last_behind (found.Slots publisher slots most_loans) who last = last
 last_behind (found.Sender publisher node_id publisher_id fails given) who last = if publisher == who then given else last
 last_behind (found.Swapped subscriber one other) who last = last
 
--- The place before a swap of two places of the connection that is at this place after it.
+-- The connection at this place after a swap of two places was at the returned place before the swap.
 abbrev pub other_place : ℕ → ℕ → ℕ → ℕ
 other_place one other place = if place == one then other else if place == other then one else place
 
--- The place before a swap, if the test holds; otherwise the same place.
+-- As `other_place`, if the test holds; otherwise the same place.
 abbrev pub place_if : Bool → ℕ → ℕ → ℕ → ℕ
 place_if true one other place = other_place one other place
 place_if false one other place = place
 
--- The place before a finding of the connection that is at this place of a subscriber after it.
+-- Where a connection of a subscriber was before a finding, if it is at this place after it: elsewhere only if the finding swaps two places
+-- of this subscriber, and this is one of them.
 abbrev pub place_before : Found → ℕ → ℕ → ℕ
 place_before (found.Waiting publisher place slot) who at = at
 place_before (found.GivenBack publisher place slot) who at = at
@@ -285,7 +286,7 @@ pub record RoutesKnow (m : World) (f : Found) (before : ℕ → ℕ) (was now : 
       → slice_get now place ≡ Some (route_with (new_buffer m f route.connection) route)
   pub as_many : length now ≡ length was
 
--- The ring has these slots behind those that it had, and its read position is the same.
+-- The ring has these slots after those that it had, and its read position is the same.
 pub record RingGrows (was now : RingWords) (more : List ℕ) : Type 0 where
   pub list : between now ≡ between was ++ more
   pub read : now.read ≡ was.read
@@ -303,7 +304,7 @@ pub record HeadSays (node_id publisher_id : Option ℕ) (was now : List ℕ) : T
   pub others : (word : ℕ) → 1 < word → get_or now word 0 ≡ get_or was word 0
   pub as_many : length now ≡ length was
 
--- The headers of a publisher's slots name what a finding gives them, and are as many as the slots.
+-- The headers of a publisher's slots name what a finding gives them, and their number is that of the slots.
 pub record HeadsSay (f : Found) (who : ℕ) (was now : List (List ℕ)) : Type 0 where
   pub each : (slot : ℕ) (before behind : List ℕ) → slice_get was slot ≡ Some before → slice_get now slot ≡ Some behind
       → HeadSays (new_node f who) (new_publisher f who) before behind
@@ -311,8 +312,8 @@ pub record HeadsSay (f : Found) (who : ℕ) (was now : List (List ℕ)) : Type 0
 
 -- A publisher after a finding. Its history, what its record says of its connections, and the uses of its slots grow by what the finding
 -- adds. It has the slots and the loan limit that it is given; which slots are loans stays the same. It knows the buffers of its
--- connections; its headers name what they are given; its sends fail as was found; and its sequence numbers go on after the last one that
--- it is given. Nothing else of it changes.
+-- connections; its headers name what they are given; its sends fail if the finding says so; and its last sequence number is the one that it
+-- is given. Nothing else of it changes.
 pub record PublisherGrows (m : World) (f : Found) (who : ℕ) (was now : PublisherLaneState) : Type 0 where
   pub routes : RoutesKnow m f (λ place. place) was.port.routes now.port.routes
   pub history : now.port.book.history ≡ was.port.book.history ++ more_history f who
@@ -373,7 +374,7 @@ pub record IsTakenIn (m : World) (f : Found) (n : World) : Type 0 where
   pub same : n ≡ record m
       { table = record m.table { words = n.table.words }; links = n.links; publishers = n.publishers; subscribers = n.subscribers }
 
--- What lanes answer when something is found, and what they are then: they take it in exactly if it may be found.
+-- The answer of lanes that are told to find something, and the lanes afterwards: they take it in exactly if it may be found.
 abbrev pub TakesIn : World → Found → Bool → World → Type 0
 TakesIn m f true n = IsFirst m f × IsTakenIn m f n
 TakesIn m f false n = (IsFirst m f → ⊥) × (n ≡ m)

@@ -41,7 +41,7 @@ abbrev pub CallTold : World → Party → Move → World → Type 0
 CallTold m party (Begin c) n = call_of n party ≡ Some (begun (name_of c) m.moments)
 CallTold m party GoOn n = call_of n party ≡ call_of m party
 
--- One call more ended: the one that the party began last, at the present moment.
+-- One more call ended: the one that the party began last, at the present moment.
 pub record EndTold (m : World) (party : Party) (n : World) : Type 0 where
   pub call : FinishedCall
   pub more : n.finished ≡ m.finished ++ call ∷ []

@@ -23,7 +23,8 @@ aside_at table connection link call = aside (held_by table (sent_word connection
 abbrev pub given_back : TableWords → ℕ → List ℕ
 given_back table connection = between (back_ring table connection table.sizes.completion_cells)
 
--- How often a slot is at a connection: among the messages that wait, aside, borrowed, and in the completion ring.
+-- How often a slot is at a connection: among the messages that wait, the delayed puts, the borrowed samples, and the samples in the
+-- completion ring.
 abbrev pub stands_at : TableWords → ℕ → LinkState → List Placed → PublisherCall → Option SubscriberLaneState → ℕ → ℕ
 stands_at table connection link order call receiver slot =
     count slot (waiting link order) + count slot (aside_at table connection link call) + one_if (borrows connection slot receiver) +

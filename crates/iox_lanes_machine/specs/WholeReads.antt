@@ -20,7 +20,7 @@ use Rattle.iox_lanes_machine.specs.World.{World, fits, happens, StepsTo, RunsTo}
 use Rattle.iox_lanes_machine.specs.declared.found.Found.{Found}
 use Rattle.iox_lanes_machine.specs.declared.sizes.LaneSizes.{LaneSizes}
 
--- Lanes that were made, found something before their first step, and came here by steps.
+-- Lanes that were made, may have found messages and words before their first step, and reached this state by steps.
 pub record CameTo (m : World) : Type 0 where
   pub sizes : LaneSizes
   pub some : 0 < sizes.buffer
@@ -33,12 +33,12 @@ pub record CameTo (m : World) : Type 0 where
   pub made : ℕ
   pub runs : RunsTo begun schedule made m
 
--- Lanes that were made and came somewhere by steps (`CameTo`) are such lanes after a step, however it is answered.
+-- If lanes were made and came somewhere by steps (`CameTo`), this still holds after another step, however the step is answered.
 abbrev pub StepsComeOn : Type 0
 StepsComeOn = (m : World) → CameTo m → (party : Party) (step : Move) (answer : Stepped) (n : World) → StepsTo m party step answer n
     → CameTo n
 
--- Lanes that were made and came somewhere by steps (`CameTo`) are such lanes after a list of entries, however many of them were made.
+-- If lanes were made and came somewhere by steps (`CameTo`), this still holds after a list of entries, however many of them were made.
 abbrev pub RunsComeOn : Type 0
 RunsComeOn = (m : World) → CameTo m → (entries : List Entry) (made : ℕ) (n : World) → RunsTo m entries made n → CameTo n
 
@@ -50,8 +50,8 @@ UsedThrough slot m (entry ∷ entries) n =
     × (((fits m entry.party entry.step ≡ false) × UsedThrough slot m entries n)
     ⊎ ((fits m entry.party entry.step ≡ true) × UsedThrough slot (happens m entry.party entry.step) entries n))
 
--- For lanes that came somewhere by steps, and whatever steps follow: if the slot has a use before each of them, a read of it that ends
--- after them returns exactly the words that the slot had at first. It holds as long as at most 2^63 steps were made.
+-- As long as at most 2^63 steps were made, for lanes that came somewhere by steps, and whatever steps follow: if the slot has a use before
+-- each of these steps, a read of it that ends after them returns exactly the words that the slot had before them.
 abbrev pub ReadsGiveWhatStood : Type 0
 ReadsGiveWhatStood = (m : World) → CameTo m → (slot : ℕ) (entries : List Entry) (n : World) → UsedThrough slot m entries n
     → n.moments ≤ 2 ^ 63
@@ -67,9 +67,9 @@ UntouchedThrough word m (entry ∷ entries) n =
     ⊎ ((fits m entry.party entry.step ≡ true) × (MayChange (access_of m entry.party entry.step) word → ⊥)
     × UntouchedThrough word (happens m entry.party entry.step) entries n)
 
--- For lanes that came somewhere by steps, and whatever steps follow, of which none may change a word of a slot: a read of the slot that
--- ends after them returns, at the place of this word, exactly its value at first, be it a word of the header, the user header or the
--- payload. It holds as long as at most 2^63 steps were made.
+-- As long as at most 2^63 steps were made, for lanes that came somewhere by steps, and whatever steps follow of which none may change one
+-- word of a slot: a read of the slot that ends after them returns, at the place of this word, exactly the value that it had before them, be
+-- it a word of the header, the user header or the payload.
 abbrev pub ReadsGiveWhatWasStored : Type 0
 ReadsGiveWhatWasStored = (m : World) → CameTo m → (slot place : ℕ) → place < width m.table.sizes
     → (entries : List Entry) (n : World) → UntouchedThrough (Slot slot (word_at (extent_of m.table.sizes) place)) m entries n

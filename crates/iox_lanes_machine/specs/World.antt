@@ -160,7 +160,7 @@ abbrev pub sender_stage : World → Option LinkState → PublisherCall
 sender_stage m None = publishing.Idle
 sender_stage m (Some link) = publisher_stage (slice_get m.publishers link.publisher)
 
--- The push that is under way at a connection.
+-- The push that is in progress at a connection.
 abbrev pub push_at : World → ℕ → RingKind → Push
 push_at m connection kind = push_on connection kind (sender_stage m (slice_get m.links connection))
 
@@ -255,7 +255,7 @@ abbrev pub Records : World → Party → Move → Type 0
 Records m party (Begin call) = ⊥
 Records m party GoOn = (party_ends m party ≡ true) ⊎ (0 < length (acts_at m party))
 
--- What a step answers, and what it leaves; it may run out of memory only where something is recorded.
+-- The answer of a step, and what the step leaves; a step may run out of memory only if it records something.
 abbrev pub StepsTo : World → Party → Move → Stepped → World → Type 0
 StepsTo m party step stepped.Went n = (fits m party step ≡ true) × (ends m party step ≡ false) × (n ≡ happens m party step)
 StepsTo m party step stepped.Finished n = (fits m party step ≡ true) × (ends m party step ≡ true) × (n ≡ happens m party step)

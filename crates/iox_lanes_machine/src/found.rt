@@ -28,19 +28,19 @@ use std::alloc::AllocError;
 /// service.
 #[derive(Clone, Copy)]
 pub enum Found {
-    /// A message waits at a connection, behind those found there before.
+    /// A message waits at a connection, after those found there before.
     Waiting {
         publisher: usize,
         place: u64,
         slot: u64,
     },
-    /// A sample is in the completion ring of a connection, behind those found there before.
+    /// A sample is in the completion ring of a connection, after those found there before.
     GivenBack {
         publisher: usize,
         place: u64,
         slot: u64,
     },
-    /// A slot is the newest of its publisher's history, behind those found there before.
+    /// A slot is the newest of its publisher's history, after those found there before.
     Newest {
         publisher: usize,
         slot: u64,
@@ -57,14 +57,14 @@ pub enum Found {
         place: u64,
         messages: u64,
     },
-    /// A publisher of which nothing was found yet has only its first `slots` slots, and at most `most_loans` of its loans may be out.
+    /// A publisher of which nothing was found yet has only its first `slots` slots, and the loan limit `most_loans`.
     Slots {
         publisher: usize,
         slots: u64,
         most_loans: u64,
     },
     /// The headers of a publisher's messages name this node and this publisher, its sends fail at a full mailbox or don't, and its last
-    /// sequence number is `last`, after which its next message's comes; None where messages have none.
+    /// sequence number is `last`, so its next message gets the number after it; None where messages have none.
     Sender {
         publisher: usize,
         node_id: u64,
@@ -449,7 +449,7 @@ impl State {
         }
     }
 
-    // Replaces the connection with this one's number in what a subscriber knows, if there is such a subscriber.
+    // Replaces the connection that has the number of `route` in what a subscriber knows, if there is such a subscriber.
     fn subscriber_meets(&mut self, subscriber: u64, route: Route)
         ensures { world_of self.new
             ≡ record (world_of self.old) {
@@ -474,7 +474,7 @@ fn back_found(table: &WordTable, connection: u64) -> u64
     })
 }
 
-// Whether a connection takes one slot more.
+// Whether a connection takes one more slot.
 fn has_place(table: &WordTable, connection: u64, link: &Link) -> bool
     requires { connection < table.now.sizes.connections }
     ensures { result ≡ nat_lt (length link.now.found) (table.now.sizes.completion_cells - back_found table.now connection) }
@@ -483,7 +483,7 @@ fn has_place(table: &WordTable, connection: u64, link: &Link) -> bool
     (link.found().len() as u64) < table.sizes().completion_cells.saturating_sub(back)
 }
 
-// Stores a slot in a cell of a ring, and the write position after it.
+// Stores a slot in a cell of a ring, and the position after that cell in the ring's write position.
 fn lay(table: &mut WordTable, connection: u64, ring: ConnectionRing, cell: u64, slot: u64)
     requires { IsWord table.old.sizes (SharedWord.Ring connection ring (Word.Cell cell)) }
     ensures { table.new ≡ laid table.old connection ring cell slot }

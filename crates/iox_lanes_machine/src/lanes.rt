@@ -74,8 +74,8 @@ impl LaneMachine {
     ghost use Rattle.iox_lanes_machine.specs.Mailboxes.{OrderFollows, OrdersFollow, PositionsNear, positions_of};
 
     /// Lanes of these sizes, on which nothing was done yet. Each publisher has a connection to each subscriber, numbered publisher by
-    /// publisher. `AllocError` is returned only where an allocation fails; memory can't contain buffers of 2^61 messages, completion rings
-    /// for as many samples, or as many subscribers.
+    /// publisher. `AllocError` is returned only where an allocation fails, as it does for buffers of 2^61 messages, completion rings for
+    /// 2^61 samples, or 2^61 subscribers.
     pub fn new(alloc: Global, sizes: LaneSizes) -> Result<LaneMachine, AllocError>
         requires { 0 < sizes.buffer }
         ensures { IfOk result (λ made. made ≡ start sizes) }
@@ -96,25 +96,20 @@ impl LaneMachine {
         Ok(LaneMachine { state })
     }
 
-    /// Makes the lanes find this before their first step: a waiting message, a sample in a completion ring, the newest message of a
-    /// history, the value of a word of a slot, the buffer size of a connection, how many slots and loans a publisher has, what the headers
-    /// of its messages name and whether its sends fail at a full mailbox, or two places of a subscriber's connections that are swapped.
+    /// Sets what the lanes begin with, before their first step: what `found` names (see `Found`).
     ///
-    /// Returns whether the finding was taken in; otherwise nothing changes. It is taken in only before the first step, and only if
-    /// - the connection of a message or sample exists and doesn't have the slot yet, which is one of its publisher's; no more messages wait
-    ///   than may; and messages and samples together are no more than the completion ring has cells;
-    /// - the newest slot of a history is the publisher's and not yet in the history, which has fewer slots than it may;
-    /// - the slot of a word has this word;
-    /// - a buffer has capacity for at least one message and for no more than may wait there, where nothing waits and no sample is in the
-    ///   completion ring;
-    /// - a publisher has at least as many slots, and no message, sample or history of it was found;
-    /// - the publisher of a sender exists;
-    /// - the subscriber of swapped places has connections at both.
+    /// Returns false, and changes nothing, after the first step, and also unless
+    /// - for a waiting message or a sample in a completion ring: its connection exists and doesn't have the slot yet, which is one of the
+    ///   publisher's; a message has space in the buffer; and both together are no more than the cells of the completion ring;
+    /// - for the newest slot of a history: it is one of the publisher's, is not yet in the history, and the history isn't full;
+    /// - for a word of a slot: the slot has this word;
+    /// - for a buffer size: it is at least 1 and at most the present one, and nothing waits or came back at the connection;
+    /// - for the number of slots and the loan limit: the publisher has at least as many, and no message, sample or history was set;
+    /// - for what a sender's headers name: the publisher exists;
+    /// - for two swapped places: the subscriber has connections at both.
     ///
-    /// A message, sample or slot of a history comes behind those found there before. From then on, both ends of a connection know its
-    /// buffer size; a publisher has only its first slots and at most this many loans out, its headers name this node and publisher, and its
-    /// sends fail or not as was found; and a subscriber receives in the order of its connections' places. `AllocError` is returned, and
-    /// nothing changes, only where an allocation fails for a message that would be taken in.
+    /// A message, sample or slot of a history comes after those set before. `AllocError` is returned, and nothing changes, only if an
+    /// allocation fails for a message that would be taken.
     pub fn find(&mut self, found: Found) -> Result<bool, AllocError>
         ensures finds { IfOk result (λ answer. FindsTo self.old found answer self.new) }
         ensures takes { IfOk result (λ answer. TakesIn self.old found answer self.new) }
@@ -130,17 +125,17 @@ impl LaneMachine {
 
     /// Begins a call of a party, or makes the next step of the call that it is in. Returns whether the step was made, and whether it was
     /// the last one of its call. Nothing changes if the move doesn't fit, or if there is no memory for the call that ends or for what the
-    /// step adds to an order. A call may begin between calls, if it is of the party's kind, and the loan or sample that it names is the
-    /// party's own and out; a send needs a finished write of its loan. A party goes on only inside a call.
+    /// step adds to an order. A call may begin between calls, if it is of the party's kind, and the loan or sample that it names exists and
+    /// is the party's own; a send needs a finished write of its loan. A party goes on only inside a call.
     ///
-    /// No step changes the connections, the sizes of the words, how many publishers and subscribers there are, or, for any publisher, the
-    /// number of its first slot, how many slots it has, how many loans may be out, and its history size.
+    /// No step changes the connections, the sizes of the words, the numbers of publishers and subscribers, or, for any publisher, the
+    /// number of its first slot, its number of slots, its loan limit, and its history size.
     ///
-    /// As long as at most 2^63 steps were made: a loan is in no history and at no connection; no step changes a word of a slot that is; a
-    /// write and a send leave in their slot what they were given; and a read returns exactly what its slot contains. A loan is refused
-    /// exactly where as many loans are out as may be, and finds no slot only where each is used; with fewer loans out, and as many slots as
-    /// the worst case needs, it gets one. A release puts its sample behind those in the completion ring of its connection, and a loan or a
-    /// send takes samples back from the first on.
+    /// As long as at most 2^63 steps were made: a loan is in no history and at no connection; no step changes a word of a slot that is in a
+    /// history or at a connection; a write and a send leave in their slot what they were given; and a read returns exactly what its slot
+    /// contains. A loan is refused exactly if the publisher has as many loans as its loan limit allows, and finds no slot only if each slot
+    /// is used; below the loan limit, and with as many slots as the worst case needs, it gets a slot. A release appends its sample to those
+    /// in the completion ring of its connection, and a loan or a send takes samples back from the first on.
     pub fn step(&mut self, party: Party, step: &Move) -> Stepped
         ensures steps { StepsTo self.old party step.now result self.new }
         ensures apart { StaysApart self.old party step.now result self.new }
@@ -188,7 +183,7 @@ impl LaneMachine {
         made
     }
 
-    // What holds for all lanes.
+    // What is true of all lanes.
     fn follow(&self)
         ensures orders { OrdersFollow self.now }
         ensures receipts { ReceiptsFollow self.now }
@@ -220,9 +215,10 @@ impl LaneMachine {
         self.state.order(connection)
     }
 
-    /// The four positions of a connection. As long as at most 2^63 steps were made, no more messages are between the two positions of the
-    /// submission ring than may wait, and at most one more on an overflowing ring; and no more samples are between those of the completion
-    /// ring than it has cells, which is one more than may wait and be borrowed together.
+    /// The four positions of a connection. As long as at most 2^63 steps were made, at most as many messages as may wait are between the
+    /// two positions of the submission ring, or one more on an overflowing ring; and at most as many samples as the completion ring has
+    /// cells are between its two positions. The completion ring has one cell more than the maximum of waiting and borrowed messages
+    /// together.
     pub fn position(&self, connection: u64) -> Positions
         requires { connection < length self.now.links }
         ensures value { result ≡ positions_of self.now.table connection }
@@ -234,9 +230,9 @@ impl LaneMachine {
 
     /// The calls that ended, in their order. As long as at most 2^63 steps were made: each has an answer of its own kind, and those of one
     /// party don't overlap. The receives returned exactly the slots that were taken at each connection, in that order, except the one that
-    /// a receive under way has. Each send has one put of its slot at each connection of its publisher, within the time of the send and one
-    /// connection after the other, and counts how many were taken and how many refused. At each connection these puts are in the order of
-    /// the sends; a put after them is of the send that the publisher is in. Each release returned its sample.
+    /// a receive in progress has. Each send has one put of its slot at each connection of its publisher, within the time of the send and
+    /// one connection after the other, and its answer counts how many were taken and how many were refused. At each connection these puts
+    /// are in the order of the sends; a put after them is of the send that the publisher is in. Each release returned its sample.
     pub fn finished(&self) -> &[FinishedCall]
         ensures value { result.now ≡ self.now.finished }
         ensures receipts { ReceiptsFollow self.now }

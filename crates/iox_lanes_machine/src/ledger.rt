@@ -1,7 +1,6 @@
 //! A theorem that a publisher counts what its slots are used for.
 //!
-//! The theorem is the contract of a function that does nothing; it is proved of the definitions that the contracts of a publisher's lane
-//! cite.
+//! The theorem is the contract of a function that does nothing; it speaks of the definitions that the contracts of a publisher's lane cite.
 //!
 //! A proof uses the theorem by calling its function; then the theorem is among the facts that the caller knows:
 //!

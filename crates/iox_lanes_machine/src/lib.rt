@@ -12,7 +12,7 @@
 //! - [`laws`]: theorems on many steps.
 //! - [`waiting`]: what waits at a connection.
 //! - [`parts`]: the lanes taken apart.
-//! - [`resting`]: whether a party is inside a call, or something is out.
+//! - [`resting`]: whether a party is inside a call, or a loan or a sample exists.
 //!
 //! First calls:
 //!

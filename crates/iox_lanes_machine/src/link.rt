@@ -5,8 +5,8 @@ use iox_queues_steps::rings::RingKind;
 use std::alloc::AllocError;
 use std::marker::Model;
 
-/// A connection: the numbers of its publisher and its subscriber, whether its submission ring overflows or refuses, how many messages may
-/// wait, and what waited before the first step.
+/// A connection: the numbers of its publisher and its subscriber, whether its submission ring overflows or refuses, the maximum number of
+/// waiting messages, and what waited before the first step.
 #[derive(Drop)]
 pub struct Link {
     pub(crate) publisher: u64,
@@ -45,21 +45,21 @@ impl Link {
         self.subscriber
     }
 
-    /// What its submission ring does with one message more when it is full.
+    /// What its submission ring does with another message when it is full.
     pub fn kind(&self) -> RingKind
         ensures { result ≡ self.now.kind }
     {
         self.kind
     }
 
-    /// How many messages may wait.
+    /// The maximum number of waiting messages.
     pub fn limit(&self) -> u64
         ensures { result ≡ self.now.limit }
     {
         self.limit
     }
 
-    // Sets how many messages may wait.
+    // Sets the maximum number of waiting messages.
     pub(crate) fn resize(&mut self, messages: u64)
         ensures { self.new ≡ record self.old { limit = messages } }
     {
@@ -89,7 +89,7 @@ impl Link {
 pub struct Positions {
     /// How many messages were put.
     pub submission_write: u64,
-    /// How many messages were taken out, by either end.
+    /// The number of messages that were taken out, by either end.
     pub submission_read: u64,
     /// How many samples were released into the completion ring.
     pub completion_write: u64,

@@ -32,7 +32,7 @@ impl Order {
         }
     }
 
-    /// Adds these behind the others, both or none. It fails only where an allocation fails.
+    /// Appends these, both or none. It fails only where an allocation fails.
     pub(crate) fn add(
         &mut self,
         moment: u64,

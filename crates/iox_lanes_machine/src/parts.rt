@@ -21,8 +21,8 @@ impl LaneMachine {
         &self.state.table
     }
 
-    /// The publishers, by number. As long as at most 2^63 steps were made, each has only slots of its own in its history, and no more of
-    /// them than it may.
+    /// The publishers, by number. As long as at most 2^63 steps were made, each has only slots of its own in its history, and at most as
+    /// many as its history size.
     pub fn publishers(&self) -> &[PublisherLane]
         ensures value { result.now ≡ self.now.publishers }
         ensures histories { HistoriesAreOwn self.now }
@@ -39,9 +39,9 @@ impl LaneMachine {
 
     /// Theorem on all lanes: ports, connections and words are those of one service, the slots of each publisher come before those of later
     /// publishers, and each cell of a ring names a slot. As long as at most 2^63 steps were made, no read position is beyond its write
-    /// position; what waits at a connection and what a history has are slots of the publisher; no more wait at a connection between calls
-    /// than may; words, ports and slots agree with each other (`HoldTogether`); and no connection has more slots than its completion ring
-    /// has cells.
+    /// position; what waits at a connection and what a history has are slots of the publisher; between calls, no more messages wait at a
+    /// connection than its maximum; words, ports and slots agree with each other (`HoldTogether`); and no connection has more slots than
+    /// its completion ring has cells.
     pub fn are_of_one_service(&self)
         ensures within { IsWithin self.now }
         ensures rows { SlotsInRows self.now }

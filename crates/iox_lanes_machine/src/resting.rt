@@ -1,4 +1,4 @@
-//! Lanes of which no party is inside a call, and no loan or sample is out.
+//! Lanes of which no party is inside a call, and no loan or sample exists.
 ghost use Rattle.std.specs.Prelude.{◌≡◌, ◌<◌, ◌≤◌, ◌+◌, ℕ, true, false, IsTrue, ◌↔◌, length, IfSome, IfNone};
 ghost use Rattle.std.specs.List.{All};
 ghost use Rattle.iox_lanes_machine.specs.LanesBase.Publishing.{publisher_is_idle};
@@ -17,7 +17,7 @@ use iox_lanes_parties::{Call, Move, PublisherLane, SubscriberLane};
 pub enum Unrest {
     /// A publisher or a subscriber is inside a call.
     PartyInCall,
-    /// No party is inside a call, but a loan or a sample is out.
+    /// No party is inside a call, but a loan or a sample exists.
     SamplesOut,
 }
 
@@ -35,7 +35,7 @@ fn are_subscribers_between(lanes: &[SubscriberLane]) -> bool
     lanes.iter().all(|lane| !lane.fits(&Move::GoOn))
 }
 
-// Whether the publisher has a loan out, among the first `slots` slots.
+// Whether the publisher has a loan, among the first `slots` slots.
 fn has_loan(lane: &PublisherLane, slots: u64) -> bool
     requires { publisher_is_idle lane.now.port.call ≡ true }
     ensures none { result ≡ false → (slot : ℕ) → slot < slots → is_out (loan_of slot lane.now.port.book) ≡ false }
@@ -49,7 +49,7 @@ fn has_loan(lane: &PublisherLane, slots: u64) -> bool
     false
 }
 
-// Whether the subscriber has a sample out, among the first `slots` slots.
+// Whether the subscriber has a sample, among the first `slots` slots.
 fn has_sample(lane: &SubscriberLane, slots: u64) -> bool
     requires { subscriber_is_idle lane.now.port.call ≡ true }
     ensures none { result ≡ false → (slot : ℕ) → slot < slots → is_borrowed (place_of slot lane.now) ≡ false }
@@ -63,7 +63,7 @@ fn has_sample(lane: &SubscriberLane, slots: u64) -> bool
     false
 }
 
-// Whether one of the publishers has a loan out.
+// Whether one of the publishers has a loan.
 fn have_loans(lanes: &[PublisherLane], slots: u64) -> bool
     requires between { All (λ lane. publisher_is_idle lane.port.call ≡ true) lanes.now }
     requires slots { All (λ lane. lane.port.book.first + length lane.port.book.loans ≤ slots) lanes.now }
@@ -78,7 +78,7 @@ fn have_loans(lanes: &[PublisherLane], slots: u64) -> bool
     false
 }
 
-// Whether one of the subscribers has a sample out.
+// Whether one of the subscribers has a sample.
 fn have_samples(lanes: &[SubscriberLane], slots: u64) -> bool
     requires between { All (λ lane. subscriber_is_idle lane.port.call ≡ true) lanes.now }
     requires slots { All (λ lane. length lane.port.samples ≤ slots) lanes.now }
@@ -94,8 +94,8 @@ fn have_samples(lanes: &[SubscriberLane], slots: u64) -> bool
 }
 
 impl LaneMachine {
-    /// Why these lanes can't be handed on: a party is inside a call (`PartyInCall`), or no party is and a loan or a sample is out
-    /// (`SamplesOut`). None if all parties are between calls and nothing is out.
+    /// Why these lanes can't be handed on: a party is inside a call (`PartyInCall`); or no party is inside a call, and a loan or a sample
+    /// exists (`SamplesOut`). None if all parties are between calls and no loan or sample exists.
     pub fn unrest(&self) -> Option<Unrest>
         ensures some { IfSome result (λ unrest. IsUnrest unrest self.now) }
         ensures none { IfNone result (AllBetween self.now × NoneOut self.now) }

@@ -16,19 +16,20 @@ pub struct LaneSizes {
     pub publishers: u64,
     /// How many subscribers there are.
     pub subscribers: u64,
-    /// What a connection does with one message more when as many wait as may.
+    /// What a connection does with another message when its maximum of messages waits.
     pub kind: RingKind,
-    /// How many messages may wait at a connection. A connection may have a smaller buffer, if lanes find it before the first step.
+    /// The maximum number of messages that wait at a connection. A connection may have a smaller buffer, if lanes find it before the first
+    /// step.
     pub buffer: u64,
-    /// How many samples of a connection a subscriber may borrow.
+    /// The maximum number of samples that a subscriber borrows from one connection.
     pub most_borrowed: u64,
-    /// How many of its last messages a publisher keeps.
+    /// The history size of a publisher: how many of its last messages it keeps.
     pub history: u64,
-    /// How many loans a publisher may have out. A publisher may have another number, if lanes find it before the first step.
+    /// The loan limit of a publisher. A publisher may have another one, if lanes find it before the first step.
     pub most_loans: u64,
-    /// How many slots a publisher has. A publisher may have fewer, if lanes find it before the first step.
+    /// The number of slots of a publisher. A publisher may have fewer, if lanes find it before the first step.
     pub slots: u64,
-    /// How many words lie between the three words of the header and the payload: those of a user header, and before them the sequence
+    /// The number of words between the three words of the header and the payload: those of a user header, and before them the sequence
     /// number, where messages have one.
     pub user_header_words: u64,
     /// How many words a payload has.

@@ -315,7 +315,7 @@ impl State {
         }
     }
 
-    // The push that is under way at a connection.
+    // The push that is in progress at a connection.
     fn push_at(&self, connection: u64, kind: RingKind) -> Push
         ensures { result ≡ push_at (world_of self.now) connection kind }
     {
@@ -444,7 +444,7 @@ impl State {
         }
     }
 
-    // One step more inside a call.
+    // Makes one more step inside a call.
     fn step_on(&mut self, party: Party) -> Stepped
         requires within { IsWithin (world_of self.old) }
         requires fits { fits (world_of self.old) party Move.GoOn ≡ true }
@@ -457,7 +457,7 @@ impl State {
         }
     }
 
-    // The last step of a call.
+    // Makes the last step of a call.
     #[tactic(auto, using(crate::proofs::Within::placed_within))]
     fn step_last(&mut self, party: Party) -> Stepped
         requires within { IsWithin (world_of self.old) }
@@ -475,7 +475,7 @@ impl State {
         Stepped::Finished
     }
 
-    // A step inside a call that isn't its last one.
+    // Makes a step inside a call that isn't its last one.
     #[tactic(auto, using(crate::proofs::Within::placed_within, crate::proofs::Within::no_words))]
     fn step_between(&mut self, party: Party) -> Stepped
         requires within { IsWithin (world_of self.old) }
@@ -491,7 +491,7 @@ impl State {
     }
 }
 
-// The next access of a publisher. Returns the answer of the call if that ends it.
+// Makes the next access of a publisher. Returns the answer of the call if that ends it.
 fn go_on_publisher(table: &mut WordTable, lane: &mut PublisherLane) -> Option<Answer>
     requires { IsOfTable table.old.sizes (publisher_next lane.old.port.call) }
     ensures table { table.new ≡ after_shared table.old (publisher_next lane.old.port.call) }
@@ -503,7 +503,7 @@ fn go_on_publisher(table: &mut WordTable, lane: &mut PublisherLane) -> Option<An
     lane.go_on(given)
 }
 
-// The next access of a subscriber. Returns the answer of the call if that ends it.
+// Makes the next access of a subscriber. Returns the answer of the call if that ends it.
 fn go_on_subscriber(table: &mut WordTable, lane: &mut SubscriberLane, from: usize) -> Option<Answer>
     requires { IsOfTable table.old.sizes (subscriber_next lane.old.port.call) }
     ensures table { table.new ≡ after_shared table.old (subscriber_next lane.old.port.call) }
@@ -543,6 +543,6 @@ fn add_reserved(list: &mut Vec<u64>, words: &[u64])
     requires { vec_len list.old + length words.now ≤ vec_capacity list.old }
     ensures { list.new.items ≡ list.old.items ++ words.now }
 {
-    // There is room, so that no memory is asked for.
+    // The memory is reserved already, so nothing is allocated here.
     let _ = list.extend_from_slice(words);
 }

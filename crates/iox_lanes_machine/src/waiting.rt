@@ -26,7 +26,7 @@ impl State {
         ensures { (link : LinkState) → slice_get self.now.links.items connection ≡ Some link
             → result ≡ held_by self.now.table (sent_word connection (Cell (position % cells_of link.kind link.limit))) }
     {
-        // A ring has no more cells than there are words for.
+        // A ring has at most as many cells as the table has words for it.
         let _most = self.table.sizes().submission_cells;
         let Some(link) = self.links.get(connection as usize) else {
             return 0;
@@ -39,7 +39,7 @@ impl State {
         })
     }
 
-    // How many messages are between the two positions of a connection, but at most as many as may wait.
+    // The number of messages between the two positions of a connection, but at most the maximum number of waiting messages.
     fn message_count(&self, connection: u64) -> u64
         requires { connection < self.now.table.sizes.connections }
         ensures few { (link : LinkState) → slice_get self.now.links.items connection ≡ Some link → result ≤ link.limit }
@@ -61,10 +61,10 @@ impl State {
 }
 
 impl LaneMachine {
-    /// How many messages wait at a connection: as many as are between the positions of its submission ring, but at most as many as may wait
-    /// there.
+    /// The number of messages that wait at a connection: as many as are between the positions of its submission ring, but at most its
+    /// maximum.
     ///
-    /// If its publisher and its subscriber are between calls, and at most 2^63 steps were made, it is the number of messages that wait
+    /// If its publisher and its subscriber are between calls, and at most 2^63 steps were made, this is the number of messages that wait
     /// there by the connection's order. As long as at most 2^63 steps were made, what waits there by its order are slots of its publisher.
     pub fn waiting(&self, connection: u64) -> u64
         requires { connection < length self.now.links }
@@ -77,7 +77,7 @@ impl LaneMachine {
 
     /// The slot of the message that waits at this place of a connection; the oldest is at 0.
     ///
-    /// If its publisher and its subscriber are between calls, and at most 2^63 steps were made, it is the message that waits there by the
+    /// If its publisher and its subscriber are between calls, and at most 2^63 steps were made, this is the message that waits there by the
     /// connection's order.
     pub fn waiting_slot(&self, connection: u64, at: u64) -> u64
         requires { connection < length self.now.links }

@@ -52,7 +52,7 @@ none_below test (suc limit) k none below = elim (eqb_tells k limit) [
   | inr apart ↦ none_below test limit k (left_false (any_below test limit) (test limit) none) (omega (arith, below, apart.1))
 ]
 
--- and of none of more, where it isn't of any behind these
+-- and of none of more, where it isn't of any after these
 pub none_beyond : (test : ℕ → Bool) (count reached : ℕ) → ((k : ℕ) → reached ≤ k → test k ≡ false) → any_below test reached ≡ false
     → any_below test count ≡ false
 none_beyond test zero reached behind none = refl

@@ -7,7 +7,7 @@ pub or_true : (b : Bool) → (b || true) ≡ true
 or_true true = refl
 or_true false = refl
 
--- what is so of some of what is left is so of some of all: the first item decides, or those behind it
+-- what is so of some of what is left is so of some of all: the first item decides, or those after it
 pub any_here : {X : Type 0} (test : X → Bool) (all rest after : List X) (x : X) → list_any test rest ≡ list_any test all
     → rest ≡ x ∷ after → test x ≡ true → list_any test all ≡ true
 any_here test all rest after x same left is = sym same ∙ ap (list_any test) left ∙ ap (λ b. b || list_any test after) is
@@ -20,7 +20,7 @@ pub any_over : {X : Type 0} (test : X → Bool) (all rest : List X) → list_any
     → list_any test all ≡ false
 any_over test all rest same left = sym same ∙ ap (list_any test) left
 
--- it is so of none of the first so many places
+-- it is so of none of the first n places
 abbrev pub NoneBelow : {X : Type 0} → (X → Bool) → X → List X → ℕ → Type 0
 NoneBelow test blank list count = (k : ℕ) → k < count → test (get_or list k blank) ≡ false
 
@@ -47,7 +47,7 @@ none_more test blank list count none last k below = at (nat_lt k count) refl
         let same : k ≡ count = grind (arith, less, below) in
         ap (λ n. test (get_or list n blank)) same ∙ last
 
--- what is so of none that is reached is so of none, where nothing stands behind
+-- what is so of none that is reached is so of none, where nothing stands after
 pub none_reached : {X : Type 0} (test : X → Bool) (blank : X) (list : List X) (count : ℕ) → test blank ≡ false
     → ((k : ℕ) → count ≤ k → get_or list k blank ≡ blank) → NoneBelow test blank list count → list_any test list ≡ false
 none_reached test blank list count not behind none
@@ -62,7 +62,7 @@ abbrev pub is_so : {X : Type 0} → (X → Bool) → Option X → Bool
 is_so test None = false
 is_so test (Some x) = test x
 
--- it is so of none of the first so many items
+-- it is so of none of the first n items
 abbrev pub NoneGot : {X : Type 0} → (X → Bool) → List X → ℕ → Type 0
 NoneGot test list count = (k : ℕ) → k < count → is_so test (slice_get list k) ≡ false
 

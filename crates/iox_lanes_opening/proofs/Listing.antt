@@ -14,7 +14,7 @@ each_behind : {V : Type 0} (holds : ℕ → V → Bool) (first count : ℕ) (pla
 each_behind holds first count [] = each_empty holds first count
 each_behind holds first count (place ∷ rest) = ap (λ rest. holds_at holds first place && rest) (each_behind holds (first + 1) count rest)
 
--- of a list that may end behind the last that is listed the same holds
+-- of a list that may end after the last that is listed the same holds
 each_padded : {V : Type 0} (holds : ℕ → V → Bool) (count : ℕ) (listed places : List (Option (Member V))) → padded count listed ≡ places
     → of_each_listed holds 0 places ≡ of_each_listed holds 0 listed
 each_padded holds count listed places whole = ap (of_each_listed holds 0) (sym whole) ∙ each_behind holds 0 (count - length listed) listed
@@ -25,7 +25,7 @@ get_any a b [] k below = absurd (omega (arith, below))
 get_any a b (x ∷ rest) zero below = refl
 get_any a b (x ∷ rest) (suc k) below = get_any a b rest k (omega (arith, below))
 
--- it holds of the first so many places
+-- it holds of the first n places
 abbrev pub HoldBelow : {V : Type 0} → (ℕ → V → Bool) → List (Option (Member V)) → ℕ → Type 0
 HoldBelow holds places count = (k : ℕ) → k < count → holds_at holds k (get_or places k None) ≡ true
 

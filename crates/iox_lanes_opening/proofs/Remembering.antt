@@ -22,7 +22,7 @@ quiet_yet old new only quiet = record {
   room = omega (arith, quiet.room, ap (λ s. s.room) only);
 }
 
--- so many slots of the history have come back
+-- n slots of the history have come back
 pub record Remembering {T U : Type 0} (value_of : List ℕ → T) (header_of : List ℕ → Option ℕ × U) (table : TableWords) (history : List ℕ)
     (first : ℕ) (start now : SenderState T U) (count : ℕ) : Type 0 where
   pub rest : OnlyRemembers start now

@@ -65,7 +65,7 @@ own_sent value_of header_of payload_words header_words table first slot own plac
 abbrev pub message_of : {T U : Type 0} → (List ℕ → T) → (List ℕ → Option ℕ × U) → TableWords → ℕ → ℕ → Message T U
 message_of value_of header_of table first slot = message_in value_of header_of table first (slot - first)
 
--- so many of the messages that wait in the lanes wait in the domain
+-- n of the messages that wait in the lanes wait in the domain
 pub record Returning {T U : Type 0} (value_of : List ℕ → T) (header_of : List ℕ → Option ℕ × U) (lanes : World) (connection first index : ℕ)
     (start now : SenderState T U) (count : ℕ) : Type 0 where
   pub rest : OnlyWaits index start now

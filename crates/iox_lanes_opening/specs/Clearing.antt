@@ -2,7 +2,7 @@
 use Rattle.std.specs.Prelude.{ℕ, ◌≡◌, [], length}
 use Rattle.iox_domain_ports.specs.DomainSlots.Uses.{Uses, connection_at, emptied}
 
--- Nothing of any connection is borrowed.
+-- No message of any connection is borrowed.
 abbrev pub NoneBorrowed : {L X : Type 0} → Uses L X → Type 0
 NoneBorrowed uses = (index : ℕ) → (connection_at index uses).borrowed ≡ []
 

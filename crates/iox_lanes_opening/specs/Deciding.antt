@@ -1,4 +1,4 @@
--- Which ports have handlers of the caller, and which would wait or fail at a full mailbox.
+-- Which ports have handlers of the caller, and which publishers would block or fail at a full mailbox.
 use Rattle.std.specs.Prelude.{ℕ, ◌&&◌, ◌||◌, Bool, true, false, is_none, not, List, Option, None, Some}
 use Rattle.std.specs.List.{list_any}
 use Rattle.iox_domain.specs.DomainValues.Actions.{decision_of}
@@ -23,17 +23,17 @@ asks_object (Some handler) = is_none (fixed_action_of handler)
 abbrev pub is_object : {X : Type 0} {F : X → Type 0} → DegradationHandler X F → Bool
 is_object handler = is_none (degradation.fixed_action_of handler)
 
--- Whether a publisher with these handlers has one that is an object.
+-- Whether one of these handlers of a publisher is an object.
 abbrev pub has_object : {X Y : Type 0} {F : X → Type 0} {G : Y → Type 0} → Option (Handlers X Y F G) → Bool
 has_object None = false
 has_object (Some handlers) = asks_object handlers.backpressure || is_object handlers.degradation
 
--- Whether a subscriber with this handler has one that is an object.
+-- Whether this handler of a subscriber is an object.
 abbrev pub is_kept_object : {X : Type 0} {F : X → Type 0} → Option (DegradationHandler X F) → Bool
 is_kept_object None = false
 is_kept_object (Some handler) = is_object handler
 
--- Some port has a handler that is an object of the caller.
+-- Whether some port has a handler that is an object of the caller.
 abbrev pub has_handlers : {T U X Y Z : Type 0} {F : X → Type 0} {G : Y → Type 0} {H : Z → Type 0}
     → Domain T U (Handlers X Y F G) (DegradationHandler Z H) → Bool
 has_handlers domain = list_any (λ entry. has_object (kept_under entry.0 domain.state.publisher_handlers)) domain.state.ports.publishers
@@ -50,8 +50,8 @@ is_retry decided.Retry = true
 is_retry decided.DiscardData = false
 is_retry decided.DiscardDataAndFail = false
 
--- Whether a send with these handlers blocks at a full mailbox: the fixed action says so, or the strategy, where there is no fixed action or
--- it follows the strategy. Without handlers a send blocks.
+-- Whether a send with these handlers blocks at a full mailbox: the fixed action says so; or the strategy says so, if there is no fixed
+-- action or the fixed action follows the strategy. Without handlers a send blocks.
 abbrev pub would_wait : {X Y : Type 0} {F : X → Type 0} {G : Y → Type 0} → Option (Handlers X Y F G) → Bool
 would_wait None = true
 would_wait (Some handlers) = is_retry (decision_of handlers.strategy (fixed_answer handlers.backpressure))
@@ -71,7 +71,7 @@ would_fail (Some handlers) = is_failure (decision_of handlers.strategy (fixed_an
 abbrev pub retries : {T U X Y : Type 0} {F : X → Type 0} {G : Y → Type 0} → List (ℕ × Handlers X Y F G) → ℕ × PublisherPort T U → Bool
 retries handlers entry = entry.1.stands && would_wait (kept_under entry.0 handlers)
 
--- Mailboxes don't overflow, and a send of some publisher would block at a full one.
+-- Whether mailboxes don't overflow, and a send of some publisher would block at a full mailbox.
 abbrev pub is_retrying : {T U X Y D : Type 0} {F : X → Type 0} {G : Y → Type 0} → Domain T U (Handlers X Y F G) D → Bool
 is_retrying domain = not domain.state.ports.sizes.enable_safe_overflow
     && list_any (retries domain.state.publisher_handlers) domain.state.ports.publishers

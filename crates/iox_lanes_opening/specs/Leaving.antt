@@ -1,4 +1,4 @@
--- The messages that lie in the words of slots.
+-- The messages whose words lie in slots.
 use Rattle.std.specs.Prelude.{ℕ, ◌+◌, List, [], ◌∷◌, take, drop, Option}
 use Rattle.iox_domain_ports.specs.Messages.{Message}
 use Rattle.iox_lanes_machine.specs.LanesBase.Numbers.{number_of}
@@ -6,7 +6,7 @@ use Rattle.iox_lanes_machine.specs.LanesBase.Table.{TableWords, held_by}
 use Rattle.iox_lanes_machine.specs.LanesBase.declared.words.word.SharedWord.TheVariants.{Slot}
 use Rattle.iox_lanes_machine.specs.LanesBase.declared.words.word.SlotWord.TheVariants.{Header, UserHeader, Payload}
 
--- The number of elements that the header of a slot says.
+-- The number of elements in the header of a slot.
 abbrev pub elements_in : TableWords → ℕ → ℕ
 elements_in table slot = held_by table (Slot slot (Header 2))
 

@@ -1,4 +1,4 @@
--- Loans and samples that are out, and closed ports that aren't gone.
+-- Loans and samples that exist, and closed ports that still exist.
 use Rattle.std.specs.Prelude.{ℕ, ◌||◌, Bool, true, false, not, nat_lt, List, length, get_or, Option, None, Some}
 use Rattle.std.specs.List.{list_any}
 use Rattle.iox_domain.specs.DomainSlots.Uses.{Connection}
@@ -24,7 +24,7 @@ has_ended stage.Ended = true
 abbrev pub connection_lingers : {X : Type 0} → Connection X → Bool
 connection_lingers connection = has_ended connection.stage || nat_lt 0 (length connection.borrowed)
 
--- Whether a loan of a publisher is out, or one of its connections ended or has a borrowed message.
+-- Whether a publisher has a loan, or one of its connections ended or has a borrowed message.
 abbrev pub has_out : {T U : Type 0} → PublisherPort T U → Bool
 has_out port = nat_lt 0 (length port.sender.uses.loans) || list_any connection_lingers port.sender.uses.connections
 
@@ -32,7 +32,7 @@ has_out port = nat_lt 0 (length port.sender.uses.loans) || list_any connection_l
 abbrev pub is_listed_publisher : {T U : Type 0} → RollState PublisherEntry → ℕ → PublisherPort T U → Bool
 is_listed_publisher list number port = is_member (λ entry. entry.publisher) number (get_or list.places port.place None)
 
--- Whether a publisher is closed or isn't listed at its place, or something of it is out.
+-- Whether a publisher is closed or isn't listed at its place, has a loan, or has a connection that ended or has a borrowed message.
 abbrev pub publisher_lingers : {T U : Type 0} → RollState PublisherEntry → ℕ × PublisherPort T U → Bool
 publisher_lingers list entry = not entry.1.stands || (not (is_listed_publisher list entry.0 entry.1) || has_out entry.1)
 
@@ -50,12 +50,14 @@ has_left_over publishers port = nat_lt 0 port.held
 abbrev pub is_listed_subscriber : RollState SubscriberEntry → ℕ → SubscriberPort → Bool
 is_listed_subscriber list number port = is_member (λ entry. entry.subscriber) number (get_or list.places port.place None)
 
--- Whether a subscriber is closed or isn't listed at its place, or something is left over of it.
+-- Whether a subscriber is closed or isn't listed at its place, holds a sample, or has a connection that expired or comes from a closed
+-- publisher.
 abbrev pub subscriber_lingers : {T U : Type 0} → RollState SubscriberEntry → List (ℕ × PublisherPort T U) → ℕ × SubscriberPort → Bool
 subscriber_lingers list publishers entry = not entry.1.stands
     || (not (is_listed_subscriber list entry.0 entry.1) || has_left_over publishers entry.1)
 
--- A loan or a sample is out, a connection of a closed publisher still exists, expired or at its place, or a closed port isn't gone.
+-- Whether a loan or a sample exists, a connection of a closed publisher still exists, expired or at its place, or a closed port still
+-- exists.
 abbrev pub is_lingering : {T U : Type 0} → ServicePorts T U → Bool
 is_lingering ports = list_any (publisher_lingers ports.publisher_list) ports.publishers
     || list_any (subscriber_lingers ports.subscriber_list ports.publishers) ports.subscribers

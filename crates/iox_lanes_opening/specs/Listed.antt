@@ -1,4 +1,4 @@
--- What holds for each port of a list.
+-- What is true of each port of a list.
 use Rattle.std.specs.Prelude.{ℕ, ◌+◌, ◌==◌, ◌&&◌, Bool, true, false, List, [], ◌∷◌, Option, None, Some}
 use Rattle.iox_domain.specs.Container.declared.container.Member.{Member}
 

@@ -17,7 +17,7 @@ use Rattle.iox_lanes_opening.specs.Soundness.{is_unsound}
 use Rattle.iox_lanes_opening.specs.declared.refusals.into_lanes_error.IntoLanesError.{IntoLanesError}
 use Rattle.iox_lanes_opening.specs.declared.refusals.into_lanes_error.IntoLanesError.TheVariants as reason
 
--- A send of some publisher is blocked at a full mailbox.
+-- Whether a send of some publisher is blocked at a full mailbox.
 abbrev pub is_blocked : {T U : Type 0} → ServicePorts T U → Bool
 is_blocked ports = list_any (λ entry. publishing.is_blocked entry.1) ports.publishers
 
@@ -27,11 +27,11 @@ may_grow strategy.BestFit = true
 may_grow strategy.PowerOfTwo = true
 may_grow strategy.Static = false
 
--- The capacity of some publisher may grow.
+-- Whether the capacity of some publisher may grow.
 abbrev pub has_growing : {T U : Type 0} → ServicePorts T U → Bool
 has_growing ports = list_any (λ entry. may_grow entry.1.allocation) ports.publishers
 
--- The first of the reasons that applies, or none.
+-- The first reason that applies, or none.
 abbrev pub first_reason : {T U X Y Z : Type 0} {F : X → Type 0} {G : Y → Type 0} {H : Z → Type 0}
     → Domain T U (Handlers X Y F G) (DegradationHandler Z H) → Option IntoLanesError
 first_reason domain =

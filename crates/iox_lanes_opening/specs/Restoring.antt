@@ -28,13 +28,13 @@ pub record AreLeft {T U : Type 0} (value_of : List ℕ → T) (header_of : List 
   pub connections : All (λ connection. All (IsLeft value_of header_of table first) connection.waiting
       × All (IsLeft value_of header_of table first) connection.borrowed) uses.connections
 
--- A publisher has no send under way and no loan out, and has capacity for a value in each slot.
+-- A publisher has no send in progress and no loan, and has capacity for a value in each slot.
 pub record IsQuiet {T U : Type 0} (sender : SenderState T U) : Type 0 where
   pub idle : sender.uses.sending ≡ None
   pub unlent : sender.uses.loans ≡ []
   pub room : 1 ≤ sender.room
 
--- The slot of the lanes is one of the current segment of a publisher whose slots begin at `first` there.
+-- The slot of the lanes is in the current segment of a publisher whose slots begin at `first` in the lanes.
 pub record IsOwn {L X : Type 0} (first slot slots : ℕ) (uses : Uses L X) : Type 0 where
   pub from : first ≤ slot
   pub there : slot < slots
@@ -55,21 +55,21 @@ OnlyRemembers old new = new ≡ with_uses (record old.uses { history = new.uses.
 abbrev pub messages_in : {T U : Type 0} → (List ℕ → T) → (List ℕ → Option ℕ × U) → TableWords → ℕ → List ℕ → List (Message T U)
 messages_in value_of header_of table first slots = map (λ slot. message_in value_of header_of table first (slot - first)) slots
 
--- What waits at a connection of the lanes may wait at the publisher's connection with this index: the ports of the lanes' connection are
--- between calls, and at most 2^63 steps were made; the messages are in slots of the publisher's current segment; the publisher's connection
--- is live; and its mailbox has capacity for all of them.
+-- All messages that wait at a connection of the lanes may wait at the publisher's connection with this index: the ports of the lanes'
+-- connection are between calls, and at most 2^63 steps were made; the messages are in slots of the publisher's current segment; the
+-- publisher's connection is live; and its mailbox has capacity for all of them.
 pub record MayWaitAll {T U : Type 0} (lanes : World) (connection first index : ℕ) (sender : SenderState T U) : Type 0 where
   pub rests : Rests lanes connection
   pub own : (at slot : ℕ) → slice_get (mail_at lanes connection) at ≡ Some slot → IsOwn first slot lanes.table.sizes.slots sender.uses
   pub live : (connection_at index sender.uses).stage ≡ stage.Live
   pub room : length (mail_at lanes connection) ≤ (connection_at index sender.uses).limit
 
--- The slots are in the publisher's current segment, and are no more than its history may have.
+-- The slots are in the publisher's current segment, and there are no more of them than its history size.
 pub record MayRememberAll {T U : Type 0} (table : TableWords) (history : List ℕ) (first : ℕ) (sender : SenderState T U) : Type 0 where
   pub own : (at slot : ℕ) → slice_get history at ≡ Some slot → IsOwn first slot table.sizes.slots sender.uses
   pub room : length history ≤ sender.uses.kept
 
--- A publisher may send a single value again in this slot: no send is under way, no loan is out, the slot is one of the current segment, and
+-- A publisher may send a single value again in this slot: no send is in progress, there is no loan, the slot is in the current segment, and
 -- it has capacity for a value.
 pub record MayStand {T U : Type 0} (slot : ℕ) (sender : SenderState T U) : Type 0 where
   pub idle : sender.uses.sending ≡ None
@@ -89,7 +89,7 @@ pub record MayBeSent {T U : Type 0} (value_of : List ℕ → T) (header_of : Lis
   pub stands : MayStand slot sender
   pub left : AreLeft value_of header_of table first sender.uses
 
--- A publisher may get the messages that lanes leave, one by one, with `places` places for a value: nothing of it is under way or on loan,
+-- A publisher may get the messages that lanes leave, one by one, with `places` places for a value: it has no send in progress and no loan,
 -- and all messages that it has are those that lie in the lanes.
 pub record MayCome {T U : Type 0} (value_of : List ℕ → T) (header_of : List ℕ
     → Option ℕ × U) (payload_words header_words : ℕ) (table : TableWords) (first places : ℕ) (sender : SenderState T U) : Type 0 where

@@ -1,4 +1,4 @@
--- Publishers or messages that don't have single values.
+-- Publishers and messages that don't have single values.
 use Rattle.std.specs.Prelude.{◌==◌, ◌||◌, Bool, false, not, length, Option, None, Some}
 use Rattle.std.specs.List.{list_any}
 use Rattle.iox_domain.specs.DomainPorts.Messages.{Message}
@@ -28,6 +28,6 @@ keeps_slice port = list_any is_slice port.sender.uses.history || list_any slice_
 abbrev pub deals_in_slices : {T U : Type 0} → PublisherPort T U → Bool
 deals_in_slices port = not (port.unit == 1) || (not (port.sender.room == 1) || keeps_slice port)
 
--- Some publisher has slices. Where none has, messages of a service of slices are single values, too.
+-- Whether some publisher has slices. If no publisher has slices, the messages of a service of slices are single values, too.
 abbrev pub has_slices : {T U B D : Type 0} → Domain T U B D → Bool
 has_slices domain = list_any (λ entry. deals_in_slices entry.1) domain.state.ports.publishers

@@ -63,8 +63,8 @@ has_twice messages = any_below (stands_again messages) (length messages)
 abbrev pub remembers_ill : {T U : Type 0} → ServiceSizes → PublisherPort T U → Bool
 remembers_ill sizes port = nat_lt sizes.history_size (length port.sender.uses.history) || has_twice port.sender.uses.history
 
--- Whether a connection exists, and is made for no message or for more than agreed, or more wait there than may, or two of them are in one
--- slot.
+-- Whether a connection exists, and its maximum number of waiting messages is 0 or more than agreed, or more messages wait there than this
+-- maximum, or two of them are in one slot.
 abbrev pub waits_ill : {T U : Type 0} → ServiceSizes → Connection (Message T U) → Bool
 waits_ill sizes connection = is_there connection
     && ((connection.limit == 0) || (nat_lt sizes.subscriber_max_buffer_size connection.limit
@@ -74,7 +74,8 @@ waits_ill sizes connection = is_there connection
 abbrev pub is_misnumbered : {T U : Type 0} → ServiceSizes → PublisherPort T U → Bool
 is_misnumbered sizes port = not (beq (is_some port.last_sequence) sizes.sequence_numbers)
 
--- Whether a publisher has slots of several segments, doesn't have what the service agreed on, or its messages break it.
+-- Whether a publisher has slots of several segments, doesn't have what the service agreed on, or has messages that don't keep to the
+-- agreement.
 abbrev pub is_misfit : {T U : Type 0} → ServiceSizes → PublisherPort T U → Bool
 is_misfit sizes port = is_misnumbered sizes port || (nat_lt 0 port.sender.uses.first || (not (port.sender.uses.kept == sizes.history_size)
     || (remembers_ill sizes port || list_any (waits_ill sizes) port.sender.uses.connections)))
@@ -93,8 +94,9 @@ comes_again port key = any_below (λ other. share_publisher (attached_at other p
 abbrev pub attaches_twice : SubscriberPort → Bool
 attaches_twice port = any_below (comes_again port) (length port.connections.values)
 
--- A port is listed at another place than its own, a publisher doesn't have what the service agreed on or its messages break it, or two
--- connections of a subscriber come from one publisher. No calls leave such a state, where no capacity grows and a message may wait.
+-- Whether a port is listed at another place than its own, a publisher doesn't have what the service agreed on or has messages that don't
+-- keep to the agreement, or two connections of a subscriber come from one publisher. No calls leave such a state if no capacity grows and
+-- at least one message may wait.
 abbrev pub is_unsound : {T U : Type 0} → ServicePorts T U → Bool
 is_unsound ports = not (are_placed ports) || (list_any (λ entry. is_misfit ports.sizes entry.1) ports.publishers
     || list_any (λ entry. attaches_twice entry.1) ports.subscribers)

@@ -85,8 +85,8 @@ is_current_reader ports (Some port) = (port.seen == ports.publisher_list.changes
 abbrev pub is_current_subscriber : {T U : Type 0} → ServicePorts T U → SubscriberEntry → Bool
 is_current_subscriber ports entry = is_current_reader ports (subscriber_of entry.subscriber ports.subscribers)
 
--- Each listed port has followed the current list of the other side. Each listed publisher shares a connection with each listed subscriber,
--- and has none for a place where nobody is listed.
+-- Whether each listed port has followed the current list of the other side, and each listed publisher shares a connection with each listed
+-- subscriber, and has none for a place where nobody is listed.
 abbrev pub is_up_to_date : {T U : Type 0} → ServicePorts T U → Bool
 is_up_to_date ports = of_each_listed (is_current_publisher ports) 0 ports.publisher_list.places
     && of_each_listed (λ place entry. is_current_subscriber ports entry) 0 ports.subscriber_list.places

@@ -1,9 +1,9 @@
-//! Puts what lanes leave in the slots of a publisher back into a publisher of a domain: each message into its slot.
+//! Puts the messages that lanes leave in the slots of a publisher back into a publisher of a domain, each message into its slot.
 //!
 //! - [`words`]: reads a message from the words of a slot.
 //! - [`clearing`]: a publisher of a domain forgets its messages.
-//! - [`restoring`]: it gets the messages that the lanes leave at a connection, and those of a history.
-//! - [`restored`]: it gets all of them.
+//! - [`restoring`]: the publisher gets the messages that the lanes leave at a connection, and those of a history.
+//! - [`restored`]: the publisher gets all of them.
 //!
 //! First calls, for a publisher that forgets its messages. `into_domain` of `iox_lanes` calls `restore`.
 //!

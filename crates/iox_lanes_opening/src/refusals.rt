@@ -2,9 +2,9 @@
 //!
 //! - [`into_lanes_error`]: the reasons.
 //! - [`up_to_date`]: whether each port has followed the current list of the other side, and is connected to its ports.
-//! - [`deciding`]: which ports have handlers of the caller, and which would wait or fail at a full mailbox.
-//! - [`lingering`]: loans and samples that are out, and closed ports that aren't gone.
-//! - [`slices`]: publishers or messages that don't have single values.
+//! - [`deciding`]: which ports have handlers of the caller, and which publishers would block or fail at a full mailbox.
+//! - [`lingering`]: loans and samples that exist, and closed ports that still exist.
+//! - [`slices`]: publishers and messages that don't have single values.
 //! - [`soundness`]: states of the ports that no calls leave.
 //! - [`sequences`]: which sequence numbers are too large.
 //! - [`each_asked`]: a question asked of each publisher.

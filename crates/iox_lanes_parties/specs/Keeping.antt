@@ -12,8 +12,8 @@ use Rattle.iox_lanes_base.specs.declared.calls.subscriber.SubscriberChange.{Subs
 use Rattle.iox_lanes_base.specs.declared.calls.subscriber.SubscriberChange.TheVariants.{Nothing, Borrow, Note, GiveBack}
 pub use Rattle.iox_lanes_parties.specs.PublisherKeeping.{put_at, counted_up, counted_down}
 
--- A subscriber. `routes` are its connections, `borrowed` says how many samples of each it borrows, `samples` has for each slot the place of
--- the connection that it is borrowed from, and `words` is what it read last.
+-- A subscriber. `routes` are its connections; `borrowed` has the number of samples that it borrows from each of them; `samples` has for
+-- each slot the place of the connection that it is borrowed from; and `words` is what it read last.
 pub record SubscriberState : Type 0 where
   pub routes : List Route
   pub extent : SlotExtent
@@ -35,7 +35,7 @@ new_subscriber routes slots extent words most = record {
   call = Idle;
 }
 
--- The subscriber after its connection with this one's number was replaced by this one.
+-- The subscriber after its connection with the number of this route was replaced by this route.
 abbrev pub met_anew : Route → SubscriberState → SubscriberState
 met_anew route state = record state { routes = rerouted route state.routes }
 

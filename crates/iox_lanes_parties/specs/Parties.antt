@@ -52,11 +52,11 @@ lane_found place slot lane = record lane { port = publishers.found_at place slot
 abbrev pub lane_remembers : ℕ → PublisherLaneState → PublisherLaneState
 lane_remembers slot lane = record lane { port = publishers.found_last slot lane.port }
 
--- The publisher after its connection with this one's number was replaced by this one.
+-- The publisher after its connection with the number of this route was replaced by this route.
 abbrev pub lane_meets : Route → PublisherLaneState → PublisherLaneState
 lane_meets route lane = record lane { port = publishers.met_anew route lane.port }
 
--- The publisher with only its first slots, and this many loans that may be out.
+-- The publisher with only its first `slots` slots, and with this loan limit.
 abbrev pub lane_resized : ℕ → ℕ → PublisherLaneState → PublisherLaneState
 lane_resized slots most_loans lane = record lane { port = publishers.with_slots slots most_loans lane.port; heads = take slots lane.heads }
 
@@ -74,7 +74,7 @@ lane_named node_id publisher_id fails last lane =
 abbrev pub receiver_swapped : ℕ → ℕ → SubscriberLaneState → SubscriberLaneState
 receiver_swapped one other lane = record lane { port = subscribers.swapped one other lane.port }
 
--- The subscriber after its connection with this one's number was replaced by this one.
+-- The subscriber after its connection with the number of this route was replaced by this route.
 abbrev pub receiver_meets : Route → SubscriberLaneState → SubscriberLaneState
 receiver_meets route lane = record lane { port = subscribers.met_anew route lane.port }
 
@@ -105,8 +105,8 @@ abbrev pub is_borrowed : Option ℕ → Bool
 is_borrowed None = false
 is_borrowed (Some place) = true
 
--- Whether a publisher may begin this call: it is one of a publisher's; a loan that it names is out, and for a send it is written; and the
--- words of a write are as many as the slot's.
+-- Whether a publisher may begin this call: the call is one of a publisher's; a slot that it names is a loan, and for a send a written one;
+-- and the numbers of words of a write are those of a slot.
 abbrev pub publisher_may : PublisherLaneState → Call → Bool
 publisher_may lane call.LoanUninit = true
 publisher_may lane (call.Write loan payload user_header) =
@@ -206,7 +206,7 @@ abbrev pub is_route : Option Route → Bool
 is_route None = false
 is_route (Some route) = true
 
--- Whether a subscriber may begin this call: it is one of a subscriber's, and a sample that it names is borrowed from one of its
+-- Whether a subscriber may begin this call: the call is one of a subscriber's, and a sample that it names is borrowed from one of its
 -- connections.
 abbrev pub subscriber_may : SubscriberLaneState → Call → Bool
 subscriber_may lane call.LoanUninit = false

@@ -10,9 +10,9 @@ use Rattle.iox_lanes_parties.specs.declared.publisher.slot_book.LoanMark.TheVari
 use Rattle.iox_lanes_parties.specs.declared.publisher.slot_book.LoanAnswer.{LoanAnswer}
 use Rattle.iox_lanes_parties.specs.declared.publisher.slot_book.LoanAnswer.TheVariants as answer
 
--- The slots of a publisher, which begin at `first`. `out` loans are out, of at most `most_loans`; `loans` says which slots are loans;
+-- The slots of a publisher, which begin at `first`. `out` slots are loans, of at most `most_loans`; `loans` says which slots are loans;
 -- `history` are the last messages, of at most `kept`, the oldest first; `referred` says for each connection and slot whether the connection
--- has the slot; `uses` is how many uses each slot has.
+-- has the slot; `uses` is the number of uses of each slot.
 pub record BookState : Type 0 where
   pub first : ℕ
   pub most_loans : ℕ
@@ -24,7 +24,7 @@ pub record BookState : Type 0 where
   pub uses : List ℕ
   pub answer : Option LoanAnswer
 
--- No slot is used.
+-- The record of a publisher that uses none of its slots.
 abbrev pub new_book : ℕ → ℕ → ℕ → ℕ → ℕ → BookState
 new_book first slots connections most_loans kept = record {
   first = first;
@@ -52,8 +52,8 @@ abbrev pub stands_in : ℕ → List ℕ → Bool
 stands_in slot [] = false
 stands_in slot (x ∷ xs) = if x == slot then true else stands_in slot xs
 
--- Whether lanes may find that this slot is the newest of the history: it is one of the publisher's and not yet in the history, which has
--- fewer slots than it may.
+-- Whether lanes may find that this slot is the newest of the history: the slot is one of the publisher's and not yet in the history, and
+-- the history has fewer slots than its maximum.
 abbrev pub may_remember : ℕ → BookState → Bool
 may_remember slot book = is_own slot book && not (stands_in slot book.history) && nat_lt (length book.history) book.kept
 
@@ -62,11 +62,11 @@ abbrev pub are_unused : List ℕ → Bool
 are_unused [] = true
 are_unused (count ∷ counts) = if count == 0 then are_unused counts else false
 
--- Whether the publisher may be cut to its first `slots` slots: it has at least as many, and none of its slots is used.
+-- Whether the publisher may be reduced to its first `slots` slots: it has at least this many, and none of its slots is used.
 abbrev pub may_resize : ℕ → BookState → Bool
 may_resize slots book = nat_le slots (length book.uses) && are_unused book.uses
 
--- The publisher has only its first slots, a row of `slots` marks for each of its connections, and this many loans that may be out.
+-- The publisher has only its first `slots` slots, a row of `slots` marks for each of its connections, and this loan limit.
 abbrev pub resized : ℕ → ℕ → ℕ → BookState → BookState
 resized connections slots most_loans book = record book {
   most_loans = most_loans;
@@ -110,7 +110,7 @@ lent_from book (Some index) = record book {
   answer = Some (answer.Slot (number_in book.first index));
 }
 
--- A free slot is loaned, if fewer loans are out than may be; otherwise the answer is `ExceedsMaxLoans`.
+-- A free slot is loaned, if the publisher is below its loan limit; otherwise the answer is `ExceedsMaxLoans`.
 abbrev pub lent : BookState → BookState
 lent book = if nat_lt book.out book.most_loans then lent_from book (first_free book.uses 0) else record book
     { answer = Some answer.ExceedsMaxLoans }
@@ -127,7 +127,7 @@ unlent slot book = record book { loans = put_at book.loans (slot - book.first) m
 abbrev pub found_newest : ℕ → BookState → BookState
 found_newest slot book = record book { history = book.history ++ slot ∷ []; uses = counted_up book.uses (slot - book.first) }
 
--- The slot has one use fewer.
+-- The slot has one use less.
 abbrev pub unused : ℕ → BookState → BookState
 unused slot book = record book { uses = counted_down book.uses (slot - book.first) }
 

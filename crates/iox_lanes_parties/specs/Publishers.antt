@@ -7,8 +7,8 @@ use Rattle.iox_lanes_base.specs.declared.calls.publisher.PublisherCall.{Publishe
 use Rattle.iox_lanes_base.specs.declared.calls.publisher.PublisherCall.TheVariants.{Idle, Dropping}
 use Rattle.iox_lanes_parties.specs.PublisherKeeping.{BookState, changed, referred_at, found_newest, resized}
 
--- A publisher. `routes` are its connections, and `book` says what its slots are used for; a write stores `payload`, and a send stores
--- `head`, as `sends` says.
+-- A publisher. `routes` are its connections, and `book` says what its slots are used for. A write stores `payload`, and a send stores
+-- `head`; `sends` says whether the current call is a send.
 pub record PublisherState : Type 0 where
   pub routes : List Route
   pub book : BookState
@@ -30,11 +30,11 @@ found_at place slot state = record state { book = referred_at place slot state.b
 abbrev pub found_last : ℕ → PublisherState → PublisherState
 found_last slot state = record state { book = found_newest slot state.book }
 
--- The publisher after its connection with this one's number was replaced by this one.
+-- The publisher after its connection with the number of this route was replaced by this route.
 abbrev pub met_anew : Route → PublisherState → PublisherState
 met_anew route state = record state { routes = rerouted route state.routes }
 
--- The publisher with only its first slots, and this many loans that may be out.
+-- The publisher with only its first `slots` slots, and with this loan limit.
 abbrev pub with_slots : ℕ → ℕ → PublisherState → PublisherState
 with_slots slots most_loans state = record state { book = resized (length state.routes) slots most_loans state.book }
 

@@ -1,11 +1,11 @@
--- What a send answers of its delivery.
+-- The answer of a send, from its delivery.
 use Rattle.std.specs.Prelude.{◌&&◌, Bool, if◌then◌else◌, nat_lt}
 use Rattle.iox_lanes_parties.specs.LanesBase.declared.calls.publisher.Delivery.{Delivery}
 use Rattle.iox_lanes_parties.specs.declared.call.SendAnswer.{SendAnswer}
 use Rattle.iox_lanes_parties.specs.declared.call.SendAnswer.TheVariants.{Delivered, UnableToDeliver}
 
--- The answer of a send: `UnableToDeliver` if the publisher fails at a full mailbox and a connection refused the message, and `Delivered`
--- otherwise.
+-- The answer of a send: `UnableToDeliver` if the publisher's sends fail at a full mailbox and a connection refused the message, and
+-- `Delivered` otherwise.
 abbrev pub send_answer : Bool → Delivery → SendAnswer
 send_answer fails delivery = if fails && nat_lt 0 delivery.refused then UnableToDeliver delivery else Delivered delivery
 

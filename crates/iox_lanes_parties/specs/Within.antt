@@ -1,4 +1,4 @@
--- Ports that keep to their own service: each call names only connections, slots and words of the service.
+-- Ports that stay within their own service: each call names only connections, slots and words of the service.
 use Rattle.std.specs.Prelude.{ℕ, ◌≡◌, ◌+◌, ◌<◌, ◌≤◌, true, List, length, slice_get, Some}
 use Rattle.std.specs.List.{All}
 use Rattle.iox_lanes_parties.specs.LanesBase.Table.{IsOfTable}

@@ -87,7 +87,7 @@ pub enum CallName {
 pub enum SendAnswer {
     /// The message was delivered.
     Delivered(Delivery),
-    /// The publisher fails at a full mailbox, and a connection refused the message. The other connections took it all the same.
+    /// The publisher's sends fail at a full mailbox, and a connection refused the message. The other connections took it all the same.
     UnableToDeliver(Delivery),
 }
 

@@ -1,4 +1,4 @@
-//! Theorems that ports keep to their own service, proved of the definitions that the contracts of ports cite.
+//! Theorems that ports stay within their own service. They speak of the definitions that the contracts of ports cite.
 ghost use Rattle.iox_lanes_parties.specs.Within.{PublishersStayWithin, SubscribersStayWithin};
 
 /// A publisher's call names only connections and slots of its own: this holds after a call that fits begins, and after each step. The next

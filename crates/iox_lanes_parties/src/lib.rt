@@ -3,7 +3,7 @@
 //! - [`call`]: what ports may be asked to do, and their answers.
 //! - [`head`]: the header and user header of a slot.
 //! - [`publisher`], [`subscriber`]: a port, and what it keeps for itself.
-//! - [`laws`]: theorems that ports keep to their own service.
+//! - [`laws`]: theorems that ports stay within their own service.
 //! - `places`: changes at places of lists, which do nothing beyond the end.
 //! - `sequences`: the sequence numbers of messages.
 //! - [`values`]: a program's own values as the words of a call.

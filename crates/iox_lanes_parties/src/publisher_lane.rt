@@ -79,7 +79,7 @@ impl PublisherLane {
         }
     }
 
-    /// Whether it may make this move now.
+    /// Whether the publisher may make this move now.
     pub fn fits(&self, step: &Move) -> bool
         ensures { result ≡ publisher_fits self.now step.now }
     {
@@ -248,8 +248,8 @@ impl PublisherLane {
         self.port.stored()
     }
 
-    /// The sequence number of the last message that it sent, or the number before the first one. None where messages have no sequence
-    /// numbers.
+    /// The sequence number of the last message that the publisher sent; before its first send, the number before that of its first message.
+    /// None where messages have no sequence numbers.
     pub fn last_sequence(&self) -> Option<u64>
         ensures { result ≡ self.now.last }
     {
@@ -271,7 +271,7 @@ impl PublisherLane {
         self.port.find_newest(slot);
     }
 
-    /// Keeps only the first `slots` slots, and sets how many loans may be out.
+    /// Keeps only the first `slots` slots, and sets the loan limit.
     pub fn resize(&mut self, slots: u64, most_loans: u64)
         ensures { self.new ≡ lane_resized slots most_loans self.old }
     {
@@ -279,8 +279,8 @@ impl PublisherLane {
         self.heads.truncate(slots as usize);
     }
 
-    /// Sets the node and the publisher that the headers name, whether sends fail at a full mailbox, and the last sequence number, after
-    /// which the next message's comes; None where messages have none.
+    /// Sets the node and the publisher that the headers name, whether sends fail at a full mailbox, and the last sequence number, so the
+    /// next message gets the number after it; None where messages have none.
     pub fn name(&mut self, node_id: u64, publisher_id: u64, fails: bool, last: Option<u64>)
         ensures { self.new ≡ lane_named node_id publisher_id fails last self.old }
     {
@@ -291,7 +291,7 @@ impl PublisherLane {
         }
     }
 
-    /// Replaces the connection with this one's number by this one.
+    /// Replaces the connection that has the number of `route` by `route`.
     pub fn meet(&mut self, route: Route)
         ensures { self.new ≡ lane_meets route self.old }
     {
@@ -306,14 +306,14 @@ impl PublisherLane {
         *self.port.call()
     }
 
-    /// The call that it began last.
+    /// The call that the publisher began last.
     pub fn call(&self) -> CallName
         ensures { result ≡ self.now.call }
     {
         self.call
     }
 
-    /// The moment of that call's first step.
+    /// The moment of the first step of the call that the publisher began last.
     pub fn first(&self) -> u64
         ensures { result ≡ self.now.first }
     {

@@ -50,7 +50,7 @@ impl SubscriberLane {
         }
     }
 
-    /// Whether it may make this move now.
+    /// Whether the subscriber may make this move now.
     pub fn fits(&self, step: &Move) -> bool
         ensures { result ≡ subscriber_fits self.now step.now }
     {
@@ -89,7 +89,7 @@ impl SubscriberLane {
         }
     }
 
-    /// Replaces the connection with this one's number by this one.
+    /// Replaces the connection that has the number of `route` by `route`.
     pub fn meet(&mut self, route: Route)
         ensures { self.new ≡ receiver_meets route self.old }
     {
@@ -196,14 +196,14 @@ impl SubscriberLane {
         *self.port.call()
     }
 
-    /// The call that it began last.
+    /// The call that the subscriber began last.
     pub fn call(&self) -> CallName
         ensures { result ≡ self.now.call }
     {
         self.call
     }
 
-    /// The moment of that call's first step.
+    /// The moment of the first step of the call that the subscriber began last.
     pub fn first(&self) -> u64
         ensures { result ≡ self.now.first }
     {

@@ -31,8 +31,8 @@ impl Call {
         })
     }
 
-    /// Makes this call the write of this value and this user header into a loan, and returns true, if it is a write of as many words;
-    /// otherwise it stays as it is, and false is returned. Nothing is allocated.
+    /// Makes this call the write of this value and this user header into a loan, and returns true, if it is a write with the same numbers
+    /// of words. Otherwise it leaves the call as it is, and returns false. Nothing is allocated.
     pub fn write_anew<T: Words, U: Words>(&mut self, loan: u64, value: &T, user_header: &U) -> bool
         ensures answers { result ≡ is_as_wide T.WORDS U.WORDS self.old }
         ensures same { result ≡ false → self.new ≡ self.old }
@@ -79,7 +79,7 @@ fn add_words<T: Words>(list: &mut Vec<u64>, value: &T) -> Result<(), AllocError>
     Ok(())
 }
 
-// Replaces words by those of a value, which are as many.
+// Replaces words by those of a value, which has the same number of words.
 fn put_words<T: Words>(list: &mut Vec<u64>, value: &T)
     requires { length list.old.items ≡ T.WORDS }
     ensures { list.new.items ≡ T.parts value.now }
@@ -89,8 +89,8 @@ fn put_words<T: Words>(list: &mut Vec<u64>, value: &T)
     }
 }
 
-/// The user header and the value whose words follow the three of a header, as in a read or a message. None if there are more or fewer
-/// words.
+/// The user header and the value whose words follow the three of a header, as in a read or a message. None if the number of words is
+/// another.
 pub fn values_in<T: Words, U: Words>(words: &[u64]) -> Option<(U, T)>
     ensures some { IfSome result (AreValues T.of_parts U.of_parts T.WORDS U.WORDS words.now) }
     ensures none { result ≡ None → length words.now ≡ 3 + U.WORDS + T.WORDS → ⊥ }

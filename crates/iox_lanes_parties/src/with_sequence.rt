@@ -14,7 +14,7 @@ ghost use Rattle.iox_lanes_parties.specs.FewWords.{no-words-few, one-more, one-w
 
 use iox_queues_base::Words;
 
-/// A value of so few words that one more fits in front of them: its words and one more are fewer than 2^64.
+/// A value to whose words one more can be added in front: its words and that one are fewer than 2^64.
 pub trait FewWords: Words {
     ghost few: { 1 + Self.WORDS < 2 ^ 64 };
 }

@@ -1,15 +1,15 @@
-//! Answers of helpers, which a test holds.
+//! Checks of results.
 use std::alloc::{AllocError, Global};
 use std::fmt::Display;
 use std::process::Abort;
 
-/// It must be true.
+/// Aborts unless the answer is true.
 pub(crate) fn hold(rt: &impl Abort, answer: Result<bool, AllocError>) -> Result<(), AllocError> {
     assert!(rt; answer?);
     Ok(())
 }
 
-/// What goes wherever memory is found for it: else that was refused.
+/// True for true. False becomes an allocation failure, as it can only mean that memory ran out.
 pub(crate) fn in_memory(goes: bool) -> Result<bool, AllocError> {
     if goes { Ok(true) } else { Err(AllocError) }
 }

@@ -1,8 +1,8 @@
-//! Calls of lanes, which rows name.
+//! The calls of lanes that the cases name.
 use iox_lanes::Call;
 use std::alloc::{AllocError, Global};
 
-/// What is asked for.
+/// Which call it is.
 #[derive(Clone, Copy)]
 pub(crate) enum Asked {
     Lend,
@@ -14,7 +14,7 @@ pub(crate) enum Asked {
     Release,
 }
 
-/// A call that asks for this at a slot, and writes this value if it writes.
+/// This call, for a slot, with the value that a write has.
 pub(crate) fn call(alloc: Global, asked: Asked, slot: u64, value: u64) -> Result<Call, AllocError> {
     match asked {
         Asked::Lend => Ok(Call::LoanUninit),

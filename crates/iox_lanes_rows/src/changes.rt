@@ -1,16 +1,16 @@
-//! What a domain becomes: lanes, their ports in threads, and a domain again.
+//! A domain becomes lanes, these become ports in threads, and both become a domain again.
 use crate::domain::Numbers;
-use iox_lanes::threads::{DomainThreads, end, end_together, open_threads};
+use iox_lanes::threads::{Abandoned, DomainThreads, abandon, end, has_all, open_threads};
 use iox_lanes::{DomainLanes, EndError, IntoDomainError, IntoLanesError, OpenError, into_lanes};
 use std::alloc::{AllocError, Global};
 
 /// The lanes of a domain of numbers.
 pub(crate) type NumberLanes = DomainLanes<u128, ()>;
 
-/// Their ports in threads.
+/// The ports of these lanes in threads.
 pub(crate) type NumberThreads = DomainThreads<u128, ()>;
 
-/// What becomes something else, or stays as it is for a reason.
+/// A value that becomes another one, or is returned with the reason why it doesn't.
 pub(crate) trait Becomes<B, E>: Drop {
     fn turned(self, alloc: Global) -> Result<B, (E, Self)>;
 }
@@ -39,9 +39,16 @@ impl Becomes<NumberThreads, OpenError> for NumberLanes {
     }
 }
 
+// Calls in threads lose what `end` requires of ports, so all ports are counted first, and the board is abandoned with them.
 impl Becomes<Numbers, EndError> for NumberThreads {
     fn turned(self, _alloc: Global) -> Result<Numbers, (EndError, NumberThreads)> {
-        end(self.board, self.publishers, self.subscribers)
+        if !has_all(&self.board, &self.publishers, &self.subscribers) {
+            return Err((EndError::NotAllPorts, self));
+        }
+        match abandon(self.board, self.publishers, self.subscribers) {
+            Ok(left) => Ok(left.domain),
+            Err(threads) => Err((EndError::NotAllPorts, threads)),
+        }
     }
 }
 
@@ -62,7 +69,7 @@ fn is_wanted<E: Copy + PartialEq>(
     Ok(wanted == Some(reason))
 }
 
-/// Whether it becomes something else, or doesn't for the reason that is named.
+/// Whether the value becomes another one, or doesn't for the reason that is named.
 pub(crate) fn turn<A: Becomes<B, E>, B: Drop, E: Copy + PartialEq>(
     alloc: Global,
     from: &mut Option<A>,
@@ -85,18 +92,18 @@ pub(crate) fn turn<A: Becomes<B, E>, B: Drop, E: Copy + PartialEq>(
     }
 }
 
-// What comes of lanes that go on in threads which end together at once.
+// What comes of lanes that go on in threads which end at once.
 fn together(
     alloc: Global,
     lanes: NumberLanes,
 ) -> Result<Result<Numbers, (EndError, NumberThreads)>, (OpenError, NumberLanes)> {
     match open_threads(alloc, 1, lanes) {
-        Ok(threads) => Ok(end_together(threads.board, threads.publishers, threads.subscribers)),
+        Ok(threads) => Ok(end(threads.board, threads.publishers, threads.subscribers)),
         Err(refused) => Err(refused),
     }
 }
 
-// Whether something came of it, which is put in its place; where threads didn't open, memory was refused.
+// Whether something came of it, which is put in its place; where threads didn't open, an allocation failed.
 fn came<A: Drop, B: Drop, C: Drop>(
     place: &mut Option<A>,
     came: Result<Result<A, B>, C>,
@@ -111,7 +118,7 @@ fn came<A: Drop, B: Drop, C: Drop>(
     }
 }
 
-/// Whether lanes go on in threads, which end together at once and leave a domain.
+/// Whether lanes are opened for threads, and these are ended at once and leave a domain.
 pub(crate) fn passes(
     alloc: Global,
     lanes: &mut Option<NumberLanes>,
@@ -120,5 +127,35 @@ pub(crate) fn passes(
     match lanes.take() {
         Some(lanes) => came(domain, together(alloc, lanes)),
         None => Ok(false),
+    }
+}
+
+// Whether a domain is left, which is put in its place, and the publisher of this number alone is missing.
+fn left(
+    place: &mut Option<Numbers>,
+    left: Result<Abandoned<u128, ()>, NumberThreads>,
+    missing: u64,
+) -> bool {
+    let Ok(left) = left else {
+        return false;
+    };
+    let alone = left.publishers.as_slice() == [missing].as_slice() && left.subscribers.is_empty();
+    put(place, left.domain);
+    alone
+}
+
+/// Whether threads are abandoned and leave a domain, where the publisher of this number alone is missing.
+pub(crate) fn leaves(
+    threads: &mut Option<NumberThreads>,
+    domain: &mut Option<Numbers>,
+    missing: u64,
+) -> bool {
+    match threads.take() {
+        Some(threads) => left(
+            domain,
+            abandon(threads.board, threads.publishers, threads.subscribers),
+            missing,
+        ),
+        None => false,
     }
 }

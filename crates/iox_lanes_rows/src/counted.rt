@@ -1,4 +1,4 @@
-//! A schedule that lanes run at once: how many of its entries are made.
+//! A schedule that lanes run by one call: how many of its entries are made.
 use crate::answers::hold;
 use crate::calls::{Asked, call};
 use crate::stepping::new_lanes;
@@ -35,7 +35,7 @@ const CALLS: [(Party, Asked, u64); 8] = [
     (SUBSCRIBER, Asked::Release, 0),
 ];
 
-// A call and twelve steps behind its begin, which is one more than the longest has. Those behind its last step don't fit.
+// A call and twelve steps after its begin, which is one more than the longest has. Those after its last step don't fit.
 fn ask(schedule: &mut Vec<Entry>, party: Party, call: Call) -> Result<(), AllocError> {
     let step = Move::Begin(call);
     schedule.push(Entry { party, step })?;
@@ -55,7 +55,7 @@ fn ask_all(alloc: Global, schedule: &mut Vec<Entry>) -> Result<(), AllocError> {
     Ok(())
 }
 
-// A loan has 4 steps, a write 3, a send 12 where there is room, and 10 where there is none, a receive 6 and a release 6.
+// A loan has 4 steps, a write 3, a send 12 where there is capacity, and 10 where there is none, a receive 6 and a release 6.
 const MADE: usize = 4 + 3 + 12 + 4 + 3 + 10 + 6 + 6;
 
 fn run(lanes: &mut LaneMachine, schedule: &[Entry]) -> usize {
@@ -66,7 +66,7 @@ fn run_recorded(lanes: &mut Lanes, schedule: &[Entry]) -> usize {
     lanes.run(schedule)
 }
 
-// Whether lanes make so many entries of it, and so do lanes that keep messages.
+// Whether lanes make this many entries of it, and so do lanes that keep messages.
 fn both_make(alloc: Global, schedule: &[Entry]) -> Result<bool, AllocError> {
     let alone = run(&mut LaneMachine::new(alloc, SIZES)?, schedule);
     let recorded = run_recorded(&mut new_lanes(alloc, SIZES)?, schedule);

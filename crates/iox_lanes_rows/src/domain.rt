@@ -1,4 +1,5 @@
-//! A domain of numbers, and the calls of its ports. Ports go by their numbers: from 1 on, in the order in which they come.
+//! A domain of numbers, and the calls of its ports. Ports are identified by their numbers, which count from 1 in the order in which the
+//! ports are created.
 ghost use Rattle.std.specs.Prelude.{⊤};
 
 use crate::answers::in_memory;
@@ -18,7 +19,7 @@ use std::alloc::{AllocError, Global};
 /// A domain of numbers of two words, with no user header.
 pub(crate) type Numbers = Domain<u128, ()>;
 
-/// What it lends to the calls of its ports.
+/// The state that the domain hands to the calls of its ports.
 pub(crate) type State = DomainState<u128, ()>;
 
 type Ports = ServicePorts<u128, ()>;
@@ -31,17 +32,17 @@ pub(crate) fn in_both_words(number: u64) -> u128 {
     u128::from(number).saturating_mul(ABOVE + 1)
 }
 
-/// What is agreed.
+/// The settings of a service.
 #[derive(Clone, Copy)]
 pub(crate) struct Service {
     pub(crate) variant: TypeVariant,
     pub(crate) overflow: bool,
     pub(crate) buffer: u64,
     pub(crate) history: u64,
-    /// How many samples a subscriber may hold.
+    /// The maximum number of samples that a subscriber may hold.
     pub(crate) borrowed: u64,
     pub(crate) numbered: bool,
-    /// How many publishers there may be, and how many subscribers.
+    /// The maximum number of publishers, and of subscribers.
     pub(crate) ports: u64,
 }
 
@@ -53,7 +54,7 @@ enum Answering {
     Object,
 }
 
-/// How a publisher is made.
+/// How a publisher is created.
 #[derive(Clone, Copy)]
 pub(crate) struct Plan {
     pub(crate) config: PublisherConfig,
@@ -75,32 +76,32 @@ const CONFIG: PublisherConfig = PublisherConfig {
     first_sequence: 1,
 };
 
-/// It lends one value at a time, and discards at a full mailbox.
+/// A publisher that has at most one loan, and skips full mailboxes.
 pub(crate) const PLAIN: Plan = Plan {
     config: CONFIG,
     strategy: BackpressureStrategy::DiscardData,
     answering: Answering::Nobody,
 };
 
-/// Its sends fail there.
+/// A publisher whose sends fail at a full mailbox.
 pub(crate) const FAILING: Plan = Plan {
     answering: Answering::Fails,
     ..PLAIN
 };
 
-/// They wait there.
+/// A publisher whose sends are blocked at a full mailbox.
 pub(crate) const WAITING: Plan = Plan {
     strategy: BackpressureStrategy::RetryUntilDelivered,
     ..PLAIN
 };
 
-/// An object decides there.
+/// A publisher with a boxed handler for full mailboxes.
 pub(crate) const ASKING: Plan = Plan {
     answering: Answering::Object,
     ..PLAIN
 };
 
-/// Its room grows as far as is needed.
+/// A publisher whose slots grow.
 pub(crate) const GROWING: Plan = Plan {
     config: PublisherConfig {
         allocation: AllocationStrategy::BestFit,
@@ -109,7 +110,7 @@ pub(crate) const GROWING: Plan = Plan {
     ..PLAIN
 };
 
-/// Its last number before any send is 2^63.
+/// A publisher whose last sequence number before its first send is 2^63.
 pub(crate) const FAR: Plan = Plan {
     config: PublisherConfig {
         first_sequence: (1 << 63) + 1,
@@ -118,7 +119,7 @@ pub(crate) const FAR: Plan = Plan {
     ..PLAIN
 };
 
-/// Its slots have room for two values.
+/// A publisher whose slots have capacity for two values.
 pub(crate) const PAIRS: Plan = Plan {
     config: PublisherConfig {
         values: 2,
@@ -127,37 +128,37 @@ pub(crate) const PAIRS: Plan = Plan {
     ..PLAIN
 };
 
-/// What is done in a domain, and what comes of it. Ports go by their numbers.
+/// A step of a case in a domain, with its result. Ports are identified by their numbers.
 #[derive(Clone, Copy)]
 pub(crate) enum InDomain {
-    /// A publisher sends a value.
+    /// A publisher sends a value, with this result.
     Sends(u64, u64, Result<Sent, SendError>),
-    /// A subscriber receives the message of this number and this value, and gives it back.
+    /// A subscriber receives the message with this sequence number and this value, and releases it.
     Gets(u64, u64, u64),
     /// A subscriber receives nothing.
     Nothing(u64),
-    /// A subscriber leaves.
+    /// A subscriber is closed.
     Departs(u64),
-    /// A publisher is listed once more, as no call lists it.
+    /// A publisher is listed a second time, which no call does.
     Relists(u64),
-    /// A subscriber receives this value, and the sample is kept.
+    /// A subscriber receives this value, and the sample is held.
     Holds(u64, u64),
-    /// That sample is given back.
+    /// That sample is released.
     Frees,
 }
 
-/// What comes to a domain, and goes wherever memory is found for it.
+/// A step of a case in a domain that succeeds unless memory runs out.
 #[derive(Clone, Copy)]
 pub(crate) enum Arrival {
-    /// A publisher comes.
+    /// A publisher is created.
     Publisher(Plan),
-    /// A subscriber comes, for which so many messages may wait if that is named.
+    /// A subscriber is created, with this buffer size if one is named.
     Subscriber(Option<usize>),
-    /// So many subscribers come, and as many publishers; all follow the others.
+    /// This many subscribers and as many publishers are created, and all update their connections.
     Crowd(u64),
-    /// All ports follow the others.
+    /// All ports update their connections.
     Meeting,
-    /// A publisher sends so many values, from 0 on, which nobody takes.
+    /// A publisher sends this many values, from 0 on, and nobody receives them.
     Fill(u64, u64),
 }
 
@@ -287,7 +288,7 @@ fn meet(alloc: Global, state: &mut State) -> bool {
     true
 }
 
-// Whether so many subscribers come, then as many publishers, and all follow the others.
+// Whether this many subscribers come, then as many publishers, and all follow the others.
 fn crowd(alloc: Global, state: &mut State, count: u64) -> bool {
     for place in 0..count.saturating_mul(2) {
         let came = if place < count {
@@ -318,7 +319,7 @@ fn send(
     state.send(alloc, number, slot)
 }
 
-// Whether nobody takes any of so many values that it sends, from 0 on.
+// Whether nobody takes any of this many values that it sends, from 0 on.
 fn fill(alloc: Global, state: &mut State, number: u64, count: u64) -> Result<bool, AllocError> {
     for value in 0..count {
         match send(alloc, state, number, value) {
@@ -356,7 +357,7 @@ fn has_sequence(ports: &Ports, sample: Taken, sequence: u64) -> bool {
     }
 }
 
-// Whether a subscriber receives this message, and gives it back.
+// Whether a subscriber receives this message, and releases it.
 fn gets(alloc: Global, state: &mut State, number: u64, sequence: u64, value: u64) -> bool {
     let Some(sample) = received(alloc, state, number) else {
         return false;
@@ -381,7 +382,7 @@ fn holds(
     }
 }
 
-// Whether the sample that is kept is given back.
+// Whether the sample that is kept is released.
 fn frees(ports: &mut Ports, kept: &Option<Taken>) -> bool {
     match *kept {
         Some(sample) => ports.release(sample.subscriber, sample),
@@ -395,7 +396,7 @@ fn relists(ports: &mut Ports, publisher: u64) -> bool {
     ports.publisher_list.enter(entry).is_some()
 }
 
-/// Whether it comes.
+/// Whether the step succeeds.
 pub(crate) fn comes(
     alloc: Global,
     domain: &mut Option<Numbers>,
@@ -414,7 +415,7 @@ pub(crate) fn comes(
     })
 }
 
-/// Whether a step goes so.
+/// Whether a step has the stated result.
 pub(crate) fn goes(
     alloc: Global,
     domain: &mut Option<Numbers>,

@@ -1,4 +1,4 @@
-//! The ports of a board in threads: some aside, and another board's among them.
+//! The ports of a board in threads, from which some are taken away, and to which another board's are added.
 use crate::service::opened;
 use iox_lanes::{LanePublisher, LaneSizes, RingKind};
 use std::alloc::{AllocError, Global};
@@ -17,7 +17,7 @@ const ALONE: LaneSizes = LaneSizes {
     payload_words: 1,
 };
 
-/// Whether the one at a place goes behind others.
+/// Moves the port at a place to the end of the other list. Returns false if the place has none.
 pub(crate) fn pass<P: Drop>(
     from: &mut Vec<P>,
     place: usize,
@@ -30,13 +30,13 @@ pub(crate) fn pass<P: Drop>(
     Ok(true)
 }
 
-/// Whether the last one does.
+/// Moves the last port to the end of the other list. Returns false if there is none.
 pub(crate) fn pass_last<P: Drop>(from: &mut Vec<P>, to: &mut Vec<P>) -> Result<bool, AllocError> {
     let last = from.len().saturating_sub(1);
     pass(from, last, to)
 }
 
-/// Another board's publisher comes aside.
+/// Adds a publisher of another board to the ports that were taken away.
 pub(crate) fn another(alloc: Global, aside: &mut Vec<LanePublisher>) -> Result<bool, AllocError> {
     let mut threads = opened(alloc, 2, ALONE)?;
     pass(&mut threads.publishers, 0, aside)

@@ -1,4 +1,4 @@
-//! What is known of the ports of lanes beside them: what was written and sent, and a plain mailbox for each connection.
+//! What a test knows of the ports of lanes by itself: what was written and sent, and a plain mailbox for each connection.
 use crate::stepping::{last_call, order, words_read};
 use iox_lanes::{
     Act, Answer, Call, CallName, FinishedCall, Lanes, LoanAnswer, Move, Party, Placed, PopAnswer,
@@ -6,14 +6,14 @@ use iox_lanes::{
 };
 use std::alloc::{AllocError, Global};
 
-/// How many slots there are in all.
+/// The number of slots of all publishers.
 pub(crate) const SLOTS: u64 = 16;
 
 // What no slot is, and what stands where nothing was written.
 const NONE: u64 = u64::MAX;
 
-/// What was written into each slot, what was sent with it, and which slot each party got last; how many reads were right, which
-/// party rests, and where chance stands.
+/// What was written into each slot, what was sent with it, which slot each party got last, how many reads were right, which party makes no
+/// steps, and the state of the random numbers.
 #[derive(Clone, Copy)]
 pub(crate) struct Known {
     pub(crate) written: [u64; 16],
@@ -43,7 +43,7 @@ pub(crate) fn kept(words: &[u64], at: u64) -> u64 {
     words.get(at as usize).copied().unwrap_or(NONE)
 }
 
-/// Where it stands which slot a party got last.
+/// The place in `last` of a party.
 pub(crate) fn last_at(party: Party) -> u64 {
     match party {
         Party::Publisher(place) => place as u64,
@@ -51,7 +51,7 @@ pub(crate) fn last_at(party: Party) -> u64 {
     }
 }
 
-/// What is known once a call began.
+/// Notes that a call began.
 pub(crate) fn begun(known: &mut Known, step: &Move) {
     if let Move::Begin(Call::Send { loan }) = step {
         let value = kept(&known.written, *loan);
@@ -107,7 +107,7 @@ fn oldest(waits: &mut Vec<u64>) -> Option<u64> {
     }
 }
 
-/// How many messages may wait in a plain mailbox, and whether it refuses one more.
+/// The maximum number of waiting messages of a plain mailbox, and whether a full one refuses a message.
 #[derive(Clone, Copy)]
 pub(crate) struct Room {
     pub(crate) limit: u64,
@@ -128,7 +128,7 @@ fn put(waits: &mut Vec<u64>, room: Room, slot: u64) -> Result<PushAnswer, AllocE
     }
 }
 
-// Whether a plain mailbox answers so, and has no slot twice.
+// Whether a plain mailbox gives this answer, and has no slot twice.
 fn answers(waits: &mut Vec<u64>, room: Room, act: Act) -> Result<bool, AllocError> {
     match act {
         Act::Put { value, answer } => {
@@ -153,7 +153,7 @@ fn is_mailbox(waits: &mut Vec<u64>, room: Room, order: &[Placed]) -> Result<bool
     Ok(!order.is_empty())
 }
 
-/// Whether all are.
+/// Whether the order of each connection is that of a plain mailbox.
 pub(crate) fn are_mailboxes(alloc: Global, lanes: &Lanes, room: Room) -> Result<bool, AllocError> {
     for connection in 0..lanes.lanes().links().len() {
         let order = order(lanes, connection as u64);

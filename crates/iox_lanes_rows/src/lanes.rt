@@ -1,4 +1,4 @@
-//! What the ports of lanes send and receive, by whole calls. Messages have numbers, and ports go by their places.
+//! What the ports of lanes send and receive, by whole calls. Messages have sequence numbers, and ports are identified by their places.
 use crate::changes::NumberLanes;
 use crate::domain::in_both_words;
 use crate::stepping::{MOST_STEPS, step, whole};
@@ -8,71 +8,71 @@ use iox_lanes::{
 };
 use std::alloc::{AllocError, Global};
 
-/// How many steps a loan may have, and a send.
+/// The maximum number of steps of a loan, and of a send.
 #[derive(Clone, Copy)]
 pub(crate) struct Pace {
     pub(crate) loan: u64,
     pub(crate) send: u64,
 }
 
-/// That of any loan and any send.
+/// The maximum for any loan and any send.
 pub(crate) const ANY: Pace = Pace {
     loan: MOST_STEPS,
     send: MOST_STEPS,
 };
 
-/// What is done by lanes, and what comes of it.
+/// A step of a case that lanes make, with its result.
 #[derive(Clone, Copy)]
 pub(crate) enum InLanes {
-    /// A publisher sends a value. Its loan gets a slot at this pace, and its send has no more steps.
+    /// A publisher sends a value, with this result. Its loan and its send make at most this many steps.
     Sends(usize, u64, SendAnswer, Pace),
-    /// A subscriber receives the message of this number and this value, and gives it back.
+    /// A subscriber receives the message with this sequence number and this value, and releases it.
     Gets(usize, u64, u64),
     /// A subscriber receives nothing.
     Nothing(usize),
-    /// A publisher lends a slot, and keeps it.
+    /// A publisher loans a slot, and keeps it.
     Lends(usize),
     /// A subscriber receives a message, and keeps the sample.
     Borrows(usize),
-    /// A message is kept under this number, of this sequence number and this value.
+    /// The lanes keep a message under this number, with this sequence number and this value.
     Knows(usize, u64, u64),
-    /// The order of a connection has at a place the message of this number, or none.
+    /// At this place the order of a connection has the message with this number, or no message.
     Orders(u64, usize, Option<usize>),
-    /// A subscriber begins to receive, and doesn't go on.
+    /// A subscriber makes the first step of a receive, and no other.
     Begins(usize),
 }
 
-/// No connection takes a message, as there is none.
+/// No connection takes the message, because there is none.
 pub(crate) const TO_NONE: SendAnswer = SendAnswer::Delivered(Delivery {
     taken: 0,
     refused: 0,
 });
 
-/// The only one takes it.
+/// The only connection takes the message.
 pub(crate) const TO_ONE: SendAnswer = SendAnswer::Delivered(Delivery {
     taken: 1,
     refused: 0,
 });
 
-/// Both take it.
+/// Both connections take the message.
 pub(crate) const TO_TWO: SendAnswer = SendAnswer::Delivered(Delivery {
     taken: 2,
     refused: 0,
 });
 
-/// The only one is full, and is passed over.
+/// The only connection is full, and is skipped.
 pub(crate) const TO_FULL: SendAnswer = SendAnswer::Delivered(Delivery {
     taken: 0,
     refused: 1,
 });
 
-/// The only one is full, and the send fails.
+/// The only connection is full, and the send fails.
 pub(crate) const FULL: SendAnswer = SendAnswer::UnableToDeliver(Delivery {
     taken: 0,
     refused: 1,
 });
 
-/// The user header of what is sent: the send sets the number.
+/// The user header of each message. The send sets the sequence number.
 pub(crate) const USER_HEADER: WithSequence<()> = WithSequence {
     sequence: 0,
     user_header: (),
@@ -90,7 +90,7 @@ pub(crate) fn are_values(
     }
 }
 
-// The slot that a publisher lends, within so many steps.
+// The slot that a publisher loans, within this many steps.
 fn lent(lanes: &mut Lanes, party: Party, most: u64) -> Option<u64> {
     match whole(lanes, party, Call::LoanUninit, most) {
         Some(Answer::Lent(LoanAnswer::Slot(loan))) => Some(loan),
@@ -98,7 +98,7 @@ fn lent(lanes: &mut Lanes, party: Party, most: u64) -> Option<u64> {
     }
 }
 
-// What a loan's send answers that is written so, within so many steps.
+// What a loan's send answers that is written so, within this many steps.
 fn send_loan(lanes: &mut Lanes, party: Party, loan: u64, write: Call, most: u64) -> Option<Answer> {
     if whole(lanes, party, write, MOST_STEPS) == Some(Answer::Written) {
         whole(lanes, party, Call::Send { loan }, most)
@@ -107,7 +107,7 @@ fn send_loan(lanes: &mut Lanes, party: Party, loan: u64, write: Call, most: u64)
     }
 }
 
-// Whether a value that the publisher at a place sends at this pace is answered so.
+// Whether a value that the publisher at a place sends at this pace is answered as stated.
 fn sends(
     alloc: Global,
     lanes: &mut Lanes,
@@ -146,7 +146,7 @@ fn knows(lanes: &Lanes, number: usize, sequence: u64, value: u64) -> bool {
     }
 }
 
-/// Whether an entry of a connection's order puts or takes the message of this number, or else none.
+/// Whether an entry of a connection's order puts or takes the message with this number; None stands for no message.
 pub(crate) fn orders(lanes: &Lanes, connection: u64, at: usize, wanted: Option<usize>) -> bool {
     match lanes.order(connection).get(at) {
         Some(entry) => entry.number == wanted,
@@ -168,7 +168,7 @@ fn reads(lanes: &mut Lanes, party: Party, sample: u64, sequence: u64, value: u64
     }
 }
 
-// Whether the subscriber at a place receives this message and gives it back.
+// Whether the subscriber at a place receives this message and releases it.
 fn gets(lanes: &mut Lanes, place: usize, sequence: u64, value: u64) -> bool {
     let Some(sample) = received(lanes, place) else {
         return false;
@@ -178,7 +178,7 @@ fn gets(lanes: &mut Lanes, place: usize, sequence: u64, value: u64) -> bool {
         && whole(lanes, party, Call::Release { sample }, MOST_STEPS) == Some(Answer::Released(true))
 }
 
-/// Whether a step goes so.
+/// Whether a step has the stated result.
 pub(crate) fn goes(
     alloc: Global,
     opened: &mut Option<NumberLanes>,

@@ -1,28 +1,32 @@
-//! What no contract of lanes can say, and no line of `script_cases`.
+//! Tests of what no contract of lanes can say, and no line of `script_cases`.
 //!
-//! It has no items of its own, only tests. Of lanes alone `random` has schedules by chance, beside what is `known` of their messages,
-//! `counted` a schedule that is run at once, and `messages` the messages that lanes keep. `in_turn` has a message of lanes whose calls go
-//! in turn. Of their ports in threads `service` makes services of two publishers and two subscribers, which work in threads: in `streams`
-//! they send numbers through four, and in `turns` two answer each other, both once all of them run (`start`). `answers` are what tests
-//! hold, and `texts` how errors display.
+//! The crate has no items of its own, only tests. Lanes alone: `random` runs random schedules, and compares them with what is `known` of
+//! the messages; `counted` runs a whole schedule by one call; `messages` reads the messages that lanes keep; `in_turn` sends messages by
+//! calls that don't overlap. Lanes in threads: `service` makes services of two publishers and two subscribers; in `streams` the publishers
+//! send numbers, and in `turns` two ports answer each other, once all threads run (`start`); `boards` calls the ports of three boards one
+//! after the other. In `wide` values have three words, by lanes and by ports. `answers` has the checks of results, and `texts` checks how
+//! errors display.
 //!
-//! What lanes promise is read once alone: `stepping` has their calls without it, and `calls` what rows ask of them.
+//! `stepping` hands on the calls of lanes without their contracts, so that these are read only once; `calls` has the calls that cases name.
 //!
 //! Domains become lanes, go on in threads, and become domains again:
 //!
 //! - `domain`: a domain, by the calls of its ports.
 //! - `lanes`: what its lanes send and receive.
-//! - `threads`: what its ports do in threads.
-//! - `ending`: that they don't end where one is missing or is another board's.
-//! - `changes`: what each of these becomes.
-//! - `worlds`: what is done to them, step by step.
+//! - `threads`: what its ports send and receive in threads.
+//! - `typed`: the same of ports that know the types of their service.
+//! - `ending`: a board doesn't end if a port is missing or belongs to another board.
+//! - `changes`: a domain becomes lanes, lanes become ports in threads, and both become a domain again.
+//! - `worlds`: the steps of a case.
 //! - `refusals`: each reason why a domain can't become lanes.
-//! - `returns`: what lanes find, and what they and threads leave.
+//! - `returns`: what lanes find in a domain, and what lanes and threads leave in it.
 //! - `sizes`: domains with up to 1,000 messages, and with up to 64 publishers and subscribers.
 #![tactic(auto)]
 
 #[cfg(test)]
 mod answers;
+#[cfg(test)]
+mod boards;
 #[cfg(test)]
 mod calls;
 #[cfg(test)]
@@ -63,5 +67,9 @@ mod texts;
 mod threads;
 #[cfg(test)]
 mod turns;
+#[cfg(test)]
+mod typed;
+#[cfg(test)]
+mod wide;
 #[cfg(test)]
 mod worlds;

@@ -43,7 +43,7 @@ fn takes(lanes: &mut Lanes, slot: u64) -> bool {
         && goes(lanes, SUBSCRIBER, Call::Release { sample: slot })
 }
 
-// So many messages, each of so many words of user header and of payload.
+// This many messages, each of this many words of user header and of payload.
 type Many = (u64, u64, u64);
 
 const COUNTS: [Many; 6] = [
@@ -85,7 +85,7 @@ fn write(alloc: Global, many: &Many, number: u64) -> Result<Call, AllocError> {
     })
 }
 
-// The word at a place of that message, behind a header of three words.
+// The word at a place of that message, after a header of three words.
 fn word_at(many: &Many, number: u64, place: u64) -> u64 {
     match place {
         0 | 1 => 0,
@@ -125,7 +125,7 @@ fn is_kept(lanes: &Lanes, many: &Many, number: u64) -> bool {
     }
 }
 
-// Whether the connection's order has so many messages twice, as each is put and as it is taken, one after the other.
+// Whether the connection's order has this many messages twice, as each is put and as it is taken, one after the other.
 fn are_placed(lanes: &Lanes, count: u64) -> bool {
     let order = lanes.order(0);
     let whole = order.len() as u64 == count.saturating_mul(2) && order.is_empty() == (count == 0);
@@ -146,7 +146,7 @@ fn keeps(alloc: Global, lanes: &mut Lanes, many: &Many, number: u64) -> Result<b
     Ok(goes && is_kept(lanes, many, number))
 }
 
-// Whether so many are.
+// Whether this many are.
 fn keep(alloc: Global, lanes: &mut Lanes, many: &Many) -> Result<bool, AllocError> {
     for number in 0..many.0 {
         if !keeps(alloc, lanes, many, number)? {

@@ -1,4 +1,4 @@
-//! Random schedules of lanes: each connection's order is held against a plain mailbox, and each read against what was sent.
+//! Random schedules of lanes: each connection's order is compared with a plain mailbox, and each read with what was sent.
 ghost use Rattle.std.specs.Prelude.{◌≡◌};
 
 use crate::answers::hold;

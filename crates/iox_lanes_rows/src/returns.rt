@@ -1,4 +1,4 @@
-//! What lanes find of a domain, and what they and its ports in threads leave in the domain that they become again.
+//! What lanes find in a domain, and what lanes and ports in threads leave in the domain that they become again.
 use crate::domain::{Arrival, FAILING, InDomain, PLAIN, Service};
 use crate::lanes::{ANY, FULL, InLanes, Pace, TO_FULL, TO_NONE, TO_ONE, TO_TWO};
 use crate::threads::InThreads;
@@ -38,7 +38,7 @@ const OF_TWO: Pace = Pace { loan: 50, send: 64 };
 // Of one: 4 · (1 + 1 + 2) + 2 steps, and 4 · (1 + 1 + 3) + 1 + 7.
 const OF_ONE: Pace = Pace { loan: 18, send: 28 };
 
-const CASES: [Case; 10] = [
+const CASES: [Case; 12] = [
     Case {
         name: "no ports",
         service: &REFUSING,
@@ -121,7 +121,7 @@ const CASES: [Case; 10] = [
             Step::Starts(Some(OpenError::PartyInCall)),
         ],
     },
-    // The publishers have as many slots as are enough for all that may be lent, wait, be borrowed and stand in a history.
+    // The publishers have as many slots as are enough for all that may be loaned, wait, be borrowed and stand in a history.
     Case {
         name: "messages that wait, are borrowed and stand in a history",
         service: &OVERFLOWING,
@@ -202,7 +202,7 @@ const CASES: [Case; 10] = [
         ],
     },
     Case {
-        name: "ports that end together",
+        name: "ports that end at once",
         service: &OVERFLOWING,
         steps: &[
             Step::Comes(Arrival::Subscriber(None)),
@@ -215,6 +215,40 @@ const CASES: [Case; 10] = [
             Step::Domain(InDomain::Nothing(1)),
             Step::Domain(InDomain::Sends(2, 83, Ok(Sent::Delivered(1)))),
             Step::Domain(InDomain::Gets(1, 3, 83)),
+        ],
+    },
+    Case {
+        name: "ports by their types",
+        service: &OVERFLOWING,
+        steps: &[
+            Step::Comes(Arrival::Subscriber(None)),
+            Step::Comes(Arrival::Publisher(PLAIN)),
+            Step::Comes(Arrival::Publisher(PLAIN)),
+            Step::Comes(Arrival::Meeting),
+            Step::Opens(None),
+            Step::Starts(None),
+            Step::Threads(InThreads::Typed([2, 3, 1])),
+            Step::Ends(None),
+        ],
+    },
+    Case {
+        name: "a port that is lost",
+        service: &OVERFLOWING,
+        steps: &[
+            Step::Comes(Arrival::Subscriber(None)),
+            Step::Comes(Arrival::Publisher(PLAIN)),
+            Step::Comes(Arrival::Publisher(PLAIN)),
+            Step::Comes(Arrival::Meeting),
+            Step::Domain(InDomain::Sends(2, 91, Ok(Sent::Delivered(1)))),
+            Step::Opens(None),
+            Step::Starts(None),
+            Step::Threads(InThreads::Sends(0, 92, TO_ONE)),
+            Step::Threads(InThreads::Parts),
+            Step::Ends(Some(EndError::NotAllPorts)),
+            Step::Leaves(3),
+            Step::Domain(InDomain::Nothing(1)),
+            Step::Domain(InDomain::Sends(2, 93, Ok(Sent::Delivered(1)))),
+            Step::Domain(InDomain::Gets(1, 3, 93)),
         ],
     },
     Case {
@@ -232,6 +266,7 @@ const CASES: [Case; 10] = [
             Step::Lanes(InLanes::Sends(0, 24, FULL, ANY)),
             Step::Starts(None),
             Step::Threads(InThreads::Sends(0, 25, FULL)),
+            Step::Threads(InThreads::Fails(2)),
             Step::Threads(InThreads::Gets(0, 3, 23)),
             Step::Ends(None),
             Step::Domain(InDomain::Sends(2, 26, Ok(Sent::Delivered(1)))),

@@ -1,18 +1,19 @@
-//! A service of two publishers and two subscribers, with payloads of 8 words, whose halves go in threads.
+//! A service of two publishers and two subscribers, with payloads of 8 words. One of each runs in the first thread, and the others run in a
+//! second one.
 ghost use Rattle.std.specs.Prelude.{◌≡◌, ◌<◌};
 
 use crate::start::Start;
 use crate::{streams, turns};
 use iox_lanes::{
     LaneMachine, LanePublisher, LaneSizes, LaneSubscriber, LaneThreads, LoanAnswer, RingKind,
-    SendAnswer, end, open_threads,
+    SendAnswer, are_all, open_threads,
 };
 use std::alloc::{AllocError, Global};
 use std::sync::Wait;
 use std::thread;
 use std::thread::Threads;
 
-// So many messages may wait at a connection.
+// This many messages may wait at a connection.
 fn sizes(kind: RingKind, buffer: u64) -> LaneSizes
     ensures { result.buffer ≡ buffer }
 {
@@ -30,8 +31,12 @@ fn sizes(kind: RingKind, buffer: u64) -> LaneSizes
     }
 }
 
-// The ports of lanes in threads.
-fn started(alloc: Global, board: u64, lanes: LaneMachine) -> Result<LaneThreads, AllocError> {
+/// The ports of lanes in threads, on a board of this number.
+pub(crate) fn started(
+    alloc: Global,
+    board: u64,
+    lanes: LaneMachine,
+) -> Result<LaneThreads, AllocError> {
     match open_threads(alloc, board, lanes) {
         Ok(threads) => Ok(threads),
         Err(_) => Err(AllocError),
@@ -51,12 +56,12 @@ fn pair<P>(ports: &mut [P]) -> Option<(&mut P, &mut P)> {
     Some((first, others.first_mut()?))
 }
 
-// Whether all ports come back.
-fn is_ended(threads: LaneThreads) -> bool {
-    end(threads.board, threads.publishers, threads.subscribers).is_ok()
+// Whether all ports came back.
+fn are_back(threads: &LaneThreads) -> bool {
+    are_all(&threads.board, &threads.publishers, &threads.subscribers)
 }
 
-/// Sends this word eight times over; what that answered.
+/// Sends a payload of this word, eight times, and returns the answer of the send.
 pub(crate) fn sent_eight(port: &mut LanePublisher, value: u64) -> Option<SendAnswer> {
     let LoanAnswer::Slot(loan) = port.loan_uninit()? else {
         return None;
@@ -68,7 +73,7 @@ pub(crate) fn sent_eight(port: &mut LanePublisher, value: u64) -> Option<SendAns
     }
 }
 
-// The word that a payload has eight times over, behind the three of a header.
+// The word that a payload has eight times over, after the three of a header.
 fn eight(words: &[u64]) -> Option<u64> {
     let value = *words.get(3)?;
     if words.get(3..) == Some(&[value; 8]) {
@@ -78,24 +83,21 @@ fn eight(words: &[u64]) -> Option<u64> {
     }
 }
 
-/// The word that a sample has eight times over; the sample is given back.
+/// The word of which a sample has eight. The sample is released.
 pub(crate) fn read_eight(port: &mut LaneSubscriber, slot: u64) -> Option<u64> {
     if !port.read(slot) {
         return None;
     }
     let value = eight(port.words());
-    match port.release(slot) {
-        Some(true) => value,
-        _ => None,
-    }
+    if port.release(slot) { value } else { None }
 }
 
-/// What a publisher and a subscriber do.
+/// What a publisher and a subscriber of one half do.
 #[derive(Clone, Copy)]
 pub(crate) enum Work {
-    /// The one sends numbers, and the other receives those of both publishers, in threads of their own.
+    /// In a thread of its own each, the publisher sends numbers, and the subscriber receives those of both publishers.
     Streams,
-    /// They answer the other two.
+    /// They exchange answers with the ports of the other half.
     Turns,
 }
 
@@ -136,7 +138,8 @@ fn both_work<R: Threads + Wait + Sync>(
     one && other
 }
 
-/// Opens, works and ends, where so many messages may wait at a connection; whether all went well.
+/// Opens a service where at most `buffer` messages may wait at a connection, and does this work. Returns whether all results were right,
+/// and all ports came back.
 pub(crate) fn goes<R: Threads + Wait + Sync>(
     rt: &R,
     alloc: Global,
@@ -155,6 +158,5 @@ pub(crate) fn goes<R: Threads + Wait + Sync>(
         work,
         &start,
     );
-    let ended = is_ended(threads);
-    start.judge(well && ended)
+    start.judge(well && are_back(&threads))
 }

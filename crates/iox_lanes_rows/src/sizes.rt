@@ -9,7 +9,8 @@ use std::alloc::{AllocError, Global};
 use std::process::Abort;
 use std::sync::Wait;
 
-// A service of so many ports of each kind, of so many messages that may wait and stand in a history, and of so many that may be borrowed.
+// A service of this many ports of each kind, of this many messages that may wait and stand in a history, and of this many that may be
+// borrowed.
 fn service(ports: u64, messages: (u64, u64), borrowed: u64) -> Service {
     Service {
         variant: TypeVariant::FixedSize,
@@ -22,7 +23,7 @@ fn service(ports: u64, messages: (u64, u64), borrowed: u64) -> Service {
     }
 }
 
-// How a publisher is made that lends so many values.
+// How a publisher is made that loans this many values.
 fn lending(count: u64) -> Plan {
     let mut plan = PLAIN;
     plan.config.max_loaned_samples = count as usize;
@@ -44,7 +45,7 @@ fn has_messages(rt: &impl Wait, alloc: Global, count: u64) -> Result<bool, Alloc
     Ok(go(rt, alloc, &service(1, (count, count), count), &steps)? == steps.len())
 }
 
-// A loan and a send to so many subscribers, at each of which one message may wait and one be borrowed, with a word of number.
+// A loan and a send to this many subscribers, at each of which one message may wait and one be borrowed, with a word of number.
 fn pace_of(count: u64) -> Pace {
     Pace {
         loan: count.saturating_mul(16).saturating_add(2),
@@ -70,7 +71,7 @@ fn has_pace(rt: &impl Wait, alloc: Global, count: u64) -> Result<bool, AllocErro
     Ok(go(rt, alloc, &service(count, (1, 0), 1), &steps)? == steps.len())
 }
 
-// Whether so many publishers and as many subscribers go by lanes, in threads, and by lanes once more.
+// Whether this many publishers and as many subscribers go by lanes, in threads, and by lanes once more.
 fn has_ports(rt: &impl Wait, alloc: Global, count: u64) -> Result<bool, AllocError> {
     let steps = [
         Step::Comes(Arrival::Crowd(count)),

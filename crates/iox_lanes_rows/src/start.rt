@@ -1,4 +1,4 @@
-//! The beginning of threads that need one another.
+//! Starts threads that need one another.
 use std::alloc::AllocError;
 use std::sync::atomic::{AtomicU64, Ordering};
 use std::thread;
@@ -6,8 +6,8 @@ use std::thread;
 // So often a thread looks for the others, and lets them run.
 const TRIES: u64 = 1 << 22;
 
-/// How many threads began, how many of them waited in vain for the others, and how many are done: where memory for a thread is refused,
-/// what it was to do is done by another one, behind its own work.
+/// How many threads began, how many of them waited for the others in vain, and how many are done. If an allocation for a thread fails,
+/// another thread does its work, after its own work.
 #[derive(Drop)]
 pub(crate) struct Start {
     begun: AtomicU64,
@@ -24,7 +24,7 @@ impl Start {
         }
     }
 
-    /// One thread more begins, and waits for the others; whether so many are there.
+    /// Counts one more thread that began, and waits until `count` threads began. Returns false if it waited in vain.
     pub(crate) fn all_begin(&self, count: u64) -> bool {
         self.begun.fetch_add(1, Ordering::SeqCst);
         for _ in 0..TRIES {
@@ -37,17 +37,17 @@ impl Start {
         false
     }
 
-    /// One thread more is done.
+    /// Counts one more thread that is done.
     pub(crate) fn one_is_done(&self) {
         self.done.fetch_add(1, Ordering::SeqCst);
     }
 
-    /// Whether so many are done.
+    /// Whether this many are done.
     pub(crate) fn are_done(&self, count: u64) -> bool {
         self.done.load(Ordering::SeqCst) == count
     }
 
-    /// What came of the threads; an allocation failure, if one of them waited in vain.
+    /// The result of the threads, or an allocation failure if one of them waited in vain.
     pub(crate) fn judge(&self, well: bool) -> Result<bool, AllocError> {
         if self.in_vain.load(Ordering::SeqCst) == 0 {
             Ok(well)

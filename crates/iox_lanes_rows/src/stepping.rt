@@ -1,4 +1,4 @@
-//! Lanes that keep their messages, step by step: of these calls nothing is known here but what they answer.
+//! The calls of lanes that keep their messages, without their contracts: callers know only what these return.
 ghost use Rattle.std.specs.Prelude.{◌<◌};
 
 use iox_lanes::{
@@ -6,7 +6,7 @@ use iox_lanes::{
 };
 use std::alloc::{AllocError, Global};
 
-/// No call of a test has more steps.
+/// The maximum number of steps of a call of a test.
 pub(crate) const MOST_STEPS: u64 = 2000;
 
 /// Lanes of these sizes, on which nothing was done yet.
@@ -44,7 +44,7 @@ fn step_again(lanes: &mut Lanes, party: Party, entry: &Move) -> Stepped {
     }
 }
 
-// Goes on inside a call up to its end, and gives its answer, if it has so many steps at most, its begin among them.
+// Goes on inside a call up to its end, and gives its answer, if it has this many steps at most, its begin among them.
 fn rest(lanes: &mut Lanes, party: Party, most: u64) -> Option<Answer> {
     for _ in 1..most {
         if step_again(lanes, party, &Move::GoOn) == Stepped::Finished {
@@ -54,7 +54,7 @@ fn rest(lanes: &mut Lanes, party: Party, most: u64) -> Option<Answer> {
     None
 }
 
-/// Makes a whole call, and gives its answer, if it has so many steps at most.
+/// Makes a whole call of at most `most` steps, and returns its answer; None if the call isn't over then.
 pub(crate) fn whole(lanes: &mut Lanes, party: Party, call: Call, most: u64) -> Option<Answer> {
     match step_again(lanes, party, &Move::Begin(call)) {
         Stepped::Went => rest(lanes, party, most),

@@ -101,7 +101,7 @@ fn receive_all(rt: &impl Wait, port: &mut LaneSubscriber, start: &Start) -> bool
     start.all_begin(4) && receive_numbers(rt, port, start)
 }
 
-/// A publisher and a subscriber in threads of their own, beside two others.
+/// Runs a publisher and a subscriber in threads of their own, while two other ports run, too.
 pub(crate) fn go<R: Threads + Wait + Sync>(
     rt: &R,
     place: u64,

@@ -1,29 +1,34 @@
-//! What the ports of a domain send and receive in threads. Messages have numbers, and ports go by their places.
+//! What the ports of a domain send and receive in threads. Messages have sequence numbers, and ports are identified by their places.
 use crate::changes::NumberThreads;
 use crate::domain::in_both_words;
 use crate::ending::{another, pass, pass_last};
 use crate::lanes::{USER_HEADER, are_values};
+use crate::typed;
 use iox_lanes::{LanePublisher, LaneSubscriber, LoanAnswer, Receipt, SendAnswer};
 use std::alloc::{AllocError, Global};
 use std::sync::Wait;
 
-/// What is done in threads, and what comes of it.
+/// A step of a case that ports in threads make, with its result.
 #[derive(Clone, Copy)]
 pub(crate) enum InThreads {
-    /// A publisher sends a value.
+    /// A publisher sends a value, with this result.
     Sends(usize, u64, SendAnswer),
-    /// A subscriber receives the message of this number and this value, and gives it back.
+    /// A subscriber receives the message with this sequence number and this value, and releases it.
     Gets(usize, u64, u64),
     /// A subscriber receives nothing.
     Nothing(usize),
-    /// So many publishers, and as many subscribers, are there.
+    /// The board has this many publishers and as many subscribers.
     Ports(usize),
-    /// Another board's publisher comes aside, behind those that are there.
+    /// A publisher of another board is added to the ports that were taken away, as the last one.
     Another,
-    /// The last publisher goes aside, behind those that are there.
+    /// The last publisher is taken away, and is the last one of the ports that were.
     Parts,
-    /// The first publisher that is aside goes behind the others.
+    /// The first publisher that was taken away comes back, as the last publisher.
     Joins,
+    /// Two publishers and a subscriber with these ids refuse, send and read by their types.
+    Typed([u64; 3]),
+    /// The send of the publisher with this id fails at a full mailbox.
+    Fails(u64),
 }
 
 // What a publisher's send of a value answers.
@@ -38,7 +43,7 @@ fn sent(port: &mut LanePublisher, value: u64) -> Option<SendAnswer> {
     }
 }
 
-// Whether the send of the publisher at a place answers so.
+// Whether the send of the publisher at a place gives this answer.
 fn sends(ports: &mut [LanePublisher], place: usize, value: u64, answer: SendAnswer) -> bool {
     match ports.get_mut(place) {
         Some(port) => sent(port, value) == Some(answer),
@@ -46,11 +51,9 @@ fn sends(ports: &mut [LanePublisher], place: usize, value: u64, answer: SendAnsw
     }
 }
 
-// Whether a sample is read as this message, and given back.
+// Whether a sample is read as this message, and released.
 fn takes(port: &mut LaneSubscriber, sample: u64, sequence: u64, value: u64) -> bool {
-    port.read(sample)
-        && are_values(port.values(), sequence, value)
-        && port.release(sample) == Some(true)
+    port.read(sample) && are_values(port.values(), sequence, value) && port.release(sample)
 }
 
 // Whether the subscriber at a place receives nothing.
@@ -61,7 +64,7 @@ fn gets_nothing(rt: &impl Wait, ports: &mut [LaneSubscriber], place: usize) -> b
     }
 }
 
-// Whether the subscriber at a place receives this message and gives it back.
+// Whether the subscriber at a place receives this message and releases it.
 fn gets(
     rt: &impl Wait,
     ports: &mut [LaneSubscriber],
@@ -78,7 +81,7 @@ fn gets(
     }
 }
 
-/// Whether a step goes so.
+/// Whether a step has the stated result.
 pub(crate) fn goes(
     rt: &impl Wait,
     alloc: Global,
@@ -89,6 +92,21 @@ pub(crate) fn goes(
     let Some(threads) = threads else {
         return Ok(false);
     };
+    match *step {
+        InThreads::Typed(ids) => Ok(typed::go(rt, threads, ids) == Some(true)),
+        InThreads::Fails(id) => Ok(typed::fails(threads, id) == Some(true)),
+        _ => goes_by_places(rt, alloc, threads, aside, step),
+    }
+}
+
+// Whether a step of a port goes so that is at a place.
+fn goes_by_places(
+    rt: &impl Wait,
+    alloc: Global,
+    threads: &mut NumberThreads,
+    aside: &mut Vec<LanePublisher>,
+    step: &InThreads,
+) -> Result<bool, AllocError> {
     let publishers = &mut threads.publishers;
     let subscribers = &mut threads.subscribers;
     match *step {
@@ -105,5 +123,6 @@ pub(crate) fn goes(
         InThreads::Another => another(alloc, aside),
         InThreads::Parts => pass_last(publishers, aside),
         InThreads::Joins => pass(aside, 0, publishers),
+        InThreads::Typed(_) | InThreads::Fails(_) => Ok(false),
     }
 }

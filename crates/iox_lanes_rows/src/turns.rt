@@ -10,7 +10,7 @@ use std::thread::Threads;
 
 const TRIES: u64 = 1 << 24;
 
-// Receives until this word comes, and gives each sample back; whether it came.
+// Receives until this word comes, and releases each sample; whether it came.
 fn comes(rt: &impl Wait, port: &mut LaneSubscriber, value: u64) -> bool {
     for _ in 0..TRIES {
         match port.receive(rt) {
@@ -26,7 +26,7 @@ fn comes(rt: &impl Wait, port: &mut LaneSubscriber, value: u64) -> bool {
     false
 }
 
-/// Once both run, the first sends 1 and receives until 2 comes; the other receives until 1 comes, and sends 2.
+/// Once both threads run, the first one sends 1 and receives until it gets 2. The other one receives until it gets 1, and then sends 2.
 pub(crate) fn go(
     rt: &impl Wait,
     place: u64,

@@ -1,5 +1,5 @@
-//! A domain, the lanes that it becomes, their ports in threads, and the domain again: what is done to each.
-use crate::changes::{NumberLanes, NumberThreads, passes, turn};
+//! The steps of a case: on a domain, on the lanes that it becomes, on their ports in threads, and on the domain that these become again.
+use crate::changes::{NumberLanes, NumberThreads, leaves, passes, turn};
 use crate::domain::{Arrival, InDomain, Numbers, Service, make};
 use crate::lanes::InLanes;
 use crate::threads::InThreads;
@@ -10,12 +10,12 @@ use std::alloc::{AllocError, Global};
 use std::process::Abort;
 use std::sync::Wait;
 
-/// What is done, and what comes of it.
+/// A step of a case, with its result.
 #[derive(Clone, Copy)]
 pub(crate) enum Step {
-    /// Something comes to the domain.
+    /// In the domain; it succeeds unless memory runs out.
     Comes(Arrival),
-    /// Something is done there.
+    /// In the domain.
     Domain(InDomain),
     /// By lanes.
     Lanes(InLanes),
@@ -25,12 +25,14 @@ pub(crate) enum Step {
     Opens(Option<IntoLanesError>),
     /// The lanes become a domain again, or don't for this reason.
     Returns(Option<IntoDomainError>),
-    /// They go on in threads, or don't for this reason.
+    /// The lanes are opened for threads, or aren't for this reason.
     Starts(Option<OpenError>),
-    /// They go on in threads, which end together at once and leave a domain.
+    /// The lanes are opened for threads, which are ended together at once and leave a domain.
     Passes,
-    /// The threads end and leave a domain, or don't for this reason.
+    /// The threads are ended and leave a domain, or aren't for this reason.
     Ends(Option<EndError>),
+    /// The threads are abandoned and leave a domain, where the publisher of this number alone is missing.
+    Leaves(u64),
 }
 
 // One of a domain, lanes and threads, the sample that is kept, and publishers that are aside.
@@ -49,7 +51,7 @@ const OPENS_NOT: [IntoLanesError; 1] = [IntoLanesError::OutOfMemory];
 
 const STARTS_NOT: [OpenError; 1] = [OpenError::OutOfMemory];
 
-// Whether a step goes so.
+// Whether a step goes as stated.
 fn goes(rt: &impl Wait, alloc: Global, world: &mut World, step: &Step) -> Result<bool, AllocError> {
     match step {
         Step::Comes(step) => domain::comes(alloc, &mut world.domain, step),
@@ -73,10 +75,11 @@ fn goes(rt: &impl Wait, alloc: Global, world: &mut World, step: &Step) -> Result
         ),
         Step::Passes => passes(alloc, &mut world.lanes, &mut world.domain),
         Step::Ends(wanted) => turn(alloc, &mut world.threads, &mut world.domain, *wanted, &[]),
+        Step::Leaves(missing) => Ok(leaves(&mut world.threads, &mut world.domain, *missing)),
     }
 }
 
-// How many steps go so, up to the first that goes otherwise.
+// How many steps go as stated, up to the first that goes differently.
 fn count_right(
     rt: &impl Wait,
     alloc: Global,
@@ -91,7 +94,7 @@ fn count_right(
     Ok(steps.len())
 }
 
-/// How many steps of a new domain go so, up to the first that goes otherwise.
+/// How many steps from a new domain on have the stated results, up to the first that has another one.
 pub(crate) fn go(
     rt: &impl Wait,
     alloc: Global,
@@ -120,14 +123,14 @@ pub(crate) fn go(
     right
 }
 
-/// What is done to a new domain of a service.
+/// A case: the steps from a new domain of a service on.
 pub(crate) struct Case {
     pub(crate) name: &'static str,
     pub(crate) service: &'static Service,
     pub(crate) steps: &'static [Step],
 }
 
-/// Each case must go so.
+/// Runs all cases, and aborts if a step has another result than stated.
 pub(crate) fn go_all<R: Abort + Wait>(
     rt: &R,
     alloc: Global,

@@ -133,7 +133,7 @@ module _ {T : Type 0} (choices : Choices T) (number slot : ℕ) (message : ℕ �
     fails = failed;
   }
 
-  -- whether a send fails behind some more of them
+  -- whether a send fails after some more of them
   abbrev pub failed_then : Bool → List (Addressee T) → Bool
   failed_then failed tos = failed || (fails && nat_lt 0 (count_by (λ to. not (takes_it to)) tos))
 

@@ -83,7 +83,7 @@ popping_left held (pop.Refusing refusing_pop.LookBegun) = 8
 popping_left held (pop.Refusing (refusing_pop.LookRead read)) = 7
 popping_left held (pop.Refusing (refusing_pop.Looked some)) = 0
 
--- a subscriber's call, with so many connections
+-- a subscriber's call, with n connections
 abbrev pub reader_left : TableWords → ℕ → SubscriberCall → ℕ
 reader_left table connections subscribing.Idle = 0
 reader_left table connections (subscribing.Receiving at route p waits) =
@@ -108,7 +108,7 @@ visit_left table routes place full waits (Some route) e =
     let below : place < length routes = slice_get_within routes place route e in
     omega (arith, below, eight (held_by table (Ring route.connection Submission Read)) route.kind full)
 
--- behind a connection
+-- after a connection
 next_left : (table : TableWords) (routes : List Route) (borrowed : List ℕ) (most place : ℕ) (waits : Bool) → place < 2 ^ 62
     → reader_left table (length routes) (receive_at routes borrowed most (successor place) waits) ≤ 8 * (length routes - place - 1) + 1
 next_left table routes borrowed most place waits small =

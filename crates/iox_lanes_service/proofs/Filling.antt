@@ -171,7 +171,7 @@ module _ (turns : Turns) (m n : World) (place : ℕ) (before after : PublisherLa
       low = w.low;
     }
 
--- a publisher before and behind its call
+-- a publisher before and after its call
 record Caller (m n : World) (place : ℕ) : Type 0 where
   before : PublisherLaneState
   after : PublisherLaneState

@@ -44,7 +44,7 @@ goes_fixed party zero m n goes = steps_fixed m party GoOn stepped.Finished n goe
 goes_fixed party (suc more) m n goes =
     fixed_on m goes.0 n (steps_fixed m party GoOn stepped.Went goes.0 goes.1) (goes_fixed party more goes.0 n goes.2)
 
--- how many ports there are, and how many words and slots, is what it was behind a call in turn
+-- how many ports there are, and how many words and slots, is what it was after a call in turn
 pub turns_fixed : (m n : World) (party : Party) (asking : Call) → IsInTurn m party asking n → StaysFixed m n
 turns_fixed m n party asking t =
     fixed_on m t.begun n (steps_fixed m party (Begin asking) stepped.Went t.begun t.begins) (goes_fixed party t.more t.begun n t.goes)

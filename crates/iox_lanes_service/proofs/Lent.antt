@@ -31,7 +31,7 @@ use Rattle.iox_machine.specs.Choices.{Choices}
 use Rattle.iox_machine.specs.Service.{Service}
 use Rattle.iox_machine.specs.Table.{at, removed}
 
--- what is held behind a call of a publisher that puts nothing was held before
+-- what is held after a call of a publisher that puts nothing was held before
 pub held_before : (m n : World) (slot : ℕ) → IsKept m → AllBetween n → MailStays m n → n.subscribers ≡ m.subscribers → n.links ≡ m.links
     → IsHeld n slot → IsHeld m slot
 held_before m n slot k between mail subscribers links h = elim (held_split n slot between h) [

@@ -263,7 +263,7 @@ module _ (sizes : LaneSizes) (m : World) (asking : Call) (n : World) (c : TurnsG
       some_same : (x y : SubscriberLaneState) → Some x ≡ Some y → x ≡ y
       some_same x y e = cc e
 
-  -- who began a call has so many steps left at most
+  -- who began a call has at most n steps left
   begun_going : (party : Party) → StepsTo m party (Begin asking) stepped.Went n
       → IsGoing n party × (party_left n party + 2 ≤ most_steps sizes)
   begun_going (Publisher place) step = publisher_going place step
@@ -296,7 +296,7 @@ begin_moments m party asking n step =
 last_moments : (m : World) (party : Party) (n : World) → StepsTo m party GoOn stepped.Finished n → n.moments ≡ successor m.moments
 last_moments m party n step = ap (λ (w : World). w.moments) step.2 ∙ happens_moments m party GoOn step.0
 
--- a whole call makes so many steps at most
+-- a whole call makes at most n steps
 pub turn_moves : (sizes : LaneSizes) (m : World) (party : Party) (asking : Call) (n : World) → TurnsGoOn sizes m
     → IsInTurn m party asking n → most_steps sizes < 2 ^ 61 → n.moments ≤ m.moments + most_steps sizes
 turn_moves sizes m party asking n c t few =

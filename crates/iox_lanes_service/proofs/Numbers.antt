@@ -271,7 +271,7 @@ sent_stage slot (publishing.Sent own delivery) over h table sends payload head i
     same e = cc e
 sent_stage slot (publishing.Dropping own) over h table sends payload head is = absurd (cc h)
 
--- a slot that was sent has the number behind the one that its publisher gave last
+-- a slot that was sent has the number after the one that its publisher gave last
 pub sent_in_turn : (m n : World) (place slot : ℕ) (c : Call) (before : PublisherLaneState) → IsInTurn m (Publisher place) c n
     → slice_get m.publishers place ≡ Some before → name_of c ≡ name.Send slot → 1 ≤ m.table.sizes.user_header_words → (last : ℕ)
     → before.last ≡ Some last → number_held n.table slot ≡ successor last

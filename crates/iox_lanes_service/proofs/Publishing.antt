@@ -118,7 +118,7 @@ at_most_next name.Receive was last is = (last, is, omega arith)
 at_most_next (name.Read slot) was last is = (last, is, omega arith)
 at_most_next (name.Release slot) was last is = (last, is, omega arith)
 
--- numbers fit behind a call of a publisher
+-- numbers fit after a call of a publisher
 writers_fit : (numbered : Bool) (m n : World) (place : ℕ) (c : Call) (before after : PublisherLaneState)
     → WriterCall m n place c before after → OnlyPublisher m place n → NumbersFit numbered m → NumbersFit numbered n
 writers_fit numbered m n place c before after w others h = record {

@@ -45,7 +45,7 @@ use Rattle.iox_machine.specs.Message.{Sample}
 use Rattle.iox_machine.specs.Service.{Service, Subscriber as Reader}
 use Rattle.iox_machine.specs.Table.{at}
 
--- the payload of a slot is what lies behind its header and user header
+-- the payload of a slot is what lies after its header and user header
 abbrev head_width : TableWords → ℕ
 head_width table = 3 + table.sizes.user_header_words
 

@@ -111,7 +111,7 @@ drop_counted zero x xs some = some
 drop_counted (suc k) x [] some = some
 drop_counted (suc k) x (y ∷ xs) some = omega (arith, drop_counted k x xs some)
 
--- what waits behind a put did before, or is what was put
+-- what waits after a put did before, or is what was put
 put_counted : (overflow : Bool) (limit slot x : ℕ) (waiting : List ℕ) → 0 < count x (after_put overflow limit waiting slot)
     → (0 < count x waiting) ⊎ (x ≡ slot)
 put_counted true limit slot x waiting some = by_room (nat_lt (length waiting) limit) some
@@ -470,7 +470,7 @@ module _ {T : Type 0} (choices : Choices T) (value : List ℕ → T) (names : La
           ∙ ap (λ (k : ℕ). after_put (overflows it.kind) it.limit (mail_at m k) slot) among.same
           ∙ sym (law.put connection it is own)
 
-  -- the number behind the last one
+  -- the number after the last one
   last_fits : (last : ℕ) → before.last ≡ Some last → last < 2 ^ 64 - 1
   last_fits last is = omega (arith, s.numbers.low place before last w.found is, w.rises, w.few_then)
 

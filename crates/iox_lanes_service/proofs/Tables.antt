@@ -395,7 +395,7 @@ module _ {V : Type 0} (slot : V → ℕ) (test : V → Bool) where
       by_tests false t true c rest = rest ∙ sym (off entry table t)
       by_tests false t false c rest = off entry (removed number table) t ∙ rest ∙ sym (off entry table t)
 
-  -- one more behind them, where the new entry passes
+  -- one more after them, where the new entry passes
   pub appended_slots : (last : ℕ × V) (table : List (ℕ × V))
       → slots_by (table ++ last ∷ []) ≡ slots_by table ++ cond (test last.1) (slot last.1 ∷ []) []
   appended_slots last [] = by_test (test last.1)
@@ -434,7 +434,7 @@ count_but_other x z (y ∷ xs) apart = by_test (count_but_other x z xs apart) (y
     by_test more true e = omega (arith, more, one_other y z (λ same. apart (sym same ∙ eqb-true y x e)))
     by_test more false e = omega (arith, more)
 
--- a filter behind a map, where the tests agree at each member
+-- a filter after a map, where the tests agree at each member
 pub filter_mapped : {X : Type 0} (f : ℕ → X) (stays : X → Bool) (keeps : ℕ → Bool) (xs : List ℕ)
     → ((x : ℕ) → 0 < count x xs → stays (f x) ≡ keeps x) → filter stays (map f xs) ≡ map f (filter keeps xs)
 filter_mapped f stays keeps [] same = refl

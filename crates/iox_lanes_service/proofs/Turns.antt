@@ -179,7 +179,7 @@ routes_stay sizes m n (Subscriber who) asking t c =
       ],
     )
 
--- lanes go on behind a turn
+-- lanes go on after a turn
 pub ends_well : (sizes : LaneSizes) (m n : World) (party : Party) (asking : Call) → IsInTurn m party asking n → TurnsGoOn sizes m
     → TurnsGoOn sizes n
 ends_well sizes m n party asking t c =
@@ -407,7 +407,7 @@ lent_told place (loan.Slot slot) number turns = refl
 lent_told place loan.ExceedsMaxLoans number turns = refl
 lent_told place loan.OutOfMemory number turns = refl
 
--- what comes behind others under a number that none of them has goes by it
+-- what comes after others under a number that none of them has goes by it
 pub at_appended : {V : Type 0} (number : ℕ) (v : V) (table : List (ℕ × V)) → at number table ≡ None
     → at number (table ++ (number, v) ∷ []) ≡ Some v
 at_appended {V} number v [] none = by_test (number == number) (eq-eqb number number refl)

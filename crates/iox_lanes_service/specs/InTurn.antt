@@ -16,9 +16,9 @@ use Rattle.iox_machine.specs.Service.{Publisher, Service, Subscriber, mailbox}
 use Rattle.iox_machine.specs.State.{State}
 use Rattle.iox_machine.specs.Table.{at}
 
--- What was asked of lanes of these sizes, one whole call after the other, as commands, and the answer to each. Further, how many loans and
--- samples were made so far, which have numbers, and which loans were written. The lanes are stuck once memory or steps ran out within a
--- call; `ran_out` says which.
+-- What was asked of lanes of these sizes, one whole call after the other, as commands, and the answer to each; how many loans and samples
+-- were made so far; which loans and samples have numbers; and which loans were written. The lanes are stuck after memory or steps ran out
+-- within a call; `ran_out` says which.
 pub record Turns : Type 0 where
   pub sizes : LaneSizes
   pub asked : List (Command (List ℕ))
@@ -31,31 +31,31 @@ pub record Turns : Type 0 where
   pub stuck : Bool
   pub ran_out : Option RanOut
 
--- The record with one command more, which was answered so.
+-- The record with one more command and this answer to it.
 abbrev pub turned : Command (List ℕ) → Reply (List ℕ) → Turns → Turns
 turned asked answer turns = record turns { asked = turns.asked ++ asked ∷ []; answers = turns.answers ++ answer ∷ [] }
 
--- How many steps a call makes at most, on lanes of these sizes.
+-- The maximum number of steps of a call, on lanes of these sizes.
 abbrev pub most_steps : LaneSizes → ℕ
 most_steps sizes = 4 * sizes.subscribers * (sizes.buffer + sizes.most_borrowed + 3) + 8 * sizes.publishers + sizes.user_header_words
     + sizes.payload_words + 7
 
 -- Memory or steps ran out within a call: a step of it found no memory for what it records; or the call made 2^62 steps and isn't over; or
--- more than 2^63 steps were made in all. Steps run out only where the calls that were answered, and one more, may make 2^61.
+-- more than 2^63 steps were made in all. Steps run out only if the calls that were answered, and one more, may make 2^61 steps.
 abbrev pub RunsOut : Turns → RanOut → Type 0
 RunsOut turns out.Memory = ⊤
 RunsOut turns (out.Steps made) = (2 ^ 62 ≤ made) × (2 ^ 61 ≤ (length turns.asked + 1) * most_steps turns.sizes)
 RunsOut turns (out.Moments made) = (2 ^ 63 < made) × (2 ^ 61 ≤ (length turns.asked + 1) * most_steps turns.sizes)
 
 -- A call wasn't answered. Either nothing changed, and if the call fits, the lanes were stuck before; or memory or steps ran out within it,
--- the lanes are stuck since then, and nothing else changed.
+-- the lanes are stuck from then on, and nothing else changed.
 abbrev pub IsUnanswered : Type 0 → Turns → Turns → Type 0
 IsUnanswered Fits old new =
     ((new ≡ old) × (Fits → old.stuck ≡ true))
     ⊎ ((why : RanOut) × RunsOut old why × (new ≡ record old { stuck = true; ran_out = Some why }))
 
 -- A publisher that was created and is connected to each subscriber, before it loans and sends. Its messages have no sequence numbers, and
--- if mailboxes don't overflow, it discards messages at full ones.
+-- if mailboxes don't overflow, it discards messages at full mailboxes.
 pub record ComesToSend (sizes : LaneSizes) (service : Service (List ℕ)) (publisher : Publisher (List ℕ)) : Type 0 where
   pub stands : publisher.stands ≡ true
   pub free : publisher.blocked ≡ None
@@ -78,7 +78,7 @@ pub record ComesToReceive (sizes : LaneSizes) (service : Service (List ℕ)) (su
   pub connected : those subscriber.connected ≡ listed (λ place. suc place) sizes.publishers
 
 -- The state of the machine from which lanes go on: it has one service, with the same sizes, where at least as many ports were created as
--- the lanes have. The port at a place has the number after the place. Nothing was loaned or sent yet.
+-- the lanes have. The number of a port is its place plus one. Nothing was loaned or sent yet.
 pub record BeginsTurns (sizes : LaneSizes) (state : State (List ℕ)) : Type 0 where
   pub service : Service (List ℕ)
   pub alone : state.services ≡ service ∷ []

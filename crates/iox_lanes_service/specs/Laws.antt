@@ -1,4 +1,4 @@
--- A call of lanes that no other call overlaps is a command that the machine's service does.
+-- A call of lanes that no other call overlaps does what a command does to the machine's service.
 use Rattle.std.specs.Prelude.{ℕ, ◌+◌, ◌<◌, ◌≡◌, ◌^◌, Bool, true, false, List, [], ◌∷◌, ◌++◌, length, drop, get_or, slice_get, Option, None}
 use Rattle.std.specs.Prelude.{Some}
 use Rattle.std.specs.Global.{Vec}
@@ -42,26 +42,26 @@ abbrev pub publisher_over : List LinkState → Option Route → ℕ
 publisher_over links None = 0
 publisher_over links (Some route) = option_map_or (λ (link : LinkState). link.publisher) (slice_get links route.connection) 0
 
--- The samples, with the one that a receive took, if it took one, behind the others under this number.
+-- The samples; if a receive took one, it is appended under this number.
 abbrev pub with_received : ℕ → ℕ → List LinkState → SubscriberLaneState → Receipt → List (ℕ × LaneSample) → List (ℕ × LaneSample)
 with_received sample subscriber links lane (receipt.Taken place slot) held = held
     ++ (sample, record { publisher = publisher_over links (slice_get lane.port.routes place); subscriber = subscriber; slot = slot }) ∷ []
 with_received sample subscriber links lane receipt.Nothing held = held
 with_received sample subscriber links lane receipt.ExceedsMaxBorrows held = held
 
--- The reply to a receive whose sample gets this number and these values, if it took one.
+-- The reply to a receive; if it took a sample, the sample gets this number and these values.
 abbrev pub received_as : {T : Type 0} → ℕ → Vec T → Receipt → Reply T
 received_as sample values (receipt.Taken place slot) = reply.Received sample values
 received_as sample values receipt.Nothing = reply.NothingWaits
 received_as sample values receipt.ExceedsMaxBorrows = reply.Refused (refusal.Receive ExceedsMaxBorrows)
 
--- These values are the one value of the slot that a receive took, if it took one.
+-- If a receive took a slot, these values are the one value of that slot.
 abbrev pub AreTaken : {T : Type 0} → (List ℕ → T) → TableWords → Receipt → Vec T → Type 0
 AreTaken value table (receipt.Taken place slot) values = vec_items values ≡ value (payload_held table slot) ∷ []
 AreTaken value table receipt.Nothing values = Unit {0}
 AreTaken value table receipt.ExceedsMaxBorrows values = Unit {0}
 
--- The loans, with the one that was made, if one was, behind the others under this number.
+-- The loans; if one was made, it is appended under this number.
 abbrev pub with_lent_slot : ℕ → ℕ → LoanAnswer → List (ℕ × LaneLoan) → List (ℕ × LaneLoan)
 with_lent_slot number publisher (loan.Slot slot) lent = lent ++ (number, record { publisher = publisher; slot = slot }) ∷ []
 with_lent_slot number publisher loan.ExceedsMaxLoans lent = lent
@@ -89,7 +89,7 @@ sequence_read false m n = None
 
 -- The machine has these message types, and these choices that others may make; its messages have one value, which is read from words.
 module _ {T : Type 0} (choices : Choices T) (value : List ℕ → T) (types : MessageTypeDetails) (buffer : ℕ) where
-  -- A machine that has only this service answers a command so, and has a service after that which these lanes represent.
+  -- A machine that has only this service may give this reply to the command, and has a service afterwards that these lanes represent.
   abbrev pub IsLaneStep : Command T → Reply T → State T → Service T → LaneNaming → List (ℕ × LaneLoan) → List (ℕ × LaneSample) → World
       → Type 0
   IsLaneStep asked answered state service names lent held n =
@@ -98,7 +98,8 @@ module _ {T : Type 0} (choices : Choices T) (value : List ℕ → T) (types : Me
       (record state { made = counted answered state.made; services = after ∷ [] })
       × LanesStandFor choices value names lent held n after
 
-  -- A receive is one of the machine's subscriber. The sample that it takes gets the next number, which no sample has yet.
+  -- A receive of the lanes is a receive of the machine's subscriber. The sample that it takes gets the next number, which no sample has
+  -- yet.
   abbrev pub ReceivesAreSteps : Type 0
   ReceivesAreSteps = (names : LaneNaming) (lent : List (ℕ × LaneLoan)) (held : List (ℕ × LaneSample)) (m n : World) (service : Service T)
       (state : State T) (place : ℕ) (before : SubscriberLaneState)
@@ -109,7 +110,8 @@ module _ {T : Type 0} (choices : Choices T) (value : List ℕ → T) (types : Me
       → IsLaneStep (command.Receive (names.subscriber place)) (received_as (state.made.samples + 1) values given) state service names lent
       (with_received (state.made.samples + 1) place m.links before given held) n)
 
-  -- A read is one of the sample with this number, and the value of the words that it returns is the one that the machine answers.
+  -- A read of the lanes is a read of the sample with this number, and the value of the words that it returns is the one that the machine
+  -- answers.
   abbrev pub ReadsAreSteps : Type 0
   ReadsAreSteps = (names : LaneNaming) (lent : List (ℕ × LaneLoan)) (held : List (ℕ × LaneSample)) (m n : World) (service : Service T)
       (state : State T) (sample : ℕ) (one : LaneSample)
@@ -119,7 +121,8 @@ module _ {T : Type 0} (choices : Choices T) (value : List ℕ → T) (types : Me
       × ((values : Vec T) → vec_items values ≡ value (payload_read m n) ∷ []
       → IsLaneStep (command.Read sample) (reply.Values values) state service names lent held n)
 
-  -- A read is also the command that reports the sequence number that the send gave the message.
+  -- A read of the lanes also matches the command that reports the sequence number: the read returns the number that the send gave the
+  -- message.
   abbrev pub NumbersAreTold : Type 0
   NumbersAreTold = (names : LaneNaming) (lent : List (ℕ × LaneLoan)) (held : List (ℕ × LaneSample)) (m n : World) (service : Service T)
       (state : State T) (sample : ℕ) (one : LaneSample)
@@ -127,7 +130,7 @@ module _ {T : Type 0} (choices : Choices T) (value : List ℕ → T) (types : Me
       → IsInTurn m (Subscriber one.subscriber) (call.Read one.slot) n
       → IsLaneStep (command.Sequence sample) (reply.Sequence (sequence_read names.numbered m n)) state service names lent held n
 
-  -- A release is one of the sample with this number, and no sample has the number after that.
+  -- A release of the lanes is a release of the sample with this number, and afterwards no sample has this number.
   abbrev pub ReleasesAreSteps : Type 0
   ReleasesAreSteps = (names : LaneNaming) (lent : List (ℕ × LaneLoan)) (held : List (ℕ × LaneSample)) (m n : World) (service : Service T)
       (state : State T) (sample : ℕ) (one : LaneSample)
@@ -136,8 +139,8 @@ module _ {T : Type 0} (choices : Choices T) (value : List ℕ → T) (types : Me
       → IsAnswered m (Subscriber one.subscriber) (call.Release one.slot) (answer.Released true) n
       × IsLaneStep (command.Release sample) reply.Done state service names lent (removed sample held) n
 
-  -- A loan is one of a single value that is unwritten. It gets the next number, which no loan has yet, and its message gets the publisher's
-  -- next number. Messages in other slots keep theirs. The publisher's slots have numbers below 2^64.
+  -- A loan of the lanes is a loan of a single value that is unwritten. It gets the next number, which no loan has yet, and its message gets
+  -- the publisher's next number. Messages in other slots keep their numbers. The numbers of the publisher's slots are less than 2^64.
   abbrev pub LoansAreSteps : Type 0
   LoansAreSteps = (names : LaneNaming) (lent : List (ℕ × LaneLoan)) (held : List (ℕ × LaneSample)) (m n : World) (service : Service T)
       (state : State T) (place : ℕ) (before : PublisherLaneState)
@@ -150,7 +153,7 @@ module _ {T : Type 0} (choices : Choices T) (value : List ℕ → T) (types : Me
       service
       (record names { message = message }) (with_lent_slot (state.made.loans + 1) place given lent) held n)
 
-  -- The dropping of a loan is one of the loan with this number, and no loan has the number after that.
+  -- The dropping of a loan of the lanes is that of the loan with this number, and afterwards no loan has this number.
   abbrev pub DropsAreSteps : Type 0
   DropsAreSteps = (names : LaneNaming) (lent : List (ℕ × LaneLoan)) (held : List (ℕ × LaneSample)) (m n : World) (service : Service T)
       (state : State T) (number : ℕ) (one : LaneLoan)
@@ -159,7 +162,7 @@ module _ {T : Type 0} (choices : Choices T) (value : List ℕ → T) (types : Me
       → IsAnswered m (Publisher one.publisher) (call.DropLoan one.slot) answer.Dropped n
       × IsLaneStep (command.Drop number) reply.Done state service names (removed number lent) held n
 
-  -- A write fills the loan with this number with the value of its words.
+  -- A write of the lanes fills the loan with this number with the value of its words.
   abbrev pub WritesAreSteps : Type 0
   WritesAreSteps = (names : LaneNaming) (lent : List (ℕ × LaneLoan)) (held : List (ℕ × LaneSample)) (m n : World) (service : Service T)
       (state : State T) (number : ℕ) (one : LaneLoan) (payload user_header : Vec ℕ)
@@ -168,8 +171,8 @@ module _ {T : Type 0} (choices : Choices T) (value : List ℕ → T) (types : Me
       → IsAnswered m (Publisher one.publisher) (call.Write one.slot payload user_header) answer.Written n
       × IsLaneStep (command.Fill number (value payload.items ∷ [])) reply.Done state service names lent held n
 
-  -- A send is one of the loan with this number, and no loan has the number after that. The machine's publisher finds nothing new in the
-  -- list of subscribers, and skips each full mailbox as the lane does.
+  -- A send of the lanes is a send of the loan with this number, and afterwards no loan has this number. The machine's publisher finds
+  -- nothing new in the list of subscribers, and skips each full mailbox as the lane does.
   abbrev pub SendsAreSteps : Type 0
   SendsAreSteps = (names : LaneNaming) (lent : List (ℕ × LaneLoan)) (held : List (ℕ × LaneSample)) (m n : World) (service : Service T)
       (state : State T) (number : ℕ) (one : LaneLoan)

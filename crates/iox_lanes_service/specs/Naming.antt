@@ -13,8 +13,8 @@ use Rattle.iox_lanes_laws.specs.Messages.{payload_held}
 use Rattle.iox_machine.specs.Mailbox.{Mailbox}
 use Rattle.iox_machine.specs.Message.{Loan, Message, Sample}
 
--- The numbers that the machine has for a publisher and a subscriber, by place among those of its kind, and for the message in a slot; and
--- whether messages have sequence numbers.
+-- The numbers that the machine has for a publisher and a subscriber, by its place among those of its kind, and for the message in a slot;
+-- and whether messages have sequence numbers.
 pub record LaneNaming : Type 0 where
   pub publisher : ℕ → ℕ
   pub subscriber : ℕ → ℕ
@@ -82,12 +82,12 @@ module _ {T : Type 0} (value : List ℕ → T) (names : LaneNaming) where
     values = slot_value table slot ∷ [];
   }
 
-  -- The value of a loan, once it is written.
+  -- The value of a loan that is written; none if it isn't written.
   abbrev pub written_value : World → LaneLoan → Option T
   written_value m loan =
       if has_written loan.slot (slice_get m.publishers loan.publisher) then Some (slot_value m.table loan.slot) else None
 
-  -- The loan under the machine's numbers.
+  -- The loan as the machine has it, with the machine's numbers.
   abbrev pub loan_by_numbers : World → LaneLoan → Loan T
   loan_by_numbers m loan = record {
     publisher = names.publisher loan.publisher;
@@ -95,7 +95,7 @@ module _ {T : Type 0} (value : List ℕ → T) (names : LaneNaming) where
     values = written_value m loan ∷ [];
   }
 
-  -- The sample under the machine's numbers.
+  -- The sample as the machine has it, with the machine's numbers.
   abbrev pub sample_by_numbers : World → LaneSample → Sample T
   sample_by_numbers m sample = record {
     publisher = names.publisher sample.publisher;

@@ -1,4 +1,4 @@
--- Which service lanes represent before their first step.
+-- The services that lanes represent before their first step.
 use Rattle.std.specs.Prelude.{ℕ, ◌<◌, ◌≤◌, ◌≡◌, false, true, List, [], length, None, Some}
 use Rattle.iox_command.specs.DomainValues.Actions.{decision_of}
 use Rattle.iox_lanes_machine.specs.QueuesSteps.Ends.{overflows}
@@ -14,7 +14,7 @@ use Rattle.iox_machine.specs.Table.{at}
 
 module _ {T : Type 0} (choices : Choices T) (names : LaneNaming) (sizes : LaneSizes) (service : Service T) where
   -- A publisher that was created and is connected to each subscriber, before it loans and sends. Its messages have no sequence numbers, and
-  -- if mailboxes don't overflow, it may skip full ones.
+  -- if mailboxes don't overflow, it may skip full mailboxes.
   pub record IsUnusedPublisher (place : ℕ) (publisher : Publisher T) : Type 0 where
     pub stands : publisher.stands ≡ true
     pub free : publisher.blocked ≡ None
@@ -61,7 +61,7 @@ module _ {T : Type 0} (choices : Choices T) (names : LaneNaming) (sizes : LaneSi
     pub loans : service.loans ≡ []
     pub samples : service.samples ≡ []
 
--- Lanes that were made, before their first step, represent each such service (`IsUnusedFor`).
+-- Lanes that were made represent, before their first step, each service that has no sequence numbers and is unused (`IsUnusedFor`).
 abbrev pub NewLanesStand : {T : Type 0} → Choices T → (List ℕ → T) → Type 0
 NewLanesStand {T} choices value = (names : LaneNaming) (sizes : LaneSizes) (service : Service T)
     → IsUnusedFor choices names sizes service → LanesStandFor choices value names [] [] (start sizes) service

@@ -1,4 +1,4 @@
--- Which publishers and subscribers of the machine the ports of lanes represent.
+-- The publishers and subscribers of the machine that the ports of lanes represent.
 use Rattle.std.specs.Prelude.{ℕ, ◌<◌, ◌≤◌, ◌≡◌, Bool, true, false, List, length, map, slice_get, None, Some}
 use Rattle.iox_command.specs.DomainValues.Actions.{decision_of}
 use Rattle.iox_command.specs.DomainValues.declared.backpressure.BackpressureDecision.{BackpressureDecision}
@@ -15,8 +15,8 @@ use Rattle.iox_machine.specs.PortList.{those}
 use Rattle.iox_machine.specs.Service.{Publisher, Service, Subscriber}
 use Rattle.iox_machine.specs.Table.{contains}
 
--- The messages of a publisher that are in use have different numbers: each is at least the current segment's first number, and below the
--- next number. The next number isn't below that first one either.
+-- The messages of a publisher that are in use have different numbers: each is at least the current segment's first number, and less than
+-- the next number. The next number isn't less than that first number either.
 pub record NumbersOwn (name : ℕ → ℕ) (m : World) (lane : PublisherLaneState) (first next : ℕ) : Type 0 where
   pub apart : (one other : ℕ) → IsOwn lane.port.book one → IsOwn lane.port.book other → IsInUse m lane one → IsInUse m lane other
       → name one ≡ name other → one ≡ other
@@ -24,14 +24,14 @@ pub record NumbersOwn (name : ℕ → ℕ) (m : World) (lane : PublisherLaneStat
   pub below : (slot : ℕ) → IsOwn lane.port.book slot → IsInUse m lane slot → name slot < next
   pub ahead : first ≤ next
 
--- What a publisher of lanes decides at a full mailbox: it skips the mailbox, and fails or not.
+-- What a publisher of lanes decides at a full mailbox: to skip the mailbox and fail for `true`, to skip it only for `false`.
 abbrev pub passing_over : Bool → BackpressureDecision
 passing_over true = DiscardDataAndFail
 passing_over false = DiscardData
 
 module _ {T : Type 0} (choices : Choices T) (value : List ℕ → T) (names : LaneNaming) (m : World) (service : Service T) where
-  -- The publisher of lanes at this place is this one of the machine. It isn't closed, no send of it is blocked, and it has followed
-  -- the current list of subscribers.
+  -- The publisher of lanes at this place represents this publisher of the machine. It isn't closed, no send of it is blocked, and it has
+  -- followed the current list of subscribers.
   pub record LanePublisherIs (place : ℕ) (lane : PublisherLaneState) (publisher : Publisher T) : Type 0 where
     pub stands : publisher.stands ≡ true
     pub free : publisher.blocked ≡ None
@@ -47,12 +47,12 @@ module _ {T : Type 0} (choices : Choices T) (value : List ℕ → T) (names : La
     pub last : publisher.last_sequence ≡ lane.last
     pub history : publisher.history ≡ map (slot_message value names m.table) lane.port.book.history
     pub numbers : NumbersOwn names.message m lane publisher.first publisher.next
-    -- If mailboxes don't overflow, it may skip full ones as the lane does.
+    -- If mailboxes don't overflow, it may skip full mailboxes as the lane does.
     pub decides : service.settings.enable_safe_overflow ≡ false
         → choices.publisher_decides (names.publisher place) 0 0 (decision_of publisher.strategy publisher.handler) (passing_over lane.fails)
 
-  -- The subscriber of lanes at this place is this one of the machine. It isn't closed, has followed the current list of publishers, and
-  -- nothing of closed publishers is left to it.
+  -- The subscriber of lanes represents this subscriber of the machine. It isn't closed, has followed the current list of publishers, and
+  -- has no expired connection.
   pub record LaneSubscriberIs (lane : SubscriberLaneState) (subscriber : Subscriber) : Type 0 where
     pub stands : subscriber.stands ≡ true
     pub seen : subscriber.seen ≡ service.publisher_list.changes

@@ -1,4 +1,4 @@
--- Which service of the machine lanes represent.
+-- The service of the machine that lanes represent.
 use Rattle.std.specs.Prelude.{ℕ, ◌+◌, ◌<◌, ◌≤◌, ◌≡◌, ◌^◌, Bool, true, List, [], map, is_some, slice_get, Some}
 use Rattle.std.specs.Map.{keys_of}
 use Rattle.iox_lanes_machine.specs.LanesParties.Parties.{PublisherLaneState, SubscriberLaneState}
@@ -28,8 +28,8 @@ pub record CameOverOne (links : List LinkState) (sample : LaneSample) : Type 0 w
   pub found : slice_get links connection ≡ Some link
   pub over : came_over link sample ≡ true
 
--- If messages have sequence numbers, each header has a word for the number, and every publisher has a last number. That is far from the
--- largest one, since it was below 2^63 before the first step.
+-- If messages have sequence numbers, each header has a word for the number, and every publisher has a last number. The last number is far
+-- from the largest one, since it was less than 2^63 before the first step.
 pub record NumbersFit (numbered : Bool) (m : World) : Type 0 where
   pub wide : numbered ≡ true → 1 ≤ m.table.sizes.user_header_words
   pub each : (place : ℕ) (lane : PublisherLaneState) → slice_get m.publishers place ≡ Some lane → is_some lane.last ≡ numbered
@@ -43,7 +43,7 @@ pub record LanesStandFor {T : Type 0} (choices : Choices T) (value : List ℕ �
   -- Nobody is inside a call.
   pub between : AllBetween m
   pub numbers : NumbersFit names.numbered m
-  -- Each publisher and each subscriber is one of the machine, and no two are the same.
+  -- Each publisher and each subscriber represents one of the machine, and no two represent the same one.
   pub publishers : (place : ℕ) (lane : PublisherLaneState) → slice_get m.publishers place ≡ Some lane
       → (publisher : Publisher T) × (at (names.publisher place) service.publishers ≡ Some publisher)
       × LanePublisherIs choices value names m service place lane publisher

@@ -26,18 +26,18 @@ use Rattle.iox_machine.specs.Service.{Service}
 use Rattle.iox_machine.specs.State.{Made, State, counted}
 use Rattle.iox_machine.specs.Table.{at, removed}
 
--- These calls of parties don't overlap: each begins once the one before it has ended, and no other call overlaps it.
+-- These calls of parties don't overlap: each begins after the one before it has ended.
 abbrev pub GoInTurn : World → List (Party × Call) → World → Type 0
 GoInTurn m [] n = n ≡ m
 GoInTurn m (one ∷ more) n = (mid : World) × IsInTurn m one.0 one.1 mid × GoInTurn mid more n
 
--- The numbers that the machine has for what lanes have, and those of the loans and samples.
+-- The names that the machine has for what lanes have, and the numbers of the loans and samples.
 pub record LaneNumbers : Type 0 where
   pub names : LaneNaming
   pub lent : List (ℕ × LaneLoan)
   pub held : List (ℕ × LaneSample)
 
--- No number of a loan or a sample is above the count of those that were made.
+-- No number of a loan or a sample is larger than the count of those that were made.
 pub record AreMade (numbers : LaneNumbers) (made : Made) : Type 0 where
   pub loans : (index : ℕ) (entry : ℕ × LaneLoan) → slice_get numbers.lent index ≡ Some entry → entry.0 ≤ made.loans
   pub samples : (index : ℕ) (entry : ℕ × LaneSample) → slice_get numbers.held index ≡ Some entry → entry.0 ≤ made.samples
@@ -53,8 +53,8 @@ IsHeldAs number place slot numbers =
 
 -- Messages have one value, which is read from the words of a payload.
 module _ {T : Type 0} (value : List ℕ → T) where
-  -- A call with this answer is this command with this reply, under these numbers before and after it, if this many loans and samples were
-  -- made.
+  -- A call with this answer corresponds to this command with this reply, under these numbers before and after it, if this many loans and
+  -- samples were made.
   abbrev pub IsSaid : LaneNumbers → Made → World → World → Party → Call → Answer → Command T → Reply T → LaneNumbers → Type 0
   IsSaid old made m n (Publisher place) call.LoanUninit (answer.Lent given) asked replied new =
       (asked ≡ command.LoanUninit (old.names.publisher place) 1) × (replied ≡ loan_replied (made.loans + 1) given)
@@ -87,7 +87,7 @@ module _ {T : Type 0} (value : List ℕ → T) where
       × (new ≡ record old { held = removed sample old.held })
   IsSaid old made m n party asking given asked replied new = ⊥
 
-  -- Calls that don't overlap are these commands, one each, with these replies.
+  -- Calls that don't overlap correspond to these commands, one each, with these replies.
   abbrev pub AreSaid : LaneNumbers → Made → World → List (Party × Call) → World → List (Command T) → List (Reply T) → LaneNumbers → Type 0
   AreSaid old made m [] n [] [] new = (n ≡ m) × (new ≡ old)
   AreSaid old made m (one ∷ more) n (asked ∷ commands) (replied ∷ replies) new =
@@ -111,7 +111,7 @@ module _ {T : Type 0} (choices : Choices T) (value : List ℕ → T) (types : Me
     pub made : AreMade new after.made
 
   -- Calls that don't overlap, of lanes that represent the one service of a machine, are a run of the machine. No number of a loan or a
-  -- sample may be above the count of those that were made, and there must be fewer than 2^64 slots.
+  -- sample may be larger than the count of those that were made, and there must be fewer than 2^64 slots.
   abbrev pub TurnsAreRuns : Type 0
   TurnsAreRuns = (old : LaneNumbers) (m n : World) (service : Service T) (state : State T) (calls : List (Party × Call))
       → LanesStandFor choices value old.names old.lent old.held m service → AreMade old state.made → state.services ≡ service ∷ []

@@ -1,4 +1,4 @@
--- What lanes whose calls don't overlap record, and how the record relates to the lanes.
+-- The record of lanes whose calls don't overlap, and how it relates to the lanes.
 use Rattle.std.specs.Prelude.{Option, None, Some, Result, Ok, Err, ⊤}
 use Rattle.std.specs.Prelude.{ℕ, ◌+◌, ◌*◌, ◌≡◌, ◌<◌, ◌≤◌, ◌^◌, zero, suc, true, false, List, [], ◌∷◌, ◌++◌, length, slice_get, is_some}
 use Rattle.std.specs.Global.{Vec}
@@ -77,11 +77,11 @@ sample_taken publisher subscriber slot values turns =
           ++ (turns.samples + 1, record { publisher = publisher; subscriber = subscriber; slot = slot }) ∷ [];
     }
 
--- For each port it is chosen what its command named.
+-- What a command named for a port is chosen for it.
 abbrev pub turn_choices : Choices (List ℕ)
 turn_choices = as_named (λ words. ⊤)
 
--- The publisher and the subscriber at a place have the number after the place; messages have no sequence numbers.
+-- The number of a publisher and of a subscriber is its place plus one; messages have no sequence numbers.
 abbrev pub turn_names : LaneNaming
 turn_names = record { publisher = λ place. suc place; subscriber = λ place. suc place; message = λ slot. 0; numbered = false }
 
@@ -90,8 +90,8 @@ abbrev pub GoesThrough : Party → ℕ → World → World → Type 0
 GoesThrough party zero m n = n ≡ m
 GoesThrough party (suc more) m n = (next : World) × StepsTo m party GoOn stepped.Went next × GoesThrough party more next n
 
--- Where the call that a party was in stopped: its next step found no memory for what it records; or it made 2^62 steps or more and isn't
--- over; or it is over, and more than 2^63 steps were made in all.
+-- The lanes where the call that a party was in stopped: its next step found no memory for what it records; or it made 2^62 steps or more
+-- and isn't over; or it is over, and more than 2^63 steps were made in all.
 abbrev pub StoppedBy : Party → World → RanOut → World → Type 0
 StoppedBy party m out.Memory n = (made : ℕ) × GoesThrough party made m n × StepsTo n party GoOn stepped.NoMemory n
 StoppedBy party m (out.Steps made) n = (2 ^ 62 ≤ made) × GoesThrough party made m n
@@ -135,7 +135,7 @@ pub record TurnsStand (turns : Turns) (m : World) (state : State (List ℕ)) : T
   pub samples : state.made.samples ≡ turns.samples
 
 -- Lanes of these sizes go on from here: they came here by steps, nobody is inside a call, each publisher has a connection to each
--- subscriber, and slots have numbers below 2^64.
+-- subscriber, and the numbers of slots are less than 2^64.
 pub record TurnsGoOn (sizes : LaneSizes) (m : World) : Type 0 where
   pub came : CameTo m
   pub between : AllBetween m
@@ -148,7 +148,7 @@ pub record TurnsGoOn (sizes : LaneSizes) (m : World) : Type 0 where
   pub table : m.table.sizes ≡ table_sizes sizes
   pub small : m.table.sizes.slots < 2 ^ 64
 
--- No number of a loan or a sample is above the count of those that were made.
+-- No number of a loan or a sample is larger than the count of those that were made.
 pub record NumbersLow (turns : Turns) : Type 0 where
   pub loans : (index : ℕ) (entry : ℕ × LaneLoan) → slice_get turns.lent index ≡ Some entry → entry.0 ≤ turns.loans
   pub samples : (index : ℕ) (entry : ℕ × LaneSample) → slice_get turns.held index ≡ Some entry → entry.0 ≤ turns.samples
@@ -173,7 +173,7 @@ pub record AreTurns (ran_out : Option RanOut) (turns : Turns) (m : World) : Type
   pub written : ran_out ≡ None → AreWritten turns m
   pub moved : ran_out ≡ None → most_steps turns.sizes < 2 ^ 61 → m.moments ≤ length turns.asked * most_steps turns.sizes
 
--- The loan of the publisher at this place, with this number, or the error.
+-- The loan of the publisher at this place with this number, or the error.
 abbrev pub lent_as : ℕ → LoanAnswer → TurnNumber → Result TurnLoan LoanError
 lent_as place (loan.Slot slot) number = Ok (record { publisher = place; slot = slot; number = number })
 lent_as place loan.ExceedsMaxLoans number = Err refused.ExceedsMaxLoans
@@ -192,7 +192,7 @@ abbrev pub sent_as : SendAnswer → Result ℕ SendError
 sent_as (sent.Delivered delivery) = Ok delivery.taken
 sent_as (sent.UnableToDeliver delivery) = Err error.UnableToDeliver
 
--- The sample that the subscriber at this place received, with this number, none, or the error.
+-- The sample that the subscriber at this place received, with this number; none if it received nothing; or the error.
 abbrev pub taken_as : ℕ → Receipt → TurnNumber → Result (Option TurnSample) ReceiveError
 taken_as place (receipt.Taken at slot) number = Ok (Some (record { subscriber = place; slot = slot; number = number }))
 taken_as place receipt.Nothing number = Ok None

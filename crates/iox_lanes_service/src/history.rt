@@ -28,7 +28,7 @@ impl TurnHistory {
         TurnHistory {}
     }
 
-    // The same history, in which the last call got stuck for this reason.
+    // The same history, but the last call got stuck for this reason.
     pub(crate) fn stopped(&self, why: RanOut) -> TurnHistory
         ensures { result.turns ≡ record self.now.turns { stuck = true; ran_out = Some why } }
     {

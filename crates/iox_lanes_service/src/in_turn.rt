@@ -28,7 +28,8 @@ use iox_queues_base::Words;
 use std::alloc::{AllocError, Global};
 use std::marker::Model;
 
-/// A loan of such lanes, by its publisher's place and its slot. Its number, by which commands name it, exists for proofs only.
+/// A loan of lanes whose calls don't overlap, by its publisher's place and its slot. Its number, by which commands name it, exists for
+/// proofs only.
 ///
 /// Not in `iceoryx2`.
 #[derive(Drop)]
@@ -41,7 +42,8 @@ pub struct TurnLoan {
     pub number: TurnNumber,
 }
 
-/// A sample of such lanes, by its subscriber's place and its slot. Its number, by which commands name it, exists for proofs only.
+/// A sample of lanes whose calls don't overlap, by its subscriber's place and its slot. Its number, by which commands name it, exists for
+/// proofs only.
 ///
 /// Not in `iceoryx2`.
 #[derive(Drop)]
@@ -71,7 +73,7 @@ pub enum RanOut {
 ///
 /// Each method says which command its call is, and how the command is answered. If the call doesn't fit, or if memory or steps ran out
 /// within it, the method returns None or false, and no command is recorded. Once memory or steps ran out, the lanes are stuck: no further
-/// call is made. Memory runs out where a step finds none for what it records. Steps run out where a call made 2^62 and isn't over, or where
+/// call is made. Memory runs out if a step finds none for what it records. Steps run out if a call made 2^62 steps and isn't over, or if
 /// more than 2^63 were made in all. This can happen only if the calls that were answered, and one more, may make 2^61 steps: for P
 /// publishers and S subscribers, if B messages may wait and R samples be borrowed, a call makes at most 4 · S · (B + R + 3) + 8 · P + 7
 /// steps, and one more for each word of user header and payload.
@@ -80,7 +82,7 @@ pub enum RanOut {
 #[derive(Drop)]
 pub struct LanesInTurn {
     lanes: LaneMachine,
-    // What ran out within a call, after which none is made.
+    // What ran out within a call, if anything; then no further call is made.
     ran_out: Option<RanOut>,
     history: TurnHistory,
 }
@@ -97,8 +99,8 @@ impl Model for LanesInTurn {
 }
 
 impl LanesInTurn {
-    /// Lanes of these sizes, of which nothing was asked. `AllocError` is returned where an allocation fails; this includes 2^61 or more
-    /// subscribers, messages that may wait or samples that may be borrowed, and 2^64 or more slots.
+    /// Lanes of these sizes, of which nothing was asked. `AllocError` is returned where an allocation fails, as it does for 2^61
+    /// subscribers, a maximum of 2^61 waiting messages or borrowed samples, and 2^64 slots.
     ///
     /// Example: `let mut lanes = LanesInTurn::new(alloc, sizes)?;`
     pub fn new(alloc: Global, sizes: LaneSizes) -> Result<LanesInTurn, AllocError>
@@ -152,10 +154,10 @@ impl LanesInTurn {
         self.ran_out
     }
 
-    /// The publisher at this place loans a slot for one value, which is the command `LoanUninit`. It fits if the sizes have such a
-    /// publisher.
+    /// The publisher at this place loans a slot for one value, which is the command `LoanUninit`. It fits if the sizes have a publisher at
+    /// this place.
     ///
-    /// Returns `ExceedsMaxLoans` if as many loans are out as may be, and `OutOfMemory` if each slot is in use.
+    /// Returns `ExceedsMaxLoans` if the publisher has as many loans as its loan limit allows, and `OutOfMemory` if each slot is in use.
     ///
     /// Example: `let loan = lanes.loan(0)?;`
     pub fn loan(&mut self, publisher: usize) -> Option<Result<TurnLoan, LoanError>>
@@ -196,8 +198,8 @@ impl LanesInTurn {
         }
     }
 
-    /// A loan's publisher writes these words of payload into it, and keeps these of the user header for its send, which is the command
-    /// `Fill`. Returns whether it did. It fits if the words are as many as the lanes' sizes say.
+    /// A loan's publisher writes these words of payload into it, and keeps these words of the user header for its send, which is the
+    /// command `Fill`. Returns whether it did. It fits if the numbers of words are those of the lanes' sizes.
     ///
     /// Example: `let is_written = lanes.write(&loan, payload, user_header);`
     pub fn write(&mut self, loan: &TurnLoan, payload: Vec<u64>, user_header: Vec<u64>) -> bool
@@ -275,7 +277,7 @@ impl LanesInTurn {
     /// A loan is sent, which is the command `Send`, and has no number after that. It fits if the loan was written. Returns how many
     /// mailboxes took the message.
     ///
-    /// Returns `UnableToDeliver` if the publisher fails at full mailboxes, and one refused the message.
+    /// Returns `UnableToDeliver` if the publisher's sends fail at full mailboxes, and a full mailbox refused the message.
     ///
     /// Example: `let taken = lanes.send(&loan)?;`
     pub fn send(&mut self, loan: &TurnLoan) -> Option<Result<u64, SendError>>
@@ -350,10 +352,10 @@ impl LanesInTurn {
         }
     }
 
-    /// The subscriber at this place receives, which is the command `Receive`. It fits if the sizes have such a subscriber. Returns the
-    /// sample, or `Ok(None)` if no message waits.
+    /// The subscriber at this place receives, which is the command `Receive`. It fits if the sizes have a subscriber at this place. Returns
+    /// the sample, or `Ok(None)` if no message waits.
     ///
-    /// Returns `ExceedsMaxBorrows` if messages wait only where it has borrowed as many samples as it may.
+    /// Returns `ExceedsMaxBorrows` if messages wait only at connections from which the subscriber has borrowed its maximum of samples.
     ///
     /// Example: `let sample = lanes.receive(0)?;`
     pub fn receive(&mut self, subscriber: usize) -> Option<Result<Option<TurnSample>, ReceiveError>>
@@ -508,7 +510,7 @@ fn sent_as(given: SendAnswer) -> Result<u64, SendError>
     }
 }
 
-// The sample that the subscriber at this place received, with this number, none, or the error.
+// The sample that the subscriber at this place received, with this number; none if it received nothing; or the error.
 fn taken_as(
     subscriber: usize,
     given: Receipt,

@@ -3,8 +3,8 @@
 //!
 //! `LanesStandFor` says which service of the machine lanes represent between calls, and under which names. Each theorem is about one kind
 //! of call: if lanes represent a service, and a call runs alone from its beginning to its end, then a machine that has only this service
-//! can do the command that the call means, with the same answer, and has a service then that the lanes represent. Sends and receives of the
-//! machine begin with an update; lanes need none, since no list of ports changes there.
+//! can do the command that corresponds to the call, with the same answer, and afterwards has a service that the lanes represent. Sends and
+//! receives of the machine begin with an update; lanes need none, since no list of ports changes there.
 //!
 //! [`LanesInTurn`] are lanes that make one whole call after the other. They record, for proofs only, which commands were asked and what was
 //! answered: a run of the machine, stated without lanes. A call that fits is answered, unless memory or steps ran out ([`RanOut`]).
@@ -37,15 +37,15 @@ pub use in_turn::{LanesInTurn, RanOut, TurnLoan, TurnSample};
 use iox_domain_values::{Decides, Degrades};
 
 /// Lanes that were just made represent a service where at least as many ports were created, with the same sizes, if the ports are connected
-/// and nothing was loaned or sent yet. If mailboxes don't overflow, the service's publishers must be allowed to skip full ones.
+/// and nothing was loaned or sent yet. If mailboxes don't overflow, the service's publishers must be allowed to skip full mailboxes.
 pub fn new_lanes_stand<T: Default, B: Decides + Degrades, D: Degrades>()
     ensures { (handed : Handed B D) (value : List ℕ → T) → NewLanesStand (chosen_by T.is_default
         (λ who. B.decides who) (λ who. B.degrades who) (λ who. D.degrades who) handed) value }
 {}
 
 /// A receive, a read and a release that no other call overlaps are steps of the machine's service that the lanes represent. A sample that
-/// is taken gets the next number, which no sample has yet. A read returns the value that the machine answers, one for a message, and the
-/// sequence number that the machine reports, if messages have one. The step doesn't say from which place a receive took. It holds as long
+/// is taken gets the next number, which no sample has yet. A read returns the value that the machine answers, one for each message, and the
+/// sequence number that the machine reports, if messages have one. The step doesn't say from which place a receive took. This holds as long
 /// as at most 2^63 steps were made.
 pub fn subscribers_take_steps<T: Default, B: Decides + Degrades, D: Degrades>()
     ensures receives { (handed : Handed B D) (value : List ℕ → T) (types : MessageTypeDetails) (buffer : ℕ)
@@ -63,11 +63,11 @@ pub fn subscribers_take_steps<T: Default, B: Decides + Degrades, D: Degrades>()
 {}
 
 /// A loan, a write, a send and the dropping of a loan that no other call overlaps are steps of the machine's service that the lanes
-/// represent. A loan gets the next number, which no loan has yet, for slots with numbers below 2^64. A write fills its loan with the value
-/// of its words. A send finds nothing new in the list of subscribers, and skips each full mailbox, with or without failing: the machine's
-/// publisher must be allowed to decide so, if mailboxes don't overflow. The message gets the same sequence number as in the machine, if
-/// messages have one. What else is in headers and user headers isn't part of a step, nor is how many mailboxes refused a message. It holds
-/// as long as at most 2^63 steps were made.
+/// represent. A loan gets the next number, which no loan has yet, for slots with numbers less than 2^64. A write fills its loan with the
+/// value of its words. A send finds nothing new in the list of subscribers, and skips each full mailbox, with or without failing: the
+/// machine's publisher must be allowed to decide so, if mailboxes don't overflow. The message gets the same sequence number as in the
+/// machine, if messages have one. What else is in headers and user headers isn't part of a step, nor is how many mailboxes refused a
+/// message. This holds as long as at most 2^63 steps were made.
 pub fn publishers_take_steps<T: Default, B: Decides + Degrades, D: Degrades>()
     ensures loans { (handed : Handed B D) (value : List ℕ → T) (types : MessageTypeDetails) (buffer : ℕ)
         → LoansAreSteps (chosen_by T.is_default (λ who. B.decides who) (λ who. B.degrades who)
@@ -85,8 +85,8 @@ pub fn publishers_take_steps<T: Default, B: Decides + Degrades, D: Degrades>()
 
 /// Whole calls of lanes that don't overlap are a run of the machine: each call is a command, with its reply, and afterwards the lanes
 /// represent the service that the machine has. Before, the lanes must represent the machine's one service, no number of a loan or a sample
-/// may be above the count of those that were made, and there must be fewer than 2^64 slots. It holds as long as at most 2^63 steps were
-/// made.
+/// may be larger than the count of those that were made, and there must be fewer than 2^64 slots. This holds as long as at most 2^63 steps
+/// were made.
 pub fn turns_are_a_run<T: Default, B: Decides + Degrades, D: Degrades>()
     ensures { (handed : Handed B D) (value : List ℕ → T) (types : MessageTypeDetails) (buffer : ℕ)
         → TurnsAreRuns (chosen_by T.is_default (λ who. B.decides who) (λ who. B.degrades who)
@@ -94,7 +94,7 @@ pub fn turns_are_a_run<T: Default, B: Decides + Degrades, D: Degrades>()
 {}
 
 /// For any sizes there is a state of the machine from which lanes of these sizes go on: it has one service with these sizes, where as many
-/// ports were created, and nothing was loaned or sent yet. It isn't said that a new machine can reach this state.
+/// ports were created, and nothing was loaned or sent yet. The theorem doesn't say that a new machine can reach this state.
 pub fn turns_begin()
     ensures { TurnsBegin }
 {}

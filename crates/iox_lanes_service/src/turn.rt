@@ -11,7 +11,7 @@ use iox_lanes_machine::LaneMachine;
 use iox_lanes_parties::{Answer, Call, Move, Party};
 use iox_queues_steps::Stepped;
 
-// No call takes this many steps.
+// Each call takes fewer steps than this.
 const STEPS: u64 = 1 << 62;
 
 /// How a whole call came out.
@@ -25,8 +25,8 @@ pub(crate) enum Turn {
     Ended(Answer),
 }
 
-// Makes the steps of the call that a party is in, up to its last one, with which one call more ended. Returns what ran out before that, if
-// anything did.
+// Makes the steps of the call that a party is in, up to its last one, which ends the call. Returns what ran out before that, if anything
+// did.
 fn goes_to_end(lanes: &mut LaneMachine, party: Party) -> Result<(), RanOut>
     requires { fits lanes.old party Move.GoOn ≡ true }
     ensures { MatchResult result

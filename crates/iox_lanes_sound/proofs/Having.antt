@@ -101,7 +101,7 @@ listed_as number_of (Some member ∷ rest) (suc place) number is =
     let later = listed_as number_of rest place number is in
     (suc later.0, later.1, later.2, later.3)
 
--- the slots of publishers lie in rows, each publisher's before those of the ones behind it
+-- the slots of publishers lie in rows, each publisher's before those of the ones after it
 abbrev pub InRows : List PublisherLaneState → Type 0
 InRows lanes = (one other : ℕ) (lane behind : PublisherLaneState) → slice_get lanes one ≡ Some lane → slice_get lanes other ≡ Some behind
     → one < other → lane.port.book.first + length lane.port.book.loans ≤ behind.port.book.first

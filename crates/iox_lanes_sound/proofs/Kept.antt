@@ -301,7 +301,7 @@ module _ {T U : Type 0} where
       keeps_on updated (begun_at at updated) new (keeps_begun at (slice_get updated.sender.uses.loans at) updated)
       (keeps_finishes may (begun_at at updated) new sends.0 sends.1)
 
-  -- a send that waits is tried again, or given up
+  -- a blocked send is tried again, or given up
   keeps_retries_by : (blocked : Bool) (may : BackpressureInfo → BackpressureDecision → Type 0) (elapsed : ℕ) (old new : PublisherPort T U)
       (answer : Option (Result Sent SendError)) → publishing.RetriesIf blocked may elapsed old answer new → Keeps old new
   keeps_retries_by false may elapsed old new answer retries = keeps_is old new retries.1

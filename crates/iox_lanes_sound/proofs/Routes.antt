@@ -19,7 +19,7 @@ use Rattle.iox_lanes_machine.specs.World.{World}
 use Rattle.iox_lanes_machine.specs.declared.found.Found.{Found}
 use Rattle.iox_lanes_machine.specs.declared.sizes.LaneSizes.{LaneSizes}
 
--- each connection of a publisher has the number of its place, publisher by publisher, for so many subscribers
+-- each connection of a publisher has the number of its place, publisher by publisher, for n subscribers
 abbrev pub InPlaceOrder : ℕ → World → Type 0
 InPlaceOrder subscribers m = (place : ℕ) (lane : PublisherLaneState) → slice_get m.publishers place ≡ Some lane → (index : ℕ)
     (route : Route) → slice_get lane.port.routes index ≡ Some route → route.connection ≡ place * subscribers + index

@@ -74,7 +74,7 @@ one_of_slot messages slot moment (suc many) number is =
     by true sent last rest = of (slice_get messages many) refl sent (some_is many number last)
     by false sent last rest = rest last
 
--- the fourth word of a slot is the first one behind its header, if there is one
+-- the fourth word of a slot is the first one after its header, if there is one
 fourth_held : (table : TableWords) (slot : ℕ) → 0 < table.sizes.user_header_words
     → get_or (slot_held table slot) 3 0 ≡ held_by table (Slot slot (UserHeader 0))
 fourth_held table slot some =

@@ -156,7 +156,7 @@ module _ {T U : Type 0} where
   sends_after_stay may at (Ok done) updated new answer sends =
       finishes_stay may (begun_at at updated) new sends.0 sends.1 ∙ begun_stays at (slice_get updated.sender.uses.loans at) updated
 
-  -- a send that waits is tried again, or given up
+  -- a blocked send is tried again, or given up
   retries_by : (blocked : Bool) (may : BackpressureInfo → BackpressureDecision → Type 0) (elapsed : ℕ) (old new : PublisherPort T U)
       (answer : Option (Result Sent SendError)) → publishing.RetriesIf blocked may elapsed old answer new → followed new ≡ followed old
   retries_by false may elapsed old new answer retries = ap followed retries.1

@@ -149,7 +149,7 @@ module _ {T U : Type 0} where
   abbrev AllListed : RollState SubscriberEntry → PublisherPort T U → Type 0
   AllListed list port = (place index : ℕ) → get_or port.ties.items place None ≡ Some index → is_listed place list ≡ true
 
-  -- all places are followed, and those behind the end of the list
+  -- all places are followed, and those after the end of the list
   follows_all : (list : RollState SubscriberEntry) (may : DegradationInfo → DegradationAction → Type 0) (first : ℕ)
       (listed : List (Option (Member SubscriberEntry))) (found : Option ConnectionFailure) (old new : PublisherPort T U)
       (answer : Result (Unit {0}) ConnectionFailure)

@@ -1,4 +1,4 @@
--- What waits and what is in a history in the lanes of a domain, by the machine's service that its ports represent.
+-- The messages that wait and those of histories in the lanes of a domain, by the machine's service that its ports represent.
 use Rattle.std.specs.Prelude.{ℕ, ◌+◌, ◌-◌, ◌<◌, ◌≤◌, ◌≡◌, Bool, true, List, [], ◌∷◌, length, map, get_or, slice_get, is_some, nat_lt, None}
 use Rattle.std.specs.Prelude.{Some}
 use Rattle.std.specs.Prelude.{if◌then◌else◌}
@@ -49,8 +49,8 @@ pub record AreReadBack {T U : Type 0} (payload_words : T → List ℕ) (value : 
       → All (IsReadBack payload_words value ports.sizes.sequence_numbers) (connection_of index port).waiting
 
 module _ {T : Type 0} (value : List ℕ → T) (names : LaneNaming) (m : World) where
-  -- A publisher of lanes is this one of the machine, apart from its connections. It isn't closed, no send of it is blocked, its loan limit
-  -- is the same for messages of one value, and its last sequence number and its history are the same.
+  -- A publisher of lanes represents this publisher of the machine, apart from its connections. It isn't closed, no send of it is blocked,
+  -- its loan limit is the same for messages of one value, and its last sequence number and its history are the same.
   pub record RemembersAs (lane : PublisherLaneState) (publisher : Publisher T) : Type 0 where
     pub stands : publisher.stands ≡ true
     pub free : publisher.blocked ≡ None
@@ -60,10 +60,10 @@ module _ {T : Type 0} (value : List ℕ → T) (names : LaneNaming) (m : World) 
     pub last : publisher.last_sequence ≡ lane.last
     pub history : publisher.history ≡ map (slot_message value names m.table) lane.port.book.history
 
-  -- Lanes before their first step have the messages of a service: each publisher is one of the service with the same history, and each
-  -- connection is the mailbox of its ports, where the same messages wait and none is borrowed, and which overflows or refuses as agreed. No
-  -- two publishers have one name, and no two subscribers. Nothing is loaned or borrowed in the service, and if messages have sequence
-  -- numbers, headers have a word for them.
+  -- Lanes before their first step have the messages of a service: each publisher represents one of the service with the same history, and
+  -- each connection represents the mailbox of its ports, where the same messages wait and none is borrowed, and which overflows or refuses
+  -- as agreed. No two publishers have one name, and no two subscribers. Nothing is loaned or borrowed in the service, and if messages have
+  -- sequence numbers, headers have a word for them.
   pub record HaveMessages (service : Service T) : Type 0 where
     pub publishers : (place : ℕ) (lane : PublisherLaneState) → slice_get m.publishers place ≡ Some lane
         → (publisher : Publisher T) × (at (names.publisher place) service.publishers ≡ Some publisher) × RemembersAs lane publisher

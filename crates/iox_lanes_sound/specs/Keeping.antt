@@ -30,15 +30,15 @@ use Rattle.iox_lanes_opening.specs.declared.refusals.into_lanes_error.IntoLanesE
 use Rattle.iox_lanes_sound.specs.Standing.{AllKeepToOne}
 use Rattle.iox_machine.specs.Service.{Service}
 
--- The slots of a publisher whose capacity doesn't grow are of one segment. It keeps no more messages than agreed. At least one message may
--- wait at each connection that exists, and at each that is made.
+-- The slots of a publisher whose capacity doesn't grow are of one segment. The publisher keeps at most the agreed history. At least one
+-- message may wait at each of its connections that exists, and at each that will be made.
 pub record KeepsToOneIfStatic {T U : Type 0} (port : PublisherPort T U) : Type 0 where
   pub first : port.allocation ≡ strategy.Static → port.sender.uses.first ≡ 0
   pub few : length port.sender.uses.history ≤ port.sender.uses.kept
   pub some : (index : ℕ) → is_there (connection_of index port) ≡ true → 0 < (connection_of index port).limit
   pub room : 0 < port.sender.uses.most_waiting
 
--- The publisher with this number keeps to this (`KeepsToOneIfStatic`).
+-- The publisher with this number is as `KeepsToOneIfStatic` says.
 abbrev pub IsKeptToOne : {T U : Type 0} → ℕ × PublisherPort T U → Type 0
 IsKeptToOne (number, port) = KeepsToOneIfStatic port
 
@@ -46,7 +46,7 @@ IsKeptToOne (number, port) = KeepsToOneIfStatic port
 abbrev pub MayWaitFor : ℕ × SubscriberPort → Type 0
 MayWaitFor (number, port) = 0 < port.buffer_size
 
--- A service lets at least one message wait, for each subscriber that it has or lists, too, and each publisher keeps to one segment if its
+-- A service lets at least one message wait, also for each subscriber that it has or lists, and each publisher keeps to one segment if its
 -- capacity doesn't grow.
 pub record KeepToOneIfStatic {T U : Type 0} (ports : ServicePorts T U) : Type 0 where
   pub room : 0 < ports.sizes.subscriber_max_buffer_size

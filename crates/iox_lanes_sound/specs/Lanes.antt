@@ -44,12 +44,11 @@ StandAsPorts {T} choices payload_words value domain lanes senders readers = (nam
     → AreRoomy domain.state.ports → AreReadBack payload_words value domain.state.ports → DecideAsKept choices names domain service
     → LanesStandFor choices value (lane_names names domain.state.ports.sizes.sequence_numbers senders readers lanes) [] [] lanes service
 
--- The numbers that the machine has for what lanes have before their first step: no loan and no sample is out.
+-- The numbers that the machine has for what lanes have before their first step: there is no loan and no sample.
 abbrev pub begun_numbers : LaneNaming → LaneNumbers
 begun_numbers names = record { names = names; lent = []; held = [] }
 
--- Calls that don't overlap, begun on the lanes of this domain, are a run of a machine whose one service is the one that the ports
--- represent.
+-- Calls that don't overlap, from the lanes of this domain on, are a run of a machine whose one service is the one that the ports represent.
 abbrev pub TurnsGoOnAsPorts : {T U X Y D : Type 0} {F : X → Type 0} {G : Y → Type 0} → Choices T → (T → List ℕ) → (List ℕ → T)
     → Domain T U (Handlers X Y F G) D → World → List ℕ → List ℕ → Type 0
 TurnsGoOnAsPorts {T} choices payload_words value domain lanes senders readers = (types : MessageTypeDetails) (most_buffered : ℕ)

@@ -23,19 +23,19 @@ use Rattle.iox_lanes_machine.specs.World.{World}
 abbrev pub waiting_sequences : {T U : Type 0} → ℕ → PublisherPort T U → List ℕ
 waiting_sequences {T} {U} index port = map (λ (message : Message T U). unwrap_or message.sequence 0) (connection_of index port).waiting
 
--- At each connection that leads to a subscriber, of a publisher with sequence numbers, the numbers of what waits rise, from above 0 up to
--- the publisher's last number at most.
+-- At each connection that leads to a subscriber, of a publisher with sequence numbers, the numbers of what waits rise: they are larger than
+-- 0, and at most the publisher's last number.
 abbrev pub SequencesWait : {T U : Type 0} → ServicePorts T U → Type 0
 SequencesWait {T} {U} ports = (number last index subscriber : ℕ) (port : PublisherPort T U) → port_of number ports.publishers ≡ Some port
     → port.last_sequence ≡ Some last → leads_at index subscriber port ≡ true → GoUpTo 0 (waiting_sequences index port) last
 
--- At each connection of lanes whose publisher has sequence numbers, those of the messages that were found to wait there rise, from above 0
--- up to the publisher's last number at most.
+-- At each connection of lanes whose publisher has sequence numbers, those of the messages that were found to wait there rise: they are
+-- larger than 0, and at most the publisher's last number.
 abbrev pub SequencesFound : World → List MessageState → Type 0
 SequencesFound m messages = (connection last : ℕ) (link : LinkState) (lane : PublisherLaneState) → slice_get m.links connection ≡ Some link
     → slice_get m.publishers link.publisher ≡ Some lane → lane.last ≡ Some last → GoUpTo 0 (sequences_found messages link) last
 
--- After any calls of a new service, the sequence numbers of what waits rise so (`SequencesWait`).
+-- After any calls of a new service, the sequence numbers of what waits rise as `SequencesWait` says.
 abbrev pub SequencesStayUp : (T U : Type 0) → (ℕ → ℕ → Type 0) → (DegradationInfo → DegradationAction → Type 0)
     → (BackpressureInfo → BackpressureDecision → Type 0) → Type 0
 SequencesStayUp T U overrides may decide = (service : ℕ) (sizes : ServiceSizes) (calls : List (PortCall T U × ServicePorts T U))

@@ -14,19 +14,20 @@ use Rattle.iox_lanes_opening.specs.Lingering.{is_lingering}
 use Rattle.iox_lanes_opening.specs.Soundness.{is_unsound}
 use Rattle.iox_machine.specs.Service.{Service}
 
--- The slots of a publisher are of one segment, it keeps no more messages than agreed, and at least one message may wait at each connection
+-- The slots of a publisher are of one segment, it keeps at most the agreed history, and at least one message may wait at each connection
 -- that exists.
 pub record KeepsToOne {T U : Type 0} (port : PublisherPort T U) : Type 0 where
   pub first : port.sender.uses.first ≡ 0
   pub few : length port.sender.uses.history ≤ port.sender.uses.kept
   pub some : (index : ℕ) → is_there (connection_of index port) ≡ true → 0 < (connection_of index port).limit
 
--- Each of these publishers keeps to this (`KeepsToOne`).
+-- Each of these publishers is as `KeepsToOne` says.
 abbrev pub AllKeepToOne : {T U : Type 0} → ServicePorts T U → Type 0
 AllKeepToOne ports = All (λ entry. KeepsToOne entry.1) ports.publishers
 
--- Ports that represent a service of the machine and are in order are sound, if nothing lingers of them, and each publisher keeps to one
--- segment, to the agreed history, and to connections at which a message may wait.
+-- Ports that represent a service of the machine and are in order are sound, if they have no loan, no sample, no connection of a closed
+-- publisher and no closed port (`is_lingering`), and each publisher keeps to one segment, to the agreed history, and to connections at
+-- which a message may wait.
 abbrev pub StandingPortsAreSound : (T U : Type 0) → Type 0
 StandingPortsAreSound T U = (names : Naming) (lent : List (ℕ × LentSlot)) (held : List (ℕ × Taken)) (buffer : ℕ)
     (ports : ServicePorts T U) (service : Service T) → StandsFor names lent held buffer ports service → AreRoomy ports

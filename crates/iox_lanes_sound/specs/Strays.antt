@@ -1,4 +1,5 @@
--- What no call of a domain leaves: a place where nobody is listed that is tied to a connection of a publisher that followed the list.
+-- Calls of a domain never leave a stray tie: a place where nobody is listed that a publisher which followed the list has tied to a
+-- connection.
 use Rattle.std.specs.Prelude.{ℕ, ◌≡◌, ◌≢◌, ◌<◌, ◌≤◌, ◌==◌, ◌&&◌, ◌⊎◌, true, false, List, get_or, Option, None, Some}
 use Rattle.std.specs.List.{All}
 use Rattle.iox_domain.specs.Calls.{PortCall, Happens}
@@ -21,8 +22,8 @@ use Rattle.iox_domain.specs.declared.ports.service_ports.ServicePorts.{ServicePo
 use Rattle.iox_lanes_opening.specs.Listed.{of_each_listed}
 use Rattle.iox_lanes_opening.specs.UpToDate.{has_stray_tie, is_connected, is_current_port}
 
--- A publisher has seen no more changes of the list of subscribers than there were. If it has seen them all, somebody is listed at each
--- place that it has tied to a connection.
+-- A publisher has seen at most as many changes of the list of subscribers as there were. If it has seen them all, somebody is listed at
+-- each place that it has tied to a connection.
 pub record IsWithoutStrays {T U : Type 0} (list : RollState SubscriberEntry) (port : PublisherPort T U) : Type 0 where
   pub seen : port.seen ≤ list.changes
   pub listed : port.seen ≡ list.changes → (place index : ℕ) → get_or port.ties.items place None ≡ Some index → is_listed place list ≡ true
@@ -35,9 +36,9 @@ IsEntryWithoutStrays list (number, port) = IsWithoutStrays list port
 abbrev pub AreWithoutStrays : {T U : Type 0} → ServicePorts T U → Type 0
 AreWithoutStrays ports = All (IsEntryWithoutStrays ports.subscriber_list) ports.publishers
 
--- The publishers of a new service are without strays. They are so after each call, and after any calls from a new service on. Then none
--- that has seen all changes of the list of subscribers has a stray tie. So it is up to date exactly if it has seen them, and shares a
--- connection with each listed subscriber.
+-- The publishers of a new service are without strays, and so they are after each call, and after any calls from a new service on. Then no
+-- publisher that has seen all changes of the list of subscribers has a stray tie. So a publisher is up to date exactly if it has seen all
+-- changes, and shares a connection with each listed subscriber.
 pub record LeaveNoStrays (T U : Type 0) (overrides : ℕ → ℕ → Type 0) (may : DegradationInfo → DegradationAction
     → Type 0) (decide : BackpressureInfo → BackpressureDecision → Type 0) : Type 0 where
   pub begins : (service : ℕ) (sizes : ServiceSizes) (ports : ServicePorts T U) → ports ≡ no_ports service sizes → AreWithoutStrays ports

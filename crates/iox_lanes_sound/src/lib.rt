@@ -1,5 +1,5 @@
-//! Theorems: which domains become lanes, and what the lanes represent. If the ports represent a service of the machine, most of what
-//! `refusal` checks last is proved to hold.
+//! Theorems: which domains become lanes, and what the lanes represent. If the ports represent a service of the machine, they are proved to
+//! be sound, under the premises of [`standing_ports_are_sound`].
 //!
 //! The lanes that they become represent the same service, so calls that don't overlap go on with the machine's run.
 //!
@@ -43,23 +43,24 @@ use iox_domain_values::{Decides, Degrades, Overrides};
 use iox_lanes::DomainLanes;
 use iox_queues_base::Words;
 
-/// Ports that represent a service of the machine are never `Unsound`, if nothing lingers of them, and if each publisher has three
-/// properties that the machine doesn't state: its slots are of one segment, it keeps no more messages than agreed, and at least one message
-/// may wait at each of its connections. Calls keep these properties, where no capacity grows (`calls_keep_to_one`). Calls leave ports that
-/// represent a service (`StandsFor`, by the theorems of `iox_domain_machine`) and are in order (`AreRoomy`, by those of `iox_domain`).
+/// Ports that represent a service of the machine are never `Unsound`, if they have no loan, no sample, no connection of a closed publisher
+/// and no closed port, and if each publisher has three properties that the machine doesn't state: its slots are of one segment, it keeps at
+/// most the agreed history, and at least one message may wait at each of its connections. Calls keep these properties, where no capacity
+/// grows (`calls_keep_to_one`). Calls leave ports that represent a service (`StandsFor`, by the theorems of `iox_domain_machine`) and are
+/// in order (`AreRoomy`, by those of `iox_domain`).
 ///
-/// So each port is listed only at its own place, no two messages of a history or a mailbox are in one slot, no more messages wait than may,
-/// and no two connections of a subscriber come from one publisher.
+/// So each port is listed only at its own place, no two messages of a history or a mailbox are in one slot, no more messages wait at a
+/// connection than its maximum, and no two connections of a subscriber come from one publisher.
 pub fn standing_ports_are_sound<T, U>()
     ensures { StandingPortsAreSound T U }
 {}
 
 /// The lanes that `into_lanes` makes have the messages of each service of the machine that the ports of their domain represent, under the
 /// service's names for these. Each publisher has the same history, last sequence number and loan limit. Each connection is the mailbox of
-/// its two ports: the same messages wait there, under the same names, with the same values and sequence numbers, and as many may wait. No
-/// two ports of a kind have one name.
+/// its two ports: the same messages wait there, under the same names, with the same values and sequence numbers, and with the same maximum.
+/// No two ports of a kind have one name.
 ///
-/// What it requires of the lanes is what `into_lanes` ensures. Of the messages it requires that their words give their values back, and
+/// The theorem requires of the lanes what `into_lanes` ensures. It requires of the messages that their words give their values back, and
 /// that each has a sequence number exactly if the service agreed on `sequence_numbers` (`AreReadBack`).
 pub fn lanes_have_messages<T: Words, U: Words>(opened: &DomainLanes<T, U>)
     requires none { first_reason opened.now.domain ≡ None }
@@ -81,12 +82,12 @@ pub fn lanes_have_messages<T: Words, U: Words>(opened: &DomainLanes<T, U>)
 /// listed. What waits and what is in a history is the same, each message with its own number. Nothing is loaned or borrowed, and other
 /// mailboxes are empty.
 ///
-/// What it requires of the lanes is what `into_lanes` ensures; that refuses a domain where a port isn't up to date, something lingers, or a
-/// handler other than a fixed action decides. Ports represent a service and are in order (`AreRoomy`) after any calls. Of the messages it
-/// requires that their words give their values back, and that each has a sequence number exactly if the service agreed on
-/// `sequence_numbers` (`AreReadBack`). If mailboxes may refuse, the decision of the fixed action that is kept for a publisher must be one
-/// that may be chosen for the machine's publisher (`DecideAsKept`): this holds if its command named that action, or its handlers are handed
-/// in.
+/// The theorem requires of the lanes what `into_lanes` ensures. `into_lanes` refuses a domain where a port isn't up to date, where a loan,
+/// a sample, a connection of a closed publisher or a closed port exists, or where a handler other than a fixed action decides. After any
+/// calls, ports represent a service and are in order (`AreRoomy`). The theorem requires of the messages that their words give their values
+/// back, and that each has a sequence number exactly if the service agreed on `sequence_numbers` (`AreReadBack`). If mailboxes may refuse,
+/// the decision of the fixed action that is kept for a publisher must be one that may be chosen for the machine's publisher
+/// (`DecideAsKept`): this holds if its command named that action, or its handlers are handed in.
 pub fn lanes_stand<T: Words + Default, U: Words, B: Decides + Degrades, D: Degrades>(
     opened: &DomainLanes<T, U>,
 )
@@ -107,9 +108,9 @@ pub fn lanes_stand<T: Words + Default, U: Words, B: Decides + Degrades, D: Degra
 {}
 
 /// Whole calls of the lanes that `into_lanes` makes, none of which overlaps another, are a run of a machine whose one service is the one
-/// that the ports of their domain represent: the run goes on from it. Each call is a command, with its reply, and the lanes represent then
-/// the service that the machine has. The premises are those of `lanes_stand`, and that there are fewer than 2^64 slots, as `into_lanes`
-/// ensures. It holds as long as at most 2^63 steps were made.
+/// that the ports of their domain represent. Each call corresponds to a command, with its reply, and afterwards the lanes represent the
+/// service that the machine has. The premises are those of `lanes_stand`, and that there are fewer than 2^64 slots, as `into_lanes`
+/// ensures. This holds as long as at most 2^63 steps were made.
 pub fn turns_go_on_from_ports<T: Words + Default, U: Words, B: Decides + Degrades, D: Degrades>(
     opened: &DomainLanes<T, U>,
 )
@@ -130,9 +131,9 @@ pub fn turns_go_on_from_ports<T: Words + Default, U: Words, B: Decides + Degrade
         opened.now.domain opened.now.lanes.lanes opened.now.publishers.items opened.now.subscribers.items }
 {}
 
-/// In the lanes that `into_lanes` makes, the sequence numbers of what was found to wait at a connection rise, from above 0 up to the last
-/// number of its publisher at most, as `gaps_are_missed` of `iox_lanes_laws` requires. It holds if they do in the domain (`SequencesWait`),
-/// as `sequences_stay_up` says of any calls. What it requires of the lanes is what `into_lanes` ensures.
+/// In the lanes that `into_lanes` makes, the sequence numbers of what was found to wait at a connection rise, and are larger than 0 and at
+/// most the last number of its publisher, as `gaps_are_missed` of `iox_lanes_laws` requires. This holds if it does in the domain
+/// (`SequencesWait`), as `sequences_stay_up` says of any calls. The theorem requires of the lanes what `into_lanes` ensures.
 pub fn found_sequences_go_up<T: Words, U: Words>(opened: &DomainLanes<T, U>)
     requires none { first_reason opened.now.domain ≡ None }
     requires came { CameTo opened.now.lanes.lanes }
@@ -144,8 +145,8 @@ pub fn found_sequences_go_up<T: Words, U: Words>(opened: &DomainLanes<T, U>)
     ensures { SequencesWait opened.now.domain.state.ports → SequencesFound opened.now.lanes.lanes opened.now.lanes.messages }
 {}
 
-/// Any calls of a new service leave its ports so that the sequence numbers of what waits at a connection rise, from above 0 up to the last
-/// number of its publisher at most, whatever override and handlers answer.
+/// After any calls of a new service, the sequence numbers of what waits at a connection rise, and are larger than 0 and at most the last
+/// number of its publisher, whatever override and handlers answer.
 pub fn sequences_stay_up<T, U, O: Overrides, B: Decides + Degrades>(_overriding: &O, _handlers: &B)
     ensures { SequencesStayUp T U (O.overrides _overriding.now) (B.degrades _handlers.now cause.FailedToEstablishConnection)
         (B.decides _handlers.now) }
@@ -156,8 +157,8 @@ pub fn sequences_stay_up<T, U, O: Overrides, B: Decides + Degrades>(_overriding:
 /// seen them all, somebody is listed at each place that is tied to a connection. It holds for a new service (`begins`), after each call,
 /// whatever override and handlers answer (`goes_on`), and so after any calls from a new service on (`stays`).
 ///
-/// Of such ports none that has seen all changes has a stray tie (`tame`). So a publisher is up to date exactly if it has seen them all, and
-/// shares a connection with each listed subscriber (`current`).
+/// If ports are as calls leave them, no publisher that has seen all changes has a stray tie (`tame`). So a publisher is up to date exactly
+/// if it has seen them all, and shares a connection with each listed subscriber (`current`).
 pub fn calls_leave_no_strays<T, U, O: Overrides, B: Decides + Degrades>(
     _overriding: &O,
     _handlers: &B,
@@ -166,30 +167,29 @@ pub fn calls_leave_no_strays<T, U, O: Overrides, B: Decides + Degrades>(
         (B.decides _handlers.now) }
 {}
 
-/// A domain whose ports are as calls leave them (`AreWithoutStrays`) is refused as `ConnectionsNotUpToDate` only if a listed port lags
-/// behind. Either a
-/// listed publisher doesn't exist, hasn't seen all changes of the list of subscribers, or shares no connection with a listed subscriber; or
-/// a listed subscriber doesn't exist, hasn't followed the current list of publishers, or has to follow it again.
+/// A domain whose ports are as calls leave them (`AreWithoutStrays`) is refused as `ConnectionsNotUpToDate` only if a listed port isn't up
+/// to date. Either a listed publisher doesn't exist, hasn't seen all changes of the list of subscribers, or shares no connection with a
+/// listed subscriber; or a listed subscriber doesn't exist, hasn't followed the current list of publishers, or has to follow it again.
 pub fn refused_where_ports_lag<T, U>(domain: &Domain<T, U>)
     requires without { AreWithoutStrays domain.now.state.ports }
     requires told { first_reason domain.now ≡ Some reason.ConnectionsNotUpToDate }
     ensures { SomePublisherLags domain.now.state.ports ⊎ SomeSubscriberLags domain.now.state.ports }
 {}
 
-/// Each publisher whose capacity doesn't grow has slots of one segment, keeps no more messages than agreed, and lets at least one message
+/// Each publisher whose capacity doesn't grow has slots of one segment, keeps at most the agreed history, and lets at least one message
 /// wait at each of its connections. The invariant is `KeepToOneIfStatic`: this holds for each publisher, and at least one message may wait
 /// for each subscriber that exists or is listed. It holds for a new service that lets at least one message wait (`begins`), after each
 /// call, whatever override and handlers answer (`goes_on`), and so after any calls from a new service on (`stays`).
 ///
-/// If no publisher's capacity may grow (so `NotStatic` isn't returned), this is what `standing_ports_are_sound` requires of each
+/// If no publisher's capacity may grow (so `NotStatic` isn't returned), this is what `standing_ports_are_sound` requires of each publisher
 /// (`static`).
 pub fn calls_keep_to_one<T, U, O: Overrides, B: Decides + Degrades>(_overriding: &O, _handlers: &B)
     ensures { CallsKeepToOne T U (O.overrides _overriding.now) (B.degrades _handlers.now cause.FailedToEstablishConnection)
         (B.decides _handlers.now) }
 {}
 
-/// A domain whose ports calls made is never refused as `Unsound`: this holds for any calls from a new service on that lets at least one
-/// message wait, whatever override and handlers answer. The ports represent a service of the machine, as the theorems of
+/// A domain whose ports result from calls is never refused as `Unsound`: this holds for any calls from a new service on, if the service
+/// lets at least one message wait, whatever override and handlers answer. The ports represent a service of the machine, as the theorems of
 /// `iox_domain_machine` say of calls.
 pub fn never_refused_as_unsound<T, U, O: Overrides, B: Decides + Degrades>(
     _overriding: &O,
@@ -200,8 +200,8 @@ pub fn never_refused_as_unsound<T, U, O: Overrides, B: Decides + Degrades>(
         (B.decides _handlers.now) domain.now }
 {}
 
-/// Each subscriber of the lanes that `into_lanes` makes may borrow as many samples as the service agreed on, whatever was run on them. So
-/// each of their receives that ended only looked exactly where as many samples were borrowed as agreed, and took where fewer were; as long
+/// Each subscriber of the lanes that `into_lanes` makes keeps the agreed borrow limit, whatever was run on them. So each of their receives
+/// that ended only looked at a connection exactly if the agreed maximum of samples was borrowed, and took if fewer were. This holds as long
 /// as at most 2^63 steps were made.
 pub fn agreed_limits_stay()
     ensures limits { AgreedLimitsStay }

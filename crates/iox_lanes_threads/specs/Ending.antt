@@ -1,4 +1,4 @@
--- When ports are all the ports of a board.
+-- What it means that these ports are all ports of a board.
 use Rattle.std.specs.Prelude.{ℕ, ◌≡◌, ◌<◌, ◌==◌, ◌&&◌, Bool, true, List, length}
 use Rattle.std.specs.List.{All, list_any, list_all}
 use Rattle.iox_lanes_threads.specs.Ports.{BoardPublisher, BoardSubscriber, BoardState}

@@ -20,7 +20,7 @@ use Rattle.iox_lanes_threads_ports.specs.LanesThreadsRule.declared.view.View.{Vi
 abbrev pub range_of : PublisherLaneState → SlotRange
 range_of lane = record { first = lane.port.book.first; count = length lane.port.book.loans }
 
--- The service that these lanes have.
+-- The service whose connections and slots these lanes have.
 abbrev pub service_of : World → Service
 service_of m = record { sizes = m.table.sizes; lines = map line_of m.links; ranges = map range_of m.publishers }
 

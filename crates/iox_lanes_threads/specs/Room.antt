@@ -1,4 +1,4 @@
--- What all ports of lanes need in threads.
+-- The memory that all ports of lanes need in threads.
 use Rattle.std.specs.Prelude.{◌≡◌, ◌≤◌, [], length, vec_capacity}
 use Rattle.atomic_table.specs.Seated.{TableId}
 use Rattle.std.specs.List.{All}

@@ -7,14 +7,15 @@ use Rattle.iox_lanes_threads.specs.declared.errors.OpenError.{OpenError}
 use Rattle.iox_lanes_threads.specs.declared.errors.OpenError.TheVariants as open_error
 use Rattle.iox_lanes_threads.specs.declared.threads.LaneThreads.{LaneThreads}
 
--- Why lanes aren't opened: the first reason, in this order.
+-- The reason why lanes aren't opened: the first that applies, in the order of the cases.
 abbrev pub RefusesToOpen : OpenError → World → Type 0
 RefusesToOpen open_error.PartyInCall m = AllBetween m → ⊥
 RefusesToOpen open_error.SamplesOut m = AllBetween m × (NoneOut m → ⊥)
 RefusesToOpen open_error.TooManySteps m = AllBetween m × NoneOut m × (2 ^ 63 < m.moments)
 RefusesToOpen open_error.OutOfMemory m = MayOpen m
 
--- The threads are those of lanes opened on a board with this number: they have each port of the lanes, which knows what each word contains.
+-- The threads are these lanes, opened on a board with this number: they have each port of the lanes, and each port knows what each word
+-- contains.
 pub record OpenedAs (board : ℕ) (m : World) (threads : LaneThreads) : Type 0 where
   pub number : threads.board.number ≡ board
   pub publishers_are : threads.publishers.items ≡ opened_publishers board threads.board.table m 0 m.publishers

@@ -16,28 +16,28 @@ use iox_lanes_threads_rule::{WordSeat, agree, gather};
 /// The ports of a service after their threads ended. Loans and samples that were still out are void, since the words are gone.
 #[derive(Drop)]
 pub struct EndedThreads {
-    /// The lanes of the publishers, in the order in which these were handed in.
+    /// The lanes of the publishers, in the order in which the publishers were handed in.
     pub publishers: Vec<PublisherLane>,
-    /// The lanes of the subscribers, in the order in which these were handed in.
+    /// The lanes of the subscribers, in the order in which the subscribers were handed in.
     pub subscribers: Vec<SubscriberLane>,
 }
 
-// Whether the board knows all of these publishers by its number.
-fn knows_publishers(board: &Board, ports: &[LanePublisher]) -> bool
+/// Whether the board knows all of these publishers by its number.
+pub fn knows_publishers(board: &Board, ports: &[LanePublisher]) -> bool
     ensures { result ≡ knows_publishers board.now ports.now }
 {
     ports.iter().all(|port| board.knows(port))
 }
 
-// Whether the board knows all of these subscribers by its number.
-fn knows_subscribers(board: &Board, ports: &[LaneSubscriber]) -> bool
+/// Whether the board knows all of these subscribers by its number.
+pub fn knows_subscribers(board: &Board, ports: &[LaneSubscriber]) -> bool
     ensures { result ≡ knows_subscribers board.now ports.now }
 {
     ports.iter().all(|port| board.knows(port))
 }
 
-// Whether one of the publishers is the board's publisher at this place.
-fn has_publisher(board: &Board, place: usize, ports: &[LanePublisher]) -> bool
+/// Whether one of the publishers is the board's publisher at this place.
+pub fn has_publisher(board: &Board, place: usize, ports: &[LanePublisher]) -> bool
     ensures { result ≡ has_publisher board.now place ports.now }
 {
     ports
@@ -45,8 +45,8 @@ fn has_publisher(board: &Board, place: usize, ports: &[LanePublisher]) -> bool
         .any(|port| board.knows(port) && port.place() == place)
 }
 
-// Whether one of the subscribers is the board's subscriber at this place.
-fn has_subscriber(board: &Board, place: usize, ports: &[LaneSubscriber]) -> bool
+/// Whether one of the subscribers is the board's subscriber at this place.
+pub fn has_subscriber(board: &Board, place: usize, ports: &[LaneSubscriber]) -> bool
     ensures { result ≡ has_subscriber board.now place ports.now }
 {
     ports
@@ -92,68 +92,6 @@ pub fn are_all(board: &Board, publishers: &[LanePublisher], subscribers: &[LaneS
         return false;
     }
     at_each_publisher(board, publishers) && at_each_subscriber(board, subscribers)
-}
-
-// The lanes of the publishers, in the memory reserved for them.
-fn publisher_lanes(ports: Vec<LanePublisher>, room: Vec<PublisherLane>) -> Vec<PublisherLane>
-    requires { (room.items ≡ []) × (length ports.items ≤ vec_capacity room) }
-    ensures { result.items ≡ map (λ p. p.own.lane) ports.items }
-{
-    let mut lanes = room;
-    let mut rest = ports.into_iter();
-    while let Some(port) = rest.next() {
-        lanes.push_reserved(port.into_lane());
-    }
-    lanes
-}
-
-// The lanes of the subscribers, in the memory reserved for them.
-fn subscriber_lanes(ports: Vec<LaneSubscriber>, room: Vec<SubscriberLane>) -> Vec<SubscriberLane>
-    requires { (room.items ≡ []) × (length ports.items ≤ vec_capacity room) }
-    ensures { result.items ≡ map (λ p. p.own.lane) ports.items }
-{
-    let mut lanes = room;
-    let mut rest = ports.into_iter();
-    while let Some(port) = rest.next() {
-        lanes.push_reserved(port.into_lane());
-    }
-    lanes
-}
-
-/// Ends all ports of a board: returns their lanes, each as its port left it. The words are gone. It allocates nothing. If a port is missing
-/// or belongs to another board, it returns `NotAllPorts` with the board and all ports.
-pub fn end(
-    board: Board,
-    publishers: Vec<LanePublisher>,
-    subscribers: Vec<LaneSubscriber>,
-) -> Result<EndedThreads, (EndError, LaneThreads)>
-    ensures ended { IfOk result (λ ended. AreAll board publishers.items subscribers.items
-        × (ended.publishers.items ≡ map (λ p. p.own.lane) publishers.items)
-        × (ended.subscribers.items ≡ map (λ s. s.own.lane) subscribers.items)) }
-    ensures refused { IfErr result (λ refused. (AreAll board publishers.items subscribers.items → ⊥)
-        × (refused.1 ≡ record { board = board; publishers = publishers; subscribers = subscribers })) }
-{
-    if !are_all(&board, &publishers, &subscribers) {
-        let threads = LaneThreads {
-            board,
-            publishers,
-            subscribers,
-        };
-        return Err((EndError::NotAllPorts, threads));
-    }
-    let Board {
-        number: _,
-        publishers: _,
-        subscribers: _,
-        words: _,
-        home: _,
-        publisher_room,
-        subscriber_room,
-    } = board;
-    Ok(EndedThreads {
-        publishers: publisher_lanes(publishers, publisher_room),
-        subscribers: subscriber_lanes(subscribers, subscriber_room),
-    })
 }
 
 // Gathers the seats of the publishers in one seat, and returns their lanes in the memory reserved for them.
@@ -204,11 +142,14 @@ fn gather_subscribers(
     lanes
 }
 
-/// Ends all ports of a board as [`end`] does, with the same error. It requires that each port with the board's number steps on the board's
-/// own words, which holds if no two boards have the same number; then ports of other boards may be handed in, and are refused. In return it
-/// ensures that what a subscriber has read of a sample that it still holds is what the publisher knows of the slot, if the ports know that
-/// no write position came to 2^64 - 1.
-pub fn end_together(
+/// Ends all ports of a board: returns their lanes, each as its port left it. The words are gone. It allocates nothing. If a port is missing
+/// or belongs to another board, it returns `NotAllPorts` with the board and all ports.
+///
+/// A board identifies a port by its number alone. So `end` requires that each port with the board's number steps on the board's own words,
+/// which `open_threads` ensures (`own`) and each call of a port keeps (`same`). Ports of other boards may be handed in, and are refused. In
+/// return `end` ensures that what a subscriber has read of a sample that it still holds is what the publisher knows of the slot, if the
+/// ports know that no write position came to 2^64 - 1.
+pub fn end(
     board: Board,
     publishers: Vec<LanePublisher>,
     subscribers: Vec<LaneSubscriber>,

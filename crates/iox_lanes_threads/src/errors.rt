@@ -10,7 +10,7 @@ pub enum OpenError {
     /// A loan or a sample is out.
     #[error("OpenError::SamplesOut")]
     SamplesOut,
-    /// The lanes made more than 2^63 steps, after which they promise nothing. No program comes so far.
+    /// The lanes made more than 2^63 steps; no theorem on lanes covers more. No program gets there.
     #[error("OpenError::TooManySteps")]
     TooManySteps,
     /// An allocation failed.

@@ -33,7 +33,7 @@ pub mod subscriber;
 pub mod table;
 pub mod threads;
 
-pub use ending::{EndedThreads, are_all, end, end_together};
+pub use ending::{EndedThreads, are_all, end};
 pub use errors::{EndError, OpenError};
 pub use opening::open_threads;
 pub use publisher::LanePublisher;

@@ -11,7 +11,7 @@ use crate::threads::LaneThreads;
 use iox_lanes_machine::{LaneMachine, Unrest};
 use std::alloc::{AllocError, Global};
 
-// Why the lanes may not be opened, except for memory.
+// The first reason why the lanes may not be opened, if there is one other than an allocation that fails.
 fn refusal(lanes: &LaneMachine) -> Option<OpenError>
     ensures some { IfSome result (λ error. RefusesToOpen error lanes.now) }
     ensures none { IfNone result (MayOpen lanes.now) }

@@ -68,26 +68,30 @@ impl LanePublisher {
         }
     }
 
-    /// Its place among the board's publishers.
+    /// The port's place among the board's publishers.
     pub fn place(&self) -> usize
         ensures { result ≡ self.now.place }
     {
         self.place
     }
 
-    /// Loans a slot, in at most `loan_steps` steps: as many as its connections need to give back all the samples that they have cells for,
-    /// and one sample more each. The answer is None if the port is inside a call; then nothing is done. It is None, too, if the loan isn't
-    /// over after that many steps. This happens only where a write position was 2^64 - 1 when the call loaded a word, and more samples came
-    /// back at one connection than its completion ring has cells. The port stays inside that call.
+    /// Loans a slot. Returns None, and does nothing, if the port is inside a call.
+    ///
+    /// The call makes at most `loan_steps` steps. These are enough if each connection returns no more samples than its completion ring has
+    /// cells, and one more. If the loan isn't over by then, None is returned, and the port stays inside that call. This happens only if a
+    /// write position was 2^64 - 1 when the call loaded a word, and more samples came back at one connection than its completion ring has
+    /// cells.
     pub fn loan_uninit(&mut self) -> Option<LoanAnswer>
         ensures same { StaysPublisher self.old self.new }
         ensures call { Loans self.old.own self.new.own result }
+        ensures others { (other : ℕ) → other < self.old.own.port.service.sizes.slots
+            → KeepsPayload self.old.own.port self.new.own.port other }
     {
         self.port.loan_uninit(self.words.words())
     }
 
     /// Writes the words of a payload into the slot of a loan, and keeps the words of a user header for its send. Returns false if the slot
-    /// isn't a loan of this port, the words aren't as many as a payload and a user header have, or the port is inside a call; then nothing
+    /// isn't a loan of this port, the number of words isn't that of a payload and a user header, or the port is inside a call; then nothing
     /// is done.
     pub fn write(&mut self, loan: u64, payload: &[u64], user_header: &[u64]) -> bool
         ensures same { StaysPublisher self.old self.new }
@@ -123,9 +127,9 @@ impl LanePublisher {
             .write_values(self.words.words(), loan, value, user_header)
     }
 
-    /// Sends a loan that is written, and returns how many connections took it. The answer is `UnableToDeliver` exactly where the publisher
-    /// fails at a full mailbox and a connection refused the message. It is None if the slot isn't a written loan of this port, and where a
-    /// loan's answer would be None.
+    /// Sends a written loan, and returns the number of connections that took the message. The answer is `UnableToDeliver` exactly if the
+    /// publisher's sends fail at a full mailbox and a connection refused the message. Returns None, and does nothing, if the slot isn't a
+    /// written loan of this port; and None in the cases in which a loan returns None.
     pub fn send(&mut self, loan: u64) -> Option<SendAnswer>
         ensures same { StaysPublisher self.old self.new }
         ensures call { Sends self.old.own loan self.new.own result }
@@ -133,15 +137,19 @@ impl LanePublisher {
             × KeepsPayload self.old.own.port self.new.own.port loan }
         ensures sent { IfSome result (λ told. KnowsSent self.old.own.port self.new.own.port self.old.own.lane.fails
             self.old.own.lane.port.routes loan told) }
+        ensures others { (other : ℕ) → other < self.old.own.port.service.sizes.slots
+            → KeepsPayload self.old.own.port self.new.own.port other }
     {
         self.port.send(self.words.words(), loan)
     }
 
-    /// Gives a loan up, so that its slot is free again. It touches no shared word. Returns false, and does nothing, if the slot is no loan
-    /// of this port or the port is inside a call.
+    /// Drops a loan, so its slot is free again. It accesses no shared word. Returns false, and does nothing, if the slot is no loan of this
+    /// port or the port is inside a call.
     pub fn drop_loan(&mut self, loan: u64) -> bool
         ensures same { StaysPublisher self.old self.new }
         ensures call { Drops self.old.own loan self.new.own result }
+        ensures others { (other : ℕ) → other < self.old.own.port.service.sizes.slots
+            → KeepsPayload self.old.own.port self.new.own.port other }
     {
         self.port.drop_loan(loan)
     }
@@ -154,7 +162,8 @@ impl LanePublisher {
         self.port.shows();
     }
 
-    /// Whether it is inside a call. It is so after a loan or a send without an answer, which needs a write position of 2^64 - 1.
+    /// Whether the port is inside a call. This is so only after a loan or a send that returned None because it didn't end, which needs a
+    /// write position of 2^64 - 1.
     pub fn is_inside_call(&self) -> bool
         ensures { result ≡ not (publisher_is_idle self.now.own.lane.port.call) }
     {
@@ -168,19 +177,12 @@ impl LanePublisher {
         self.port.lane().port().book().loan(slot)
     }
 
-    /// The sequence number of the last message that it sent, or the number before the first one. None where messages have no sequence
-    /// numbers.
+    /// The sequence number of the last message that the publisher sent; before its first send, the number before that of its first message.
+    /// None where messages have no sequence numbers.
     pub fn last_sequence(&self) -> Option<u64>
         ensures { result ≡ self.now.own.lane.last }
     {
         self.port.last_sequence()
-    }
-
-    /// The lane, which makes no more steps in a thread.
-    pub(crate) fn into_lane(self) -> PublisherLane
-        ensures { result ≡ self.own.lane }
-    {
-        self.into_parts().1
     }
 
     /// The seat and the lane, which makes no more steps in a thread.

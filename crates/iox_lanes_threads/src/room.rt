@@ -35,7 +35,7 @@ pub(crate) struct Room {
     sizes: TableSizes,
     publisher_shares: Vec<Share>,
     subscriber_shares: Vec<Share>,
-    // The write that each publisher begins next, with memory for its words.
+    // For each publisher, the write that it begins next, with memory for its words.
     writes: Vec<Move>,
     publishers: Vec<LanePublisher>,
     subscribers: Vec<LaneSubscriber>,

@@ -1,5 +1,5 @@
 //! A subscriber with its share of the words.
-ghost use Rattle.std.specs.Prelude.{◌≡◌, ◌+◌, true, false, length, IfSome, None, Some};
+ghost use Rattle.std.specs.Prelude.{◌≡◌, ◌+◌, true, false, length, IfSome, None};
 ghost use Rattle.iox_lanes_machine.specs.LanesParties.Values.{AreValues};
 ghost use Rattle.iox_lanes_machine.specs.LanesParties.Parties.{subscriber_begun};
 ghost use Rattle.iox_lanes_threads_ports.specs.Courses.{SubscriberEnds};
@@ -69,14 +69,14 @@ impl LaneSubscriber {
         }
     }
 
-    /// Its place among the board's subscribers.
+    /// The port's place among the board's subscribers.
     pub fn place(&self) -> usize
         ensures { result ≡ self.now.place }
     {
         self.place
     }
 
-    /// Asks the connections, in their order, for a message, and returns the receipt. It may go on forever if publishers move the positions
+    /// Asks the connections, in their order, for a message, and returns the receipt. It may never return if publishers move the positions
     /// of a ring again and again.
     pub fn receive<R: Wait>(&mut self, rt: &R) -> Receipt
         ensures same { StaysSubscriber self.old self.new }
@@ -87,8 +87,8 @@ impl LaneSubscriber {
         self.port.receive(rt, self.words.words())
     }
 
-    /// Reads the words of header, user header and payload of a sample, which `words` then lends. Returns false if the slot isn't a sample
-    /// of this port; then nothing is read. Two reads of one sample lend the same words, if no call between them releases it, and no write
+    /// Reads the words of a sample's header, user header and payload, which `words` then returns. Returns false, and reads nothing, if the
+    /// slot isn't a sample of this port. Two reads of one sample give the same words if no call between them releases it, and no write
     /// position was 2^64 - 1 when they loaded the words (`held_reads_agree` of `iox_lanes_threads_ports`).
     pub fn read(&mut self, sample: u64) -> bool
         ensures same { StaysSubscriber self.old self.new }
@@ -117,23 +117,17 @@ impl LaneSubscriber {
         values_in::<T, U>(self.port.words())
     }
 
-    /// Releases a sample, and returns whether it went back to its publisher. Returns None if the slot isn't a sample of this port; then
-    /// nothing is done.
-    pub fn release(&mut self, sample: u64) -> Option<bool>
+    /// Releases a sample: it goes back to its publisher. Returns false, and does nothing, if the slot isn't a sample of this port. It also
+    /// returns false, and the sample is still borrowed, where the completion ring was full; that happens only where a write position was
+    /// 2^64 - 1 when the call loaded a word (`IsReleasedLate` of `iox_lanes_threads_ports`).
+    pub fn release(&mut self, sample: u64) -> bool
         ensures same { StaysSubscriber self.old self.new }
         ensures call { Releases self.old.own sample self.new.own result }
-        ensures put { result ≡ Some true → KnowsGivenBack self.old.own.port self.new.own.port self.old.own.lane sample }
-        ensures kept { result ≡ Some false → KeepsGivenBack self.old.own.port self.new.own.port self.old.own.lane sample }
+        ensures put { result ≡ true → KnowsGivenBack self.old.own.port self.new.own.port self.old.own.lane sample }
+        ensures kept { result ≡ false → KeepsGivenBack self.old.own.port self.new.own.port self.old.own.lane sample }
         ensures stood { StandsBetween self.old.own }
     {
         self.port.release(self.words.words(), sample)
-    }
-
-    /// The lane, which makes no more steps in a thread.
-    pub(crate) fn into_lane(self) -> SubscriberLane
-        ensures { result ≡ self.own.lane }
-    {
-        self.into_parts().1
     }
 
     /// The seat and the lane, which makes no more steps in a thread.

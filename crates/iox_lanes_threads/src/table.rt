@@ -49,7 +49,7 @@ impl Share {
         }
     }
 
-    /// One share more. It fails only where there are as many shares as can be counted.
+    /// Another share of the table. It fails only if there are as many shares as can be counted.
     pub(crate) fn another(&self) -> Result<Share, AllocError>
         ensures { IfOk result (λ share. share ≡ self.now) }
     {
@@ -82,7 +82,7 @@ pub(crate) fn open_table(
     Words::open(alloc, lanes.table().words(), &from)
 }
 
-/// The first port that waits, on a seat of its own.
+/// Gives the first port that waits a seat of its own, and returns that seat.
 pub(crate) fn next_seat(share: &Share, home: &mut WordSeat) -> WordSeat
     requires table { (home.old.table_id ≡ share.now) × (0 < share.now.words) }
     requires waits { IsWaiting home.old.me }

@@ -8,7 +8,8 @@ use iox_lanes_parties::{PublisherLane, SubscriberLane};
 use iox_lanes_threads_rule::WordSeat;
 use std::marker::Model;
 
-/// What whoever opened the threads keeps: the words that the ports of a service share, and the number by which it knows its ports.
+/// The control block that whoever opened the threads keeps: the words that the ports of a service share, and the number by which it knows
+/// its ports.
 #[derive(Drop)]
 pub struct Board {
     pub(crate) number: u64,

@@ -44,11 +44,11 @@ use Rattle.iox_lanes_threads_ports.specs.Holding.{StandsBetween}
 use Rattle.iox_lanes_threads_ports.specs.Ports.{SubscriberStands}
 use Rattle.iox_lanes_threads_ports.specs.Strides.{AsksWord, subscriber_called}
 use Rattle.iox_lanes_threads_ports.specs.Values.{SubscriberPort, IsSeated, settled, IsBetween, IsShort, steps_left, Unmoved, received_of}
-use Rattle.iox_lanes_threads_ports.specs.Values.{released_of, Releases, Reads}
+use Rattle.iox_lanes_threads_ports.specs.Values.{Reads}
 use Rattle.iox_lanes_threads_ports.proofs.SubscriberSteps.{changed_stays, begins}
 use Rattle.iox_lanes_threads_ports.proofs.Running.{subscriber_last}
 
--- after the last step no call is under way
+-- after the last step no call is in progress
 over_idle : (routes : List Route) (borrowed : List ℕ) (most : ℕ) (c : SubscriberCall) → subscriber_is_over c ≡ true
     → subscriber_is_idle (subscriber_take routes borrowed most c 0) ≡ true
 over_idle routes borrowed most subscribing.Idle h = absurd (cc h)
@@ -451,7 +451,9 @@ pub release_done : (old new : SubscriberPort) (p : Port) (sample : ℕ) (mine be
     (given : Option Answer) → old.port ≡ p → old.lane ≡ mine → subscriber_fits mine (Begin (call.Release sample)) ≡ true
     → begun ≡ subscriber_begun 0 (call.Release sample) mine → SubscriberGoes p begun new.port last
     → subscriber_is_over last.port.call ≡ true → now ≡ subscriber_after 0 last → new.lane ≡ settled now
-    → given ≡ subscriber_answer last.port.call 0 → Releases old sample new (released_of given)
+    → given ≡ subscriber_answer last.port.call 0
+    → (done : Bool) × (given ≡ Some (answer.Released done))
+    × SubscriberEnds old.port (subscriber_begun 0 (call.Release sample) old.lane) new.port new.lane (answer.Released done)
 release_done old new p sample mine begun last now given port lane fit begins_is run over is new_is answers =
     let fits : subscriber_fits old.lane (Begin (call.Release sample)) ≡ true
     = ap (λ (l : SubscriberLaneState). subscriber_fits l (Begin (call.Release sample))) lane ∙ fit in
@@ -460,9 +462,9 @@ release_done old new p sample mine begun last now given port lane fit begins_is 
     let whole : SubscriberGoes old.port (subscriber_begun 0 (call.Release sample) old.lane) new.port last
     = subst (λ (z : Port × SubscriberLaneState). SubscriberGoes z.0 z.1 new.port last) (λ i. (sym port i, from i)) run in
     let got = released_at old.port old.lane sample new.port last fits whole over in
-    let told : given ≡ Some (answer.Released got.0) = answers ∙ ap (λ (c : SubscriberCall). subscriber_answer c 0) got.1 in
-    subst (Releases old sample new) (sym (ap released_of told)) (
-      fits,
+    let told : given ≡ Some (answer.Released got.0) = answers ∙ ap (λ (c : SubscriberCall). subscriber_answer c 0) got.1 in (
+      got.0,
+      told,
       record { last = last; goes = whole; ends = over; after = new_is ∙ last_settled last now over is; answers = sym answers ∙ told },
     )
 

@@ -23,7 +23,7 @@ publisher_goes : (own : PortParty) (lane : PublisherLaneState) → ComesToPublis
 publisher_goes (party.Publisher old) lane run local = publisher_moves lane run local
 publisher_goes (party.Subscriber old) lane run local = run
 
--- behind an answer
+-- after an answer
 pub publisher_came : (p : Port) (lane : PublisherLaneState) (n : ℕ) (access : SharedAccess) → publisher_next lane.port.call ≡ access
     → ToldBy p access n → ComesToPublisher p.party lane
     → ComesToPublisher (stepped p access n (publisher_party lane)).party (publisher_after n lane)
@@ -33,7 +33,7 @@ publisher_came p lane n (Exchange w old new) next told run = publisher_stays
 publisher_came p lane n Local next told run =
     subst (λ (a : ℕ). ComesToPublisher p.party (publisher_after a lane)) (sym told) (publisher_goes p.party lane run next)
 
--- behind a begin
+-- after a begin
 pub publisher_began : (own : PortParty) (lane : PublisherLaneState) (moment : ℕ) (c : Call) → ComesToPublisher own lane
     → publisher_fits lane (Begin c) ≡ true → ComesToPublisher own (publisher_begun moment c lane)
 publisher_began (party.Publisher old) lane moment c run fit = publisher_begins lane moment c run fit

@@ -1,4 +1,4 @@
--- What a subscriber has read of a sample stays, behind calls none of which gives the sample back.
+-- What a subscriber has read of a sample stays, after calls none of which gives the sample back.
 use Rattle.std.proofs.Common.{ℕ, ◌≡◌, ◌+◌, ◌-◌, ◌<◌, ◌||◌, Bool, true, false, if◌then◌else◌, nat_lt, List, length, set, get_or, slice_get}
 use Rattle.std.proofs.Common.{Option, None, Some, refl, sym, ◌∙◌, ap, subst, inl, inr, arith}
 use Rattle.std.proofs.lemmas.Bool.{ltb-true}
@@ -30,14 +30,16 @@ use Rattle.iox_lanes_machine.specs.LanesBase.declared.words.word.ConnectionRing.
 use Rattle.iox_lanes_machine.specs.LanesBase.declared.words.word.SharedWord.TheVariants.{Slot}
 use Rattle.iox_lanes_machine.specs.LanesParties.Keeping.{SubscriberState, changed, put_at}
 use Rattle.iox_lanes_machine.specs.LanesParties.Parties.{SubscriberLaneState, is_borrowed, place_of, route_at, release_begun}
-use Rattle.iox_lanes_machine.specs.LanesParties.Parties.{subscriber_begun, subscriber_after}
+use Rattle.iox_lanes_machine.specs.LanesParties.Parties.{subscriber_begun, subscriber_after, subscriber_fits}
 use Rattle.iox_lanes_machine.specs.LanesParties.Within.{IsExtent}
+use Rattle.iox_lanes_machine.specs.LanesParties.declared.call.Answer.TheVariants as answer
 use Rattle.iox_lanes_machine.specs.LanesParties.declared.call.Call.TheVariants as call
+use Rattle.iox_lanes_machine.specs.LanesParties.declared.call.Move.TheVariants.{Begin}
 use Rattle.iox_lanes_machine.proofs.LanesParties.Rings.{and_right}
 use Rattle.iox_lanes_threads_rule.specs.Acts.{ToldBy}
 use Rattle.iox_lanes_threads_rule.specs.declared.service.Service.{Service}
 use Rattle.iox_lanes_threads_rule.specs.declared.view.Port.{Port}
-use Rattle.iox_lanes_threads_ports.specs.Courses.{subscriber_party, SubscriberGoes}
+use Rattle.iox_lanes_threads_ports.specs.Courses.{subscriber_party, SubscriberGoes, SubscriberEnds}
 use Rattle.iox_lanes_threads_ports.specs.Courses.SubscriberGoes.{stays, goes}
 use Rattle.iox_lanes_threads_ports.specs.Holding.{StandsBetween, HasRead, IsReadEarly, GoesOnHolding, HeldReadsStay, HeldReadsAgree}
 use Rattle.iox_lanes_threads_ports.specs.Holding.{HeldReadsAreKnown}
@@ -316,16 +318,25 @@ module _ (s : Service) (sample : ℕ) (extent : SlotExtent) (lent : List ℕ) (f
   asked_on old new other true read stands early was = read_on old new other read stands early was
 
   -- a release of another sample
-  release_on : (old new : SubscriberPort) (other : ℕ) (done : Option Bool) → Releases old other new done → StandsBetween old
-      → (other ≡ sample → ⊥) → HoldsRead s sample extent lent old.port old.lane → HoldsRead s sample extent lent new.port new.lane
-  release_on old new other None release stands off was = unmoved_on old new release.1 was
-  release_on old new other (Some done) release stands off was =
+  done_on : (old new : SubscriberPort) (other : ℕ) (done : Bool) → subscriber_fits old.lane (Begin (call.Release other)) ≡ true
+      → SubscriberEnds old.port (subscriber_begun 0 (call.Release other) old.lane) new.port new.lane (answer.Released done)
+      → StandsBetween old → (other ≡ sample → ⊥) → HoldsRead s sample extent lent old.port old.lane
+      → HoldsRead s sample extent lent new.port new.lane
+  done_on old new other done fit ends stands off was =
       let both = release_spares (Another sample) sample old.lane other (place_of other old.lane)
       (route_at (place_of other old.lane) old.lane) off stands.idle was.has in
-      called_on (Another sample) old.port old.lane (subscriber_begun 0 (call.Release other) old.lane) new.port release.1.last new.lane
-      release.1.goes was (begins old.port old.lane 0 (call.Release other) stands.stands release.0) both.0 both.1
-      (all_early sample old.port (subscriber_begun 0 (call.Release other) old.lane) new.port release.1.last release.1.goes both.0)
-      release.1.after
+      called_on (Another sample) old.port old.lane (subscriber_begun 0 (call.Release other) old.lane) new.port ends.last new.lane
+      ends.goes was (begins old.port old.lane 0 (call.Release other) stands.stands fit) both.0 both.1
+      (all_early sample old.port (subscriber_begun 0 (call.Release other) old.lane) new.port ends.last ends.goes both.0)
+      ends.after
+
+  release_on : (old new : SubscriberPort) (other : ℕ) (done : Bool) → Releases old other new done → StandsBetween old
+      → (other ≡ sample → ⊥) → HoldsRead s sample extent lent old.port old.lane → HoldsRead s sample extent lent new.port new.lane
+  release_on old new other true release stands off was = done_on old new other true release.0 release.1 stands off was
+  release_on old new other false release stands off was = elim release [
+    | inl none ↦ unmoved_on old new none.1 was
+    | inr late ↦ done_on old new other false late.fits late.ends stands off was
+  ]
 
   -- all calls
   calls_on : (from to : SubscriberPort) → GoesOnHolding sample from to → HoldsRead s sample extent lent from.port from.lane

@@ -1,6 +1,6 @@
 -- After a release that was taken the port knows its sample in the ring of what was given back.
 use Rattle.std.proofs.Common.{ℕ, ◌≡◌, ◌-◌, ◌%◌, Bool, true, false, if◌then◌else◌, nat_lt, length, slice_get, Option, Some, None, refl}
-use Rattle.std.proofs.Common.{sym, ◌∙◌, ap, subst, arith}
+use Rattle.std.proofs.Common.{sym, ◌∙◌, ap, subst, inl, inr, arith}
 use Rattle.std.proofs.lemmas.Nat.{mod_below}
 use Rattle.iox_lanes_machine.specs.QueuesSteps.Access.{successor}
 use Rattle.iox_lanes_machine.specs.QueuesSteps.declared.access.Word.TheVariants.{Write, Read, Cell}
@@ -192,19 +192,20 @@ module _ (p : Port) (lane : SubscriberLaneState) (sample : ℕ) (q : Port) (now 
   ends_kept ends = not_given p route sample q ends.last.port.call (last_stage ends.last ends.goes) ends.answers
 
 -- a release that answers that its sample went back
-pub release_known : (old new : SubscriberPort) (sample : ℕ) (given : Option Bool) → SubscriberStands old.port old.lane
-    → Releases old sample new given → given ≡ Some true → KnowsGivenBack old.port new.port old.lane sample
-release_known old new sample None stands h e = absurd (cc e)
-release_known old new sample (Some true) stands h e
+pub release_known : (old new : SubscriberPort) (sample : ℕ) (done : Bool) → SubscriberStands old.port old.lane
+    → Releases old sample new done → done ≡ true → KnowsGivenBack old.port new.port old.lane sample
+release_known old new sample false stands h e = absurd (cc e)
+release_known old new sample true stands h e
     = λ place route at found. ends_known old.port old.lane sample new.port new.lane
     (begins old.port old.lane 0 (call.Release sample) stands h.0) place route at found h.1
-release_known old new sample (Some false) stands h e = absurd (cc e)
 
 -- and one that answers that it did not
-pub release_kept : (old new : SubscriberPort) (sample : ℕ) (given : Option Bool) → SubscriberStands old.port old.lane
-    → Releases old sample new given → given ≡ Some false → KeepsGivenBack old.port new.port old.lane sample
-release_kept old new sample None stands h e = absurd (cc e)
-release_kept old new sample (Some true) stands h e = absurd (cc e)
-release_kept old new sample (Some false) stands h e
-    = λ place route at found. ends_kept old.port old.lane sample new.port new.lane
-    (begins old.port old.lane 0 (call.Release sample) stands h.0) place route at found h.1
+pub release_kept : (old new : SubscriberPort) (sample : ℕ) (done : Bool) → SubscriberStands old.port old.lane
+    → Releases old sample new done → done ≡ false → KeepsGivenBack old.port new.port old.lane sample
+release_kept old new sample true stands h e = absurd (cc e)
+release_kept old new sample false stands h e = elim h [
+  | inl none ↦ λ place route at found. ap (λ (z : Port). knows z (Ring route.connection Completion Write)) none.1.1
+  | inr late ↦
+      λ place route at found. ends_kept old.port old.lane sample new.port new.lane
+      (begins old.port old.lane 0 (call.Release sample) stands late.fits) place route at found late.ends
+]

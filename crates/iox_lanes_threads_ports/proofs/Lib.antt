@@ -14,6 +14,7 @@ pub mod Striding
 pub mod RingStriding
 pub mod SubscriberStriding
 pub mod Between
+pub mod NeverFull
 pub mod KnownWrites
 pub mod KnownLoans
 pub mod KnownReads

@@ -1,4 +1,4 @@
--- What lanes have of a publisher behind a load that it made while no write position stood at 2^64 - 1.
+-- What lanes have of a publisher after a load that it made while no write position stood at 2^64 - 1.
 use Rattle.std.proofs.Common.{ℕ, zero, suc, ◌≡◌, ◌<◌, ◌≤◌, List, [], ◌∷◌, length, set, refl, sym, ap, subst, arith}
 use Rattle.std.proofs.Common.{slice_get, Some}
 use mathlib.Core.Option.{some, some-ne-none}
@@ -33,12 +33,12 @@ use Rattle.iox_lanes_threads_ports.proofs.Coming.{publisher_makes}
 use Rattle.iox_lanes_threads_ports.proofs.PublisherSteps.{may_act}
 use Rattle.iox_lanes_threads_ports.proofs.Sweeping.{HasItsSlots, IfLoaded}
 
-within_list : (ports : List Port) (n : ℕ) (p : Port) → get_elem? ports n ≡ some p → n < length ports
+pub within_list : (ports : List Port) (n : ℕ) (p : Port) → get_elem? ports n ≡ some p → n < length ports
 within_list [] n p e = absurd (some-ne-none p (sym e))
 within_list (q ∷ qs) zero p e = omega arith
 within_list (q ∷ qs) (suc n) p e = omega (arith, within_list qs n p e)
 
--- what lanes that stand behind words and ports have of one of their publishers
+-- what the lanes that words and ports represent have of one of their publishers
 lanes_have : (s : Service) (words : List ℕ) (all : List Port) (place first : ℕ) (lane : PublisherLaneState) (b : StandBehind s words all)
     → slice_get (b.lanes).publishers place ≡ Some (record lane { first = first })
     → HasItsSlots s.sizes.completion_cells (length lane.port.routes) lane.port.book lane.port.call
@@ -95,7 +95,7 @@ module _ (q : Port) (now : PublisherLaneState) (n : ℕ) (stands : PublisherStan
   access_has (Exchange w old new) next told early = tt
   access_has Local next told early = tt
 
-  -- behind each access, if it is a load
+  -- after each access, if it is a load
   pub loaded_slots : (told : ToldBy q (publisher_next now.port.call) n) → IsLoadedEarly q (publisher_next now.port.call) n told
       → IfLoaded (publisher_next now.port.call) ItsSlots
   loaded_slots told early = access_has (publisher_next now.port.call) refl told early

@@ -71,7 +71,7 @@ early_at : (slot : ℕ) (q : Port) (v : SharedWord) (n : ℕ) (told : ToldBy q (
 early_at slot q (Ring connection ring at) n told word early same = absurd (cc same)
 early_at slot q (Slot other at) n told word early same = early (cc same)
 
--- what a port knows of a listed word of a slot stays behind an access
+-- what a port knows of a listed word of a slot stays after an access
 known_stays : (q : Port) (access : SharedAccess) (n : ℕ) (after : ℕ → PortParty) (slot : ℕ) (word : SlotWord) (place : ℕ)
     → length q.known ≡ words_of q.service.sizes → IsWord q.service.sizes (Slot slot word) → MayAct q access → LeavesSlots access
     → (told : ToldBy q access n) → IsAnsweredEarly slot q access n told → slice_get q.seen place ≡ Some (Slot slot word)
@@ -103,7 +103,7 @@ sample_below samples sample slots h within = elim (cases_lt sample (length sampl
 abbrev total : SlotExtent → ℕ
 total extent = 3 + extent.user_header_words + extent.payload_words
 
--- a port behind some steps, beside the one before them
+-- a port after some steps, beside the one before them
 pub record GoesOnKnowing (p q : Port) (now : SubscriberLaneState) (extent : SlotExtent) (sample : ℕ) : Type 0 where
   stands : SubscriberStands q now
   pub service : q.service ≡ p.service

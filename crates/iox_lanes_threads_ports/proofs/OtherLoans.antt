@@ -29,7 +29,6 @@ use Rattle.iox_lanes_machine.specs.LanesParties.Publishers.{words_of as call_wor
 use Rattle.iox_lanes_machine.specs.LanesParties.Parties.{PublisherLaneState, publisher_fits, publisher_begun, publisher_after, head_of}
 use Rattle.iox_lanes_machine.specs.LanesParties.Within.{IsPublishing}
 use Rattle.iox_lanes_machine.specs.LanesParties.declared.call.Answer.{Answer}
-use Rattle.iox_lanes_machine.specs.LanesParties.declared.call.Call.{Call}
 use Rattle.iox_lanes_machine.specs.LanesParties.declared.call.Call.TheVariants as call
 use Rattle.iox_lanes_machine.specs.LanesParties.declared.call.Move.{Move}
 use Rattle.iox_lanes_machine.specs.LanesParties.declared.call.Move.TheVariants.{Begin, GoOn}
@@ -39,13 +38,13 @@ use Rattle.iox_lanes_threads_rule.specs.declared.service.Service.{Service}
 use Rattle.iox_lanes_threads_rule.specs.declared.view.Port.{Port}
 use Rattle.iox_lanes_threads_rule.specs.declared.view.PortParty.{PortParty}
 use Rattle.iox_lanes_threads_rule.proofs.Held.{at_other}
-use Rattle.iox_lanes_threads_ports.specs.Courses.{publisher_party, publisher_stepped, PublisherGoes}
+use Rattle.iox_lanes_threads_ports.specs.Courses.{publisher_party, publisher_stepped}
 use Rattle.iox_lanes_threads_ports.specs.Ends.{knows}
 use Rattle.iox_lanes_threads_ports.specs.Known.{payload_word, KeepsPayload}
 use Rattle.iox_lanes_threads_ports.specs.Paces.{loan_steps, send_steps}
 use Rattle.iox_lanes_threads_ports.specs.OtherLoans.{SparesPayload, SparedPayloadsStay, CallsKeepPayloads}
 use Rattle.iox_lanes_threads_ports.specs.Ports.{PublisherStands}
-use Rattle.iox_lanes_threads_ports.specs.Values.{PublisherPort, PublisherDoes, Publishes, Asks, Loans, Sends, Drops}
+use Rattle.iox_lanes_threads_ports.specs.Values.{PublisherPort, PublisherDoes, Publishes, Asks, Drops}
 use Rattle.iox_lanes_threads_ports.specs.Values.{as_lent, as_sent, publisher_begins}
 use Rattle.iox_lanes_threads_ports.proofs.KnownSends.{ring_leaves, head_in, no_payload}
 use Rattle.iox_lanes_threads_ports.proofs.KnownWrites.{publisher_along}

@@ -42,7 +42,7 @@ one_sweep most connections n below =
     row : (k c : ℕ) → suc k * c ≡ k * c + c
     row k c = omega arith
 
--- Where a call stands next: it is under way, with at most so many steps to go.
+-- Where a call stands next: it is in progress, with at most n steps to go.
 pub record GoesOn (sizes : TableSizes) (most connections words left : ℕ) (taken : ℕ → ℕ) (c : PublisherCall) : Type 0 where
   pub going : IsGoing sizes words c
   pub few : steps_to_go most connections words taken c ≤ left
@@ -95,7 +95,7 @@ here at = ap (λ (b : Bool). if b then suc 0 else 0) (eq-eqb at at refl)
 abbrev pub taken_after : (ℕ → ℕ) → PublisherCall → ℕ → ℕ → ℕ
 taken_after taken c n place = taken place + back_at place (publisher_change c n)
 
--- a call stands at one of so many words, or at a connection of its own
+-- a call stands at one of n words, or at a connection of its own
 abbrev pub IsPlaced : List Route → ℕ → PublisherCall → Type 0
 IsPlaced routes words publishing.Idle = Unit {0}
 IsPlaced routes words (publishing.LoanReclaims at route p) = IsAt routes at route
@@ -127,7 +127,7 @@ placed sizes routes stored words (publishing.Pushing slot at route push delivery
 placed sizes routes stored words (publishing.Sent slot delivery) small going is = tt
 placed sizes routes stored words (publishing.Dropping slot) small going is = tt
 
--- a call that is under way has a step to go
+-- a call that is in progress has a step to go
 pub some_to_go : (sizes : TableSizes) (most connections words : ℕ) (taken : ℕ → ℕ) (c : PublisherCall) → IsGoing sizes words c
     → 0 < steps_to_go most connections words taken c
 some_to_go sizes most connections words taken publishing.Idle going = absurd going
@@ -142,7 +142,7 @@ some_to_go sizes most connections words taken (publishing.Pushing slot at route 
 some_to_go sizes most connections words taken (publishing.Sent slot delivery) going = omega arith
 some_to_go sizes most connections words taken (publishing.Dropping slot) going = omega arith
 
--- a step leaves a call that is under way, with fewer steps to go
+-- a step leaves a call that is in progress, with fewer steps to go
 pub record Fewer (sizes : TableSizes) (most connections words : ℕ) (routes : List Route) (taken taken' : ℕ → ℕ) (c next : PublisherCall)
     : Type 0 where
   pub going : IsGoing sizes words next

@@ -22,7 +22,7 @@ pub asked_touches : (connection : ℕ) (ring : ConnectionRing) (cells : ℕ) (as
 asked_touches connection ring cells asked next access same asks is =
     subst TouchesWord (sym is) (touches_ring connection ring cells asked (subst AsksWord (sym same) asks))
 
--- steps behind steps
+-- steps after steps
 pub strides_along : {L C : Type 0} (kind : LaneKind L C) (one more : ℕ) (me mid me' : Me ℕ View) (lane between lane' : L)
     → StridesOn kind one me lane mid between → StridesOn kind more mid between me' lane' → StridesOn kind (one + more) me lane me' lane'
 strides_along kind one more me mid me' lane between lane' first second p begun made run =
@@ -42,7 +42,7 @@ module _ {L C S : Type 0} (kind : LaneKind L C) (stage : S → C) (asks : S → 
       (goes_on lane state answer keeps (subst (λ (s : S). AsksWord (asks s)) is asked)
       ∙ ap (λ (s : S). kind.called (stage s) lane) (sym is)) on
 
-  -- behind the first of two accesses a call stands at the second
+  -- after the first of two accesses a call stands at the second
   pub stands_second : (lane : L) (me mid : Me ℕ View) (state next : S) (answer : ℕ) → MakesTwo asks takes state → next ≡ takes state answer
       → StridesOn kind 1 me (kind.called (stage state) lane) mid (kind.after answer (kind.called (stage state) lane))
       → AsksWord (asks next) × StridesOn kind 1 me (kind.called (stage state) lane) mid (kind.called (stage next) lane)
@@ -52,7 +52,7 @@ module _ {L C S : Type 0} (kind : LaneKind L C) (stage : S → C) (asks : S → 
         strides_to lane (kind.called (stage state) lane) me mid 1 state next answer two.keeps asked is on,
       )
 
--- what a pop or a push that isn't over behind two accesses does
+-- what a pop or a push that isn't over after two accesses does
 module _ {S : Type 0} (asks : S → Access) (takes : S → ℕ → S) (over : S → Bool) (begun seen found : S) (a b : ℕ) where
   pub found_more : RunsAhead asks takes over begun → seen ≡ takes begun a → found ≡ takes seen b → over found ≡ false
       → KeepsPositions (asks seen) × MakesTwo asks takes found

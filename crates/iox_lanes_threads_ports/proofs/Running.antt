@@ -40,7 +40,7 @@ use Rattle.iox_lanes_threads_ports.proofs.PublisherSteps as publishers
 use Rattle.iox_lanes_threads_ports.proofs.SubscriberSteps as subscribers
 use Rattle.iox_lanes_threads_ports.proofs.Swept.{few_taken}
 
--- a port under way, with a seat of its own
+-- a port in progress, with a seat of its own
 pub record SeatIs (p : Port) (me : Me ℕ View) : Type 0 where
   pub alone : me ≡ single (port_of me)
   pub service : (port_of me).service ≡ p.service
@@ -57,12 +57,12 @@ seat_stepped p q me now access n after seat is =
       name = ap (λ (z : Port). z.name) port ∙ same.name ∙ seat.name;
     }
 
--- a publisher under way
+-- a publisher in progress
 pub record Publishes (p : Port) (me : Me ℕ View) (now : PublisherLaneState) : Type 0 where
   pub seat : SeatIs p me
   pub stands : PublisherStands (port_of me) now
 
--- so many steps that it made, not the last among them
+-- n steps that it made, not the last among them
 pub record Paced (most made : ℕ) (p : Port) (lane : PublisherLaneState) (q : Port) (now : PublisherLaneState) : Type 0 where
   pub goes : PublisherGoes p lane q now
   pub all : steps_in goes ≡ made
@@ -233,7 +233,7 @@ publisher_stays_inside most p lane q now stands first run = elim run.pace [
       }
 ]
 
--- a subscriber under way
+-- a subscriber in progress
 pub record Subscribes (p : Port) (lane : SubscriberLaneState) (me : Me ℕ View) (now : SubscriberLaneState) : Type 0 where
   pub seat : SeatIs p me
   pub stands : SubscriberStands (port_of me) now

@@ -59,7 +59,7 @@ publisher_goes_ahead = record {
   );
 }
 
--- the seat of a port behind a step
+-- the seat of a port after a step
 pub strode_moved : {L : Type 0} (Stands : Port → L → Type 0) (Went Goes : Port → L → Type 0) (p : Port) (me me' : Me ℕ View)
     (now now' : L) (access : SharedAccess) (answer : ℕ) (after : ℕ → PortParty) → Strode Stands Went p me now
     → Stands (stepped (port_of me) access answer after) now' → Goes (stepped (port_of me) access answer after) now'
@@ -109,7 +109,7 @@ module _ {L C : Type 0} {kind : LaneKind L C} (ahead : GoesAhead L C kind) where
   stride_begun words seat me sizes lane call cells may is =
       subst (λ (l : L). MayStride kind words seat me sizes l cells) (ahead.itself lane ∙ ap (λ (c : C). kind.called c lane) is) may
 
-  -- a port that may stride may behind more steps
+  -- a port that may stride may after more steps
   pub stride_next : (words seat seat' : TableId) (me me' : Me ℕ View) (sizes : TableSizes) (lane next : L) (cells more : ℕ)
       → MayStride kind words seat me sizes lane cells → seat' ≡ seat → StridesOn kind more me lane me' next
       → MayStride kind words seat' me' sizes next cells

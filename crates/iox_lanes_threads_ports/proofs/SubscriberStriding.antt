@@ -37,7 +37,7 @@ subscriber_goes_ahead = record {
   );
 }
 
--- steps that were made are those of a subscriber under way
+-- steps that were made are those of a subscriber in progress
 pub strode_subscribes : (p : Port) (lane : SubscriberLaneState) (me : Me ℕ View) (now : SubscriberLaneState)
     → SubscriberStrode p lane me now → Subscribes p lane me now
 strode_subscribes p lane me now run
@@ -85,7 +85,7 @@ strode_once me me' lane lane' alone stands step =
     (strode_none subscriber_goes_ahead me lane alone stands) (steps.goes_on (port_of me) lane stands step.0 step.1)
     (goes (port_of me) lane step.0 stays step.1) step.2)
 
--- steps behind steps
+-- steps after steps
 goes_along : (p : Port) (lane : SubscriberLaneState) (q : Port) (now : SubscriberLaneState) (q' : Port) (now' : SubscriberLaneState)
     → SubscriberGoes p lane q now → SubscriberGoes q now q' now' → SubscriberGoes p lane q' now'
 goes_along p lane q now q' now' before stays = before

@@ -36,7 +36,7 @@ use Rattle.iox_lanes_threads_ports.proofs.Pacing.{taken_after}
 abbrev pub TookNone : (ℕ → ℕ) → Type 0
 TookNone taken = (place : ℕ) → taken place ≡ 0
 
--- no more was taken back at each of so many connections than a ring has cells
+-- no more was taken back at each of n connections than a ring has cells
 abbrev pub TookFew : ℕ → ℕ → (ℕ → ℕ) → Type 0
 TookFew cells connections taken = (place : ℕ) → place < connections → taken place ≤ cells
 
@@ -57,7 +57,7 @@ PopSweeps cells connections taken book at pop.LookBegun = ⊥
 PopSweeps cells connections taken book at (pop.LookRead seen) = ⊥
 PopSweeps cells connections taken book at (pop.Looked some) = ⊥
 
--- and where a call stands: before it takes back, while it does, and behind that
+-- and where a call stands: before it takes back, while it does, and after that
 abbrev pub CallSweeps : ℕ → ℕ → (ℕ → ℕ) → BookState → PublisherCall → Type 0
 CallSweeps cells connections taken book publishing.Idle = TookFew cells connections taken
 CallSweeps cells connections taken book (publishing.LoanReclaims at route p) = PopSweeps cells connections taken book at p
@@ -79,7 +79,7 @@ pub record HasItsSlots (cells connections : ℕ) (book : BookState) (c : Publish
   pub answer : ℕ
   pub fits : ChangeFits connections book (publisher_change c answer)
 
--- so it is behind an access, if it is a load
+-- so it is after an access, if it is a load
 abbrev pub IfLoaded : SharedAccess → Type 0 → Type 0
 IfLoaded (Load w) holds = holds
 IfLoaded (Store w new) holds = Unit {0}
@@ -138,7 +138,7 @@ module _ (cells connections : ℕ) (taken : ℕ → ℕ) (book : BookState) wher
   sweeps_few (publishing.Sent slot delivery) k = k
   sweeps_few (publishing.Dropping slot) k = k
 
-  -- where a call comes to behind what it took back
+  -- where a call comes to after what it took back
   loan_behind : (n : ℕ) (at : Option Route) → TookOfSlots cells connections taken book
       → CallSweeps cells connections taken book (loan_from n at)
   loan_behind n None left = slots_few left
@@ -223,7 +223,7 @@ module _ (cells : ℕ) (routes : List Route) (stored : List ℕ) (taken : ℕ �
   abbrev Sweeps : (ℕ → ℕ) → BookState → PublisherCall → Type 0
   Sweeps after own c = CallSweeps cells (length routes) after own c
 
-  -- what a step leaves, if the lanes behind a load have it
+  -- what a step leaves, if the lanes after a load have it
   abbrev SweepsOn : PublisherCall → ℕ → Type 0
   SweepsOn c n =
       IfLoaded (publisher_next c)

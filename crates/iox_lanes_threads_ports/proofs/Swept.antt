@@ -15,7 +15,7 @@ use Rattle.iox_lanes_threads_ports.proofs.Moments.{loaded_slots}
 use Rattle.iox_lanes_threads_ports.proofs.PublisherSteps.{step_same, goes_on}
 use Rattle.iox_lanes_threads_ports.proofs.Sweeping.{CallSweeps, HasItsSlots, IfLoaded, none_taken_first, sweeps_few, sweeps_on}
 
--- a publisher behind steps of its call that took back so many at each place
+-- a publisher after steps of its call that took back n at each place
 record TookBack (p : Port) (lane : PublisherLaneState) (q : Port) (now : PublisherLaneState) (taken : ℕ → ℕ) : Type 0 where
   service : q.service ≡ p.service
   stands : PublisherStands q now

@@ -31,12 +31,12 @@ accesses_of_subscriber subscriber_stays = 0
 accesses_of_subscriber (subscriber_goes q now answer before told)
     = accesses_of_subscriber before + words_touched (subscriber_next now.port.call)
 
--- After any steps of a publisher, its port's count of accesses has risen by exactly as many as these steps make.
+-- After any steps of a publisher, its port's count of accesses has risen by exactly the number of accesses that these steps make.
 abbrev pub PublishersCount : Type 0
 PublishersCount = (p : Port) (lane : PublisherLaneState) (q : Port) (now : PublisherLaneState) (steps : PublisherGoes p lane q now)
     → q.accesses ≡ p.accesses + accesses_of_publisher steps
 
--- After any steps of a subscriber, its port's count of accesses has risen by exactly as many as these steps make.
+-- After any steps of a subscriber, its port's count of accesses has risen by exactly the number of accesses that these steps make.
 abbrev pub SubscribersCount : Type 0
 SubscribersCount = (p : Port) (lane : SubscriberLaneState) (q : Port) (now : SubscriberLaneState) (steps : SubscriberGoes p lane q now)
     → q.accesses ≡ p.accesses + accesses_of_subscriber steps

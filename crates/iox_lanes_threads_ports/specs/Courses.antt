@@ -42,17 +42,17 @@ pub data SubscriberGoes (p : Port) (lane : SubscriberLaneState) : Port → Subsc
   goes : (q : Port) (now : SubscriberLaneState) (answer : ℕ) → SubscriberGoes p lane q now → ToldBy q (subscriber_next now.port.call) answer
       → SubscriberGoes p lane (subscriber_stepped q now answer) (subscriber_after answer now)
 
--- A publisher makes one step on the shared words, with what its answer says of them.
+-- A publisher makes one step on the shared words, and its port learns what the answer reports of them.
 abbrev pub PublisherSteps : Port → PublisherLaneState → Me ℕ View → PublisherLaneState → Type 0
 PublisherSteps p lane me now = (answer : ℕ) × ToldBy p (publisher_next lane.port.call) answer
     × (me ≡ single (publisher_stepped p lane answer)) × (now ≡ publisher_after answer lane)
 
--- A subscriber makes one step on the shared words, with what its answer says of them.
+-- A subscriber makes one step on the shared words, and its port learns what the answer reports of them.
 abbrev pub SubscriberSteps : Port → SubscriberLaneState → Me ℕ View → SubscriberLaneState → Type 0
 SubscriberSteps p lane me now = (answer : ℕ) × ToldBy p (subscriber_next lane.port.call) answer
     × (me ≡ single (subscriber_stepped p lane answer)) × (now ≡ subscriber_after answer lane)
 
--- A subscriber makes all steps of its call with the last one, which gives this answer.
+-- A subscriber makes all steps of its call, and the last one gives this answer.
 pub record SubscriberEnds (p : Port) (lane : SubscriberLaneState) (q : Port) (now : SubscriberLaneState) (answer : Answer) : Type 0 where
   pub last : SubscriberLaneState
   pub goes : SubscriberGoes p lane q last

@@ -20,7 +20,7 @@ use Rattle.iox_lanes_threads_rule.specs.Rule.{held}
 use Rattle.iox_lanes_threads_rule.specs.Service.{write_word, read_word}
 use Rattle.iox_lanes_threads_rule.specs.declared.view.Port.{Port}
 
--- The value of the word that the port knows.
+-- The value that the port knows of the word.
 abbrev pub knows : Port → SharedWord → ℕ
 knows p w = held p.service p.known w
 

@@ -1,5 +1,5 @@
 -- Two reads of one sample, with the calls between them.
-use Rattle.std.specs.Prelude.{ℕ, ◌≡◌, ◌+◌, ◌<◌, Bool, true, false, List, length, slice_index, Option}
+use Rattle.std.specs.Prelude.{ℕ, ◌≡◌, ◌+◌, ◌<◌, Bool, true, false, List, length, slice_index}
 use mathlib.Core.Option.{some}
 use lib.ListN.{get_elem?}
 use Rattle.iox_lanes_machine.specs.LanesBase.Subscribing.{word_at, subscriber_is_idle}
@@ -25,7 +25,7 @@ pub record StandsBetween (s : SubscriberPort) : Type 0 where
   pub stands : SubscriberStands s.port s.lane
   pub idle : subscriber_is_idle s.lane.port.call ≡ true
 
--- `lent` is all words of header, user header and payload of the sample: the port's view lists them as loaded, with these values.
+-- `lent` is all words of the sample's header, user header and payload, and the port's view lists these words as loaded, with these values.
 pub record HasRead (p : Port) (extent : SlotExtent) (sample : ℕ) (lent : List ℕ) : Type 0 where
   pub listed : ListsRead p extent sample
   pub known : KnowsRead p extent sample lent
@@ -36,8 +36,8 @@ abbrev pub IsReadEarly : (old : SubscriberPort) (sample : ℕ) (new : Subscriber
 IsReadEarly old sample new false read = Unit {0}
 IsReadEarly old sample new true read = AreAnsweredEarly sample read.goes
 
--- A subscriber goes from one state to another by calls, one after the other, each with what it ensures: receives, reads (of this sample,
--- too), and releases of other samples. No write position was 2^64 - 1 when these calls loaded words of this sample.
+-- A subscriber goes from one state to another by calls, one after the other, each as its contract says: receives, reads (also of this
+-- sample), and releases of other samples. No write position was 2^64 - 1 when these calls loaded words of this sample.
 pub data GoesOnHolding (sample : ℕ) (from : SubscriberPort) : SubscriberPort → Type 0 where
   stays : GoesOnHolding sample from from
   receives : (old new : SubscriberPort) (receipt : Receipt) → GoesOnHolding sample from old → StandsBetween old
@@ -45,7 +45,7 @@ pub data GoesOnHolding (sample : ℕ) (from : SubscriberPort) : SubscriberPort �
       → GoesOnHolding sample from new
   reads : (old new : SubscriberPort) (other : ℕ) (done : Bool) → GoesOnHolding sample from old → StandsBetween old
       → (read : Reads old other new done) → (other ≡ sample → IsReadEarly old other new done read) → GoesOnHolding sample from new
-  releases : (old new : SubscriberPort) (other : ℕ) (done : Option Bool) → GoesOnHolding sample from old → StandsBetween old
+  releases : (old new : SubscriberPort) (other : ℕ) (done : Bool) → GoesOnHolding sample from old → StandsBetween old
       → Releases old other new done → (other ≡ sample → ⊥) → GoesOnHolding sample from new
 
 -- A subscriber that has read a sample still holds it after any calls that don't release it, and still knows its words to be these.
@@ -55,8 +55,8 @@ HeldReadsStay = (sample : ℕ) (from to : SubscriberPort) (extent : SlotExtent) 
     → HasRead from.port extent sample lent
     → (is_borrowed (place_of sample to.lane) ≡ true) × HasRead to.port extent sample lent
 
--- Two reads of one sample lend the same words, if no call between them releases it, and no write position was 2^64 - 1 when they loaded the
--- words. `first` is the subscriber after the first read, and `second` after the second one.
+-- Two reads of one sample return the same words, if no call between them releases it, and no write position was 2^64 - 1 when they loaded
+-- the words. `first` is the subscriber after the first read, and `second` after the second one.
 abbrev pub HeldReadsAgree : Type 0
 HeldReadsAgree = (sample : ℕ) (before first between second : SubscriberPort)
     → StandsBetween before → ReadsWords before first sample → HasRead first.port before.lane.port.extent sample first.words

@@ -44,7 +44,7 @@ ListsRead p extent slot = (k : ℕ) → k < 3 + extent.user_header_words + exten
     → (place : ℕ) × (slice_get p.seen place ≡ Some (Slot slot (word_at extent k)))
 
 -- A value was put into a ring that the port writes: it is in the cell of the write position that the port knew, and the write position is
--- one higher now (2^64 - 1 stays).
+-- now one higher (2^64 - 1 stays as it is).
 abbrev pub KnowsPut : Port → Port → ℕ → ConnectionRing → ℕ → ℕ → Type 0
 KnowsPut old new connection ring cells value =
     (knows new (Ring connection ring Write) ≡ successor (knows old (Ring connection ring Write)))
@@ -54,7 +54,7 @@ KnowsPut old new connection ring cells value =
 abbrev pub KeepsWrite : Port → Port → ℕ → ConnectionRing → Type 0
 KeepsWrite old new connection ring = knows new (Ring connection ring Write) ≡ knows old (Ring connection ring Write)
 
--- The subscriber put the sample into the completion ring of the connection that the sample was borrowed from.
+-- The port knows that the subscriber put the sample into the completion ring of the connection that the sample was borrowed from.
 abbrev pub KnowsGivenBack : Port → Port → SubscriberLaneState → ℕ → Type 0
 KnowsGivenBack old new lane sample =
     (place : ℕ) (route : Route) → place_of sample lane ≡ Some place → slice_get lane.port.routes place ≡ Some route
@@ -71,9 +71,9 @@ KeepsGivenBack old new lane sample =
     (place : ℕ) (route : Route) → place_of sample lane ≡ Some place → slice_get lane.port.routes place ≡ Some route
     → KeepsWrite old new route.connection Completion
 
--- What a send did at each of its connections: those that got the slot have it in their submission rings, and they are as many as the answer
--- says; the others refuse when full, and the write positions of their submission rings stayed. The answer is `UnableToDeliver` exactly
--- where the publisher fails at a full mailbox and some connection refused the slot.
+-- What a send did at each of its connections: those that got the slot have it in their submission rings, and their number is that of the
+-- answer; the others refuse when full, and the write positions of their submission rings stayed as they were. The answer is
+-- `UnableToDeliver` exactly if the publisher's sends fail at a full mailbox and some connection refused the slot.
 pub record KnowsSent (old new : Port) (fails : Bool) (routes : List Route) (slot : ℕ) (answer : SendAnswer) : Type 0 where
   pub delivery : Delivery
   pub told : answer ≡ send_answer fails delivery

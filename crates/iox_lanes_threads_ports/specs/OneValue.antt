@@ -38,8 +38,8 @@ HasThroughout sample (goes q now answer before told) =
     HasThroughout sample before × (is_borrowed (place_of sample (subscriber_after answer now)) ≡ true)
 
 -- A port that holds a sample, and whose view lists all words of it, still lists them after any steps of its calls that keep the sample, and
--- knows the same of them, if no write position was 2^64 - 1 when these steps loaded a word of it. So whatever words it knows the sample to
--- have then, they are the same, one by one.
+-- knows the same values of them, if no write position was 2^64 - 1 when these steps loaded a word of the sample. So two reads before and
+-- after these steps return the same words, one by one.
 abbrev pub ReadsGiveOneValue : Type 0
 ReadsGiveOneValue = (p : Port) (lane : SubscriberLaneState) (q : Port) (now : SubscriberLaneState) (steps : SubscriberGoes p lane q now)
     (extent : SlotExtent) (sample : ℕ) (lent : List ℕ)

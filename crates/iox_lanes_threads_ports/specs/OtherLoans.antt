@@ -11,7 +11,7 @@ use Rattle.iox_lanes_threads_ports.specs.Known.{KeepsPayload}
 use Rattle.iox_lanes_threads_ports.specs.Ports.{PublisherStands}
 use Rattle.iox_lanes_threads_ports.specs.Values.{PublisherPort, Loans, Sends, Drops}
 
--- a call writes no payload into this slot
+-- The call writes no payload into this slot.
 abbrev pub SparesPayload : ℕ → PublisherCall → Type 0
 SparesPayload slot publishing.Idle = Unit {0}
 SparesPayload slot (publishing.LoanReclaims place route pop) = Unit {0}
@@ -25,13 +25,13 @@ SparesPayload slot (publishing.Pushing other place route push delivery) = Unit {
 SparesPayload slot (publishing.Sent other delivery) = Unit {0}
 SparesPayload slot (publishing.Dropping other) = Unit {0}
 
--- Behind any steps of a call that writes no payload into a slot, the slot's payload is as it was.
+-- After any steps of a call that writes no payload into a slot, the slot's payload is as it was.
 abbrev pub SparedPayloadsStay : Type 0
 SparedPayloadsStay = (slot : ℕ) (p : Port) (lane : PublisherLaneState) (q : Port) (now : PublisherLaneState)
     → PublisherStands p lane → slot < p.service.sizes.slots → SparesPayload slot lane.port.call → PublisherGoes p lane q now
     → KeepsPayload p q slot
 
--- A loan, a send and a drop of a loan leave the payload of every slot as it was, be they answered or not.
+-- A loan, a send and a drop of a loan leave the payload of every slot as it was, with or without an answer.
 abbrev pub CallsKeepPayloads : Type 0
 CallsKeepPayloads = (slot : ℕ) (old new : PublisherPort) → PublisherStands old.port old.lane → slot < old.port.service.sizes.slots
     → ((given : Option LoanAnswer) → Loans old new given → KeepsPayload old.port new.port slot)

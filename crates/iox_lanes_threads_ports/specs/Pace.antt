@@ -11,7 +11,7 @@ use Rattle.iox_lanes_machine.specs.LanesParties.declared.call.Move.{Move}
 use Rattle.iox_lanes_machine.specs.LanesParties.declared.call.Move.TheVariants.{Begin, GoOn}
 use Rattle.iox_lanes_threads_ports.specs.Paces.{loan_steps, write_steps, send_steps}
 
--- A call is under way, and it stores at most `words` words.
+-- A call is in progress, and it stores at most `words` words.
 abbrev pub IsGoing : TableSizes → ℕ → PublisherCall → Type 0
 IsGoing sizes words publishing.Idle = ⊥
 IsGoing sizes words (publishing.LoanReclaims at route pop) = TakesSome 1 pop
@@ -25,8 +25,8 @@ IsGoing sizes words (publishing.Pushing slot at route push delivery) = PushGoes 
 IsGoing sizes words (publishing.Sent slot delivery) = Unit {0}
 IsGoing sizes words (publishing.Dropping slot) = Unit {0}
 
--- The most steps that the call may still make, if it took `taken place` samples back at each place already, takes at most `most` there, and
--- stores `words` words.
+-- The maximum number of steps that the call still makes, if it already took `taken place` samples back at each place, takes at most `most`
+-- there in all, and stores `words` words.
 abbrev pub steps_to_go : ℕ → ℕ → ℕ → (ℕ → ℕ) → PublisherCall → ℕ
 steps_to_go most connections words taken publishing.Idle = 0
 steps_to_go most connections words taken (publishing.LoanReclaims at route pop)
@@ -44,7 +44,7 @@ steps_to_go most connections words taken (publishing.Pushing slot at route push 
 steps_to_go most connections words taken (publishing.Sent slot delivery) = 1
 steps_to_go most connections words taken (publishing.Dropping slot) = 1
 
--- The call has loaded no word of a connection yet, if it is one that takes samples back.
+-- If the call is taking samples back, it has loaded no word of a connection yet.
 abbrev pub HasNotLoaded : PublisherCall → Type 0
 HasNotLoaded publishing.Idle = Unit {0}
 HasNotLoaded (publishing.LoanReclaims at route pop) = pop ≡ Begun

@@ -111,8 +111,8 @@ pub record SubscriberStands (p : Port) (lane : SubscriberLaneState) : Type 0 whe
   pub knows : SubscriberKnows p lane.port.call
   pub comes : ComesToSubscriber p.party lane
 
--- A publisher that stands (`PublisherStands`) still does after it begins a call that fits; its port may make its next access; and it stands
--- again after the answer of that access.
+-- `PublisherStands` still holds after the publisher begins a call that fits. Where it holds, the port may make its next access, and it
+-- holds again after the answer of that access.
 abbrev pub PublishersGoOn : Type 0
 PublishersGoOn = (p : Port) (lane : PublisherLaneState) → PublisherStands p lane
     → ((moment : ℕ) (call : Call) → publisher_fits lane (Begin call) ≡ true → PublisherStands p (publisher_begun moment call lane))
@@ -120,8 +120,8 @@ PublishersGoOn = (p : Port) (lane : PublisherLaneState) → PublisherStands p la
     × ((answer : ℕ) → ToldBy p (publisher_next lane.port.call) answer
     → PublisherStands (publisher_stepped p lane answer) (publisher_after answer lane))
 
--- A subscriber that stands (`SubscriberStands`) still does after it begins a call that fits; its port may make its next access; and it
--- stands again after the answer of that access.
+-- `SubscriberStands` still holds after the subscriber begins a call that fits. Where it holds, the port may make its next access, and it
+-- holds again after the answer of that access.
 abbrev pub SubscribersGoOn : Type 0
 SubscribersGoOn = (p : Port) (lane : SubscriberLaneState) → SubscriberStands p lane
     → ((moment : ℕ) (call : Call) → subscriber_fits lane (Begin call) ≡ true → SubscriberStands p (subscriber_begun moment call lane))

@@ -1,4 +1,4 @@
--- What a read lent of a sample that its subscriber still holds.
+-- What a read returned of a sample that its subscriber still holds.
 use Rattle.std.specs.Prelude.{ℕ, ◌≡◌, ◌+◌, ◌<◌, true, List, length, slice_get, slice_index, Some}
 use mathlib.Core.Option.{some}
 use lib.ListN.{get_elem?}
@@ -17,8 +17,8 @@ use Rattle.iox_lanes_threads_rule.specs.declared.view.Port.{Port}
 use Rattle.iox_lanes_threads_rule.specs.declared.view.PortParty.{PortParty}
 use Rattle.iox_lanes_threads_ports.specs.Known.{KnowsRead, ListsRead}
 
--- If a port's view lists all words of a slot, with these values, then each value is what the slot's word holds, and what the port that
--- stores this word knows of it, as long as no write position is 2^64 - 1.
+-- If a port's view lists all words of a slot, with these values, then each value is the one that the slot's word has, and the one that the
+-- port which stores this word knows, as long as no write position is 2^64 - 1.
 abbrev pub ReadsStand : Type 0
 ReadsStand = (s : Service) (words : List ℕ) (ports : List Port) (at number : ℕ) (q p : Port) (extent : SlotExtent) (slot : ℕ)
     (lent : List ℕ)

@@ -32,15 +32,15 @@ use Rattle.iox_lanes_machine.specs.LanesBase.declared.words.word.ConnectionRing.
 use Rattle.iox_lanes_threads_ports.specs.declared.ring_calls.RouteRing.{RouteRing}
 use Rattle.iox_lanes_threads_ports.specs.Strides.{called, subscriber_called, AsksWord, KeepsPositions}
 
--- The submission ring of a connection, which its messages go through.
+-- The submission ring of a connection, through which its messages go.
 abbrev pub submission_ring : Route → RouteRing
 submission_ring route = record { connection = route.connection; ring = own_ring.Submission; cells = route.submission_cells }
 
--- The completion ring of a connection, which its samples come back through.
+-- The completion ring of a connection, through which its samples come back.
 abbrev pub completion_ring : Route → RouteRing
 completion_ring route = record { connection = route.connection; ring = own_ring.Completion; cells = route.completion_cells }
 
--- The calls of one kind of ring are calls on either kind (`whole`): they ask for the same accesses, and take answers alike.
+-- A call on one kind of ring is a call on either kind (`whole`): both ask for the same accesses, and take answers in the same way.
 pub record AreAlike {S E : Type 0} (whole : S → E) (asks : S → Access) (takes : S → ℕ → S) (asks_as : E → Access) (takes_as : E → ℕ → E)
     : Type 0 where
   pub asks_alike : (s : S) → asks_as (whole s) ≡ asks s
@@ -131,7 +131,7 @@ gives_nothing_back place (refusing_push.SawRoom value write next) k = refl
 gives_nothing_back place (refusing_push.Filled value next) k = absurd k
 gives_nothing_back place (refusing_push.Pushed value answer) k = refl
 
--- A loan that takes back goes to the next stage of its pop.
+-- A loan that takes samples back goes to the next stage of its pop.
 pub loan_goes_on : (lane : PublisherLaneState) (place : ℕ) (route : Route) (s : refusing_pop_type.Pop) (answer : ℕ)
     → AsksWord (refusing.pop_next (refusing.pop_take s answer))
     → publisher_after answer (called (publishing.LoanReclaims place route s) lane)
@@ -145,7 +145,7 @@ loan_goes_on lane place route s answer a =
       };
     }
 
--- A send that takes back goes to the next stage of its pop.
+-- A send that takes samples back goes to the next stage of its pop.
 pub sweep_goes_on : (lane : PublisherLaneState) (slot place : ℕ) (route : Route) (s : refusing_pop_type.Pop) (answer : ℕ)
     → AsksWord (refusing.pop_next (refusing.pop_take s answer))
     → publisher_after answer (called (publishing.SendReclaims slot place route s) lane)

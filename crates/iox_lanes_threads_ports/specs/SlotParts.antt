@@ -13,7 +13,7 @@ abbrev pub storing : SlotPart → ℕ → ℕ → ℕ → PublisherCall
 storing Payload slot word value = Writing slot word value
 storing Head slot word value = Heading slot word value
 
--- The stage at which a call that stores these words in a part of the slot is at word `word`.
+-- The stage of a call that stores these words in a part of the slot, at which it stores word `word` next.
 abbrev pub storing_at : SlotPart → List ℕ → ℕ → ℕ → PublisherCall
 storing_at Payload words slot word = write_at words slot word
 storing_at Head words slot word = head_at words slot word

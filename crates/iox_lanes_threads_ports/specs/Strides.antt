@@ -26,8 +26,8 @@ use Rattle.iox_lanes_threads_ports.specs.Ports.{PublisherStands, SubscriberStand
 abbrev pub called : PublisherCall → PublisherLaneState → PublisherLaneState
 called call lane = record lane { port = record lane.port { call = call } }
 
--- A publisher goes from one state to another by so many steps, none of which is the last one of a call: each makes the access that its call
--- names next, and goes on with the answer.
+-- A publisher goes from one state to another by this many steps, none of which is the last one of a call: each makes the access that its
+-- call names next, and goes on with the answer.
 pub data PublisherStrides (p : Port) (lane : PublisherLaneState) : ℕ → Port → PublisherLaneState → Type 0 where
   stays : PublisherStrides p lane 0 p lane
   goes : (made : ℕ) (q : Port) (now : PublisherLaneState) (answer : ℕ) → PublisherStrides p lane made q now
@@ -35,8 +35,8 @@ pub data PublisherStrides (p : Port) (lane : PublisherLaneState) : ℕ → Port 
       → ToldBy q (publisher_next now.port.call) answer
       → PublisherStrides p lane (made + 1) (publisher_stepped q now answer) (publisher_after answer now)
 
--- A port that is alone on its seat, and whose lane made steps: the port knows what the lane's next step needs (`Stands`), and `Went` says
--- by which steps the lane came there.
+-- A port that is alone on its seat, and whose lane made steps: the port knows what the lane's next step needs (`Stands`), and the lane came
+-- there by steps of which `Went` is true.
 pub record Strode {L : Type 0} (Stands : Port → L → Type 0) (Went : Port → L → Type 0) (p : Port) (me : Me ℕ View) (now : L) : Type 0 where
   pub alone : me ≡ single (port_of me)
   pub service : (port_of me).service ≡ p.service
@@ -52,7 +52,7 @@ PublisherStrode p lane made me now = Strode PublisherStands (PublisherStrides p 
 abbrev pub subscriber_called : SubscriberCall → SubscriberLaneState → SubscriberLaneState
 subscriber_called call lane = record lane { port = record lane.port { call = call } }
 
--- A subscriber goes from one state to another by steps; their number isn't used.
+-- A subscriber goes from one state to another by steps, of whatever number.
 abbrev pub SubscriberStrides : Port → SubscriberLaneState → ℕ → Port → SubscriberLaneState → Type 0
 SubscriberStrides p lane made q now = SubscriberGoes p lane q now
 
@@ -69,7 +69,8 @@ TouchesWord Local = ⊥
 
 -- What the lanes of a kind do with their calls: `standing` is the stage of a lane's call, `called` the lane with its call set to a stage,
 -- `next` the access that comes next at a stage, `after` the lane after an answer, and `party` what its port is after that answer. A lane
--- `Stands` where its port knows what its next step needs, and `Strides` says that it goes on by so many steps.
+-- `Stands` if its port knows what its next step needs, and `Strides` says that the lane goes from one state to another by a number of
+-- steps.
 pub record LaneKind (L C : Type 0) : Type 1 where
   pub standing : L → C
   pub called : C → L → L
@@ -107,13 +108,13 @@ subscribers = record {
 abbrev pub StrodeBy : {L C : Type 0} → LaneKind L C → Port → L → ℕ → Me ℕ View → L → Type 0
 StrodeBy kind p lane made me now = Strode kind.Stands (kind.Strides p lane made) p me now
 
--- A port goes from one lane to another by `more` steps: whatever steps it made before, it made `more` steps more after.
+-- A port goes from one lane to another by `more` steps: whatever steps it made before, it then made `more` further ones.
 abbrev pub StridesOn : {L C : Type 0} → LaneKind L C → ℕ → Me ℕ View → L → Me ℕ View → L → Type 0
 StridesOn {L = L} kind more me lane me' next = (p : Port) (begun : L) (made : ℕ) → StrodeBy kind p begun made me lane
     → StrodeBy kind p begun (made + more) me' next
 
--- A port may make the next access of a lane of a kind, on a ring with `count` cells: its seat is one of this table, which has the words of
--- these sizes, as its service has; the port is alone on its seat, and knows what the lane's next step needs; and the ring has cells.
+-- A port may make the next access of a lane of a kind, on a ring with `count` cells. The port is alone on its seat, which is a seat of this
+-- table; table and service have the words of these sizes; the port knows what the lane's next step needs; and the ring has cells.
 pub record MayStride {L C : Type 0} (kind : LaneKind L C) (words seat : TableId) (me : Me ℕ View) (sizes : TableSizes) (lane : L)
     (count : ℕ) : Type 0 where
   pub table : (seat ≡ words) × (words.words ≡ words_of sizes) × IsSmall sizes
@@ -121,8 +122,9 @@ pub record MayStride {L C : Type 0} (kind : LaneKind L C) (words seat : TableId)
   pub stands : kind.Stands (port_of me) lane
   pub cells : 0 < count
 
--- Lanes of a kind may be set to where their port's accesses lead. Where a lane stands, its port may make the access that comes next. By no
--- steps a lane stays as it is, and by one access more to a shared word, after its answer, it stands again and has made one step more.
+-- Lanes of a kind may be set to the stage to which their port's accesses lead. Where `Stands` holds for a lane, its port may make the
+-- access that comes next. After no steps a lane is as it was. After another access to a shared word, and its answer, `Stands` holds again
+-- and the lane has made one more step.
 pub record GoesAhead (L C : Type 0) (kind : LaneKind L C) : Type 0 where
   pub itself : (lane : L) → lane ≡ kind.called (kind.standing lane) lane
   pub may : (p : Port) (call : C) (lane : L) → kind.Stands p (kind.called call lane) → MayAct p (kind.next call)
@@ -152,7 +154,7 @@ AsksWord (own.Store word value) = Unit {0}
 AsksWord (own.Exchange word old new) = Unit {0}
 AsksWord own.Local = ⊥
 
--- A pop or a push makes two accesses to words from this stage on, and the first of them moves no position.
+-- A pop or a push makes two accesses to words from this stage on, of which the first moves no position.
 pub record MakesTwo {S : Type 0} (asks : S → Access) (takes : S → ℕ → S) (stage : S) : Type 0 where
   pub first : AsksWord (asks stage)
   pub keeps : KeepsPositions (asks stage)

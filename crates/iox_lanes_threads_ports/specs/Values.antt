@@ -29,6 +29,7 @@ use Rattle.iox_lanes_threads_rule.specs.declared.view.Port.{Port}
 use Rattle.iox_lanes_threads_rule.specs.declared.view.View.{View}
 use Rattle.iox_lanes_threads_ports.specs.Courses.{SubscriberGoes, SubscriberEnds}
 use Rattle.iox_lanes_threads_ports.specs.Paces.{loan_steps, write_steps, send_steps, PublisherEnds, StaysInside, PublisherRuns}
+use Rattle.iox_lanes_threads_ports.specs.Paces.{AreFoundEarly}
 
 -- A publisher: the table of words that it steps on, what its port knows, and its lane.
 pub record PublisherPort : Type 0 where
@@ -51,7 +52,7 @@ pub record IsSeated (table : TableId) (me : Me ℕ View) (sizes : TableSizes) : 
   pub small : IsSmall sizes
   pub words : table.words ≡ words_of sizes
 
--- The move begins a write, with room for the words of a payload and of a user header of these sizes.
+-- The move begins a write, with memory for the words of a payload and of a user header of these sizes.
 abbrev pub HasRoom : TableSizes → Move → Type 0
 HasRoom sizes GoOn = ⊥
 HasRoom sizes (Begin c) = HasWidths sizes.payload_words sizes.user_header_words c
@@ -71,8 +72,8 @@ abbrev pub subscriber_begins : Move → SubscriberLaneState → SubscriberLaneSt
 subscriber_begins GoOn lane = lane
 subscriber_begins (Begin c) lane = subscriber_begun 0 c lane
 
--- What a publisher does when it is asked to make a move: nothing, without an answer, if the move doesn't fit; otherwise it runs the steps
--- of its call, at most `most`.
+-- What a publisher does when it is asked to make a move. If the move doesn't fit, it does nothing, and there is no answer. Otherwise it
+-- runs the steps of its call, at most `most`.
 abbrev pub PublisherDoes : ℕ → Port → PublisherLaneState → Move → Port → PublisherLaneState → Option Answer → Type 0
 PublisherDoes most p lane step q now given =
     ((publisher_fits lane step ≡ false) × (given ≡ None) × (q ≡ p) × (now ≡ lane))
@@ -112,15 +113,15 @@ sent_of (Some (answer.Released done)) = None
 abbrev pub StaysPut : PublisherPort → PublisherPort → Type 0
 StaysPut old new = (new.table ≡ old.table) × (new.port ≡ old.port) × (new.lane ≡ old.lane)
 
--- What a call of a publisher does: `fits` says whether it fits, `begun` is the lane when it begins, and `most` its most steps. It has no
--- answer if it doesn't fit, and then nothing is done, or if it is still inside the call after all of these steps; otherwise it returns the
--- answer of its last step.
+-- What a call of a publisher does: `fits` says whether the call fits, `begun` is the lane when it begins, and `most` is its maximum number
+-- of steps. There is no answer if the call doesn't fit, and then nothing is done, or if the publisher is still inside the call after `most`
+-- steps. Otherwise the answer is that of the call's last step.
 abbrev pub Publishes : PublisherPort → PublisherPort → Bool → PublisherLaneState → ℕ → Option Answer → Type 0
 Publishes old new fits begun most None = ((fits ≡ false) × StaysPut old new)
     ⊎ ((fits ≡ true) × StaysInside most old.port begun new.port new.lane)
 Publishes old new fits begun most (Some answer) = (fits ≡ true) × PublisherEnds most old.port begun new.port new.lane answer
 
--- The answer of a lane that returns this answer of a loan.
+-- The lane's answer to a loan, if this is what the loan returns.
 abbrev pub as_lent : Option LoanAnswer → Option Answer
 as_lent None = None
 as_lent (Some given) = Some (answer.Lent given)
@@ -131,7 +132,7 @@ Loans old new given =
     Publishes old new (publisher_fits old.lane (Begin call.LoanUninit)) (publisher_begun 0 call.LoanUninit old.lane)
     (loan_steps old.port.service.sizes) (as_lent given)
 
--- The answer of a lane that returns this answer of a send.
+-- The lane's answer to a send, if this is what the send returns.
 abbrev pub as_sent : Option SendAnswer → Option Answer
 as_sent None = None
 as_sent (Some told) = Some (answer.Sent told)
@@ -142,7 +143,8 @@ Sends old loan new given =
     Publishes old new (publisher_fits old.lane (Begin (call.Send loan))) (publisher_begun 0 (call.Send loan) old.lane)
     (send_steps old.port.service.sizes) (as_sent given)
 
--- A write fits between calls, if the slot is a loan of the port, and the words are as many as a payload and a user header have.
+-- A write fits if the publisher is between calls, the slot is a loan of the port, and the numbers of words are those of a payload and a
+-- user header.
 abbrev pub write_fits : PublisherLaneState → ℕ → List ℕ → List ℕ → Bool
 write_fits lane loan payload user_header =
     publisher_is_idle lane.port.call
@@ -153,7 +155,7 @@ write_fits lane loan payload user_header =
 abbrev pub write_begins : PublisherLaneState → ℕ → List ℕ → List ℕ → PublisherLaneState
 write_begins lane loan payload user_header = record (write_begun loan payload user_header lane) { call = name.Write loan; first = 0 }
 
--- A write that fits is always answered, by the steps of its call; one that doesn't fit does nothing.
+-- A write that fits is always answered, by the steps of its call; a write that doesn't fit does nothing.
 abbrev pub Writes : PublisherPort → ℕ → List ℕ → List ℕ → PublisherPort → Bool → Type 0
 Writes old loan payload user_header new false = (write_fits old.lane loan payload user_header ≡ false) × StaysPut old new
 Writes old loan payload user_header new true =
@@ -161,7 +163,7 @@ Writes old loan payload user_header new true =
     × PublisherEnds (write_steps old.port.service.sizes) old.port (write_begins old.lane loan payload user_header) new.port new.lane
     answer.Written
 
--- A drop of a loan that fits is one step, which touches no shared word, and always has an answer; one that doesn't fit does nothing.
+-- A drop of a loan that fits is one step, which accesses no shared word, and has an answer; a drop that doesn't fit does nothing.
 abbrev pub Drops : PublisherPort → ℕ → PublisherPort → Bool → Type 0
 Drops old loan new false = (publisher_fits old.lane (Begin (call.DropLoan loan)) ≡ false) × StaysPut old new
 Drops old loan new true =
@@ -173,7 +175,7 @@ Drops old loan new true =
 abbrev pub settled : SubscriberLaneState → SubscriberLaneState
 settled lane = if subscriber_is_over lane.port.call then subscriber_after 0 lane else lane
 
--- No call is under way, or only the last step of one is left, which touches no shared word.
+-- No call is in progress, or only the last step of one is left, which touches no shared word.
 abbrev pub IsBetween : SubscriberCall → Type 0
 IsBetween c = (subscriber_is_idle c || subscriber_is_over c) ≡ true
 
@@ -192,7 +194,7 @@ IsShort (subscribing.Releasing place route (push.Filled value next)) = Unit {0}
 IsShort (subscribing.Releasing place route (push.Pushed value given)) = ⊥
 IsShort (subscribing.Released done) = Unit {0}
 
--- How many steps a read or a release makes before its last one.
+-- The number of steps that a read or a release makes before its last one.
 abbrev pub steps_left : SubscriberCall → ℕ
 steps_left subscribing.Idle = 0
 steps_left (subscribing.Receiving place route pop waits) = 0
@@ -222,23 +224,32 @@ received_of (Some (answer.Received got)) = got
 received_of (Some (answer.Read from)) = receipt.Nothing
 received_of (Some (answer.Released done)) = receipt.Nothing
 
--- The answer of a release, if this is one.
-abbrev pub released_of : Option Answer → Option Bool
-released_of None = None
-released_of (Some (answer.Lent given)) = None
-released_of (Some answer.Written) = None
-released_of (Some (answer.Sent told)) = None
-released_of (Some answer.Dropped) = None
-released_of (Some (answer.Received got)) = None
-released_of (Some (answer.Read from)) = None
-released_of (Some (answer.Released done)) = Some done
+-- Whether this is the answer of a release whose sample went back.
+abbrev pub is_released : Option Answer → Bool
+is_released None = false
+is_released (Some (answer.Lent given)) = false
+is_released (Some answer.Written) = false
+is_released (Some (answer.Sent told)) = false
+is_released (Some answer.Dropped) = false
+is_released (Some (answer.Received got)) = false
+is_released (Some (answer.Read from)) = false
+is_released (Some (answer.Released done)) = done
 
--- A release that fits makes the steps of its call, and answers whether the sample went back; one that doesn't fit does nothing.
-abbrev pub Releases : SubscriberPort → ℕ → SubscriberPort → Option Bool → Type 0
-Releases old sample new None = (subscriber_fits old.lane (Begin (call.Release sample)) ≡ false) × Unmoved old new
-Releases old sample new (Some done) =
+-- A release that fits made the steps of its call, and found the completion ring full, so the sample is still borrowed. This happens only
+-- where some write position was 2^64 - 1 when one of these steps loaded a word.
+pub record IsReleasedLate (old : SubscriberPort) (sample : ℕ) (new : SubscriberPort) : Type 0 where
+  pub fits : subscriber_fits old.lane (Begin (call.Release sample)) ≡ true
+  pub ends : SubscriberEnds old.port (subscriber_begun 0 (call.Release sample) old.lane) new.port new.lane (answer.Released false)
+  pub late : AreFoundEarly ends.goes → ⊥
+
+-- A release that fits makes the steps of its call, and the sample went back, as long as no write position was 2^64 - 1
+-- (`IsReleasedLate`). A release that doesn't fit does nothing.
+abbrev pub Releases : SubscriberPort → ℕ → SubscriberPort → Bool → Type 0
+Releases old sample new false =
+    ((subscriber_fits old.lane (Begin (call.Release sample)) ≡ false) × Unmoved old new) ⊎ IsReleasedLate old sample new
+Releases old sample new true =
     (subscriber_fits old.lane (Begin (call.Release sample)) ≡ true)
-    × SubscriberEnds old.port (subscriber_begun 0 (call.Release sample) old.lane) new.port new.lane (answer.Released done)
+    × SubscriberEnds old.port (subscriber_begun 0 (call.Release sample) old.lane) new.port new.lane (answer.Released true)
 
 -- A read that fits made its steps, and keeps the words that they loaded.
 pub record ReadsWords (old new : SubscriberPort) (sample : ℕ) : Type 0 where
@@ -249,7 +260,7 @@ pub record ReadsWords (old new : SubscriberPort) (sample : ℕ) : Type 0 where
   pub after : new.lane ≡ subscriber_after 0 last
   pub words : new.words ≡ last.port.words
 
--- A read that fits makes its steps and keeps the words; one that doesn't fit does nothing.
+-- A read that fits makes its steps and keeps the words that they loaded; a read that doesn't fit does nothing.
 abbrev pub Reads : SubscriberPort → ℕ → SubscriberPort → Bool → Type 0
 Reads old sample new false = (subscriber_fits old.lane (Begin (call.Read sample)) ≡ false) × Unmoved old new
 Reads old sample new true = ReadsWords old new sample

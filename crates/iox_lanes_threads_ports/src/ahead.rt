@@ -10,7 +10,7 @@ use iox_lanes_parties::{PublisherLane, SubscriberLane};
 use iox_lanes_threads_rule::{Doing, Opening, WordSeat, Words, act};
 use std::marker::Brand;
 
-/// A lane that catches up at once with accesses that its port made before it.
+/// A lane that can catch up with accesses that its port made ahead of it.
 pub(crate) trait Ahead: Sized {
     /// The stage of its call.
     type Call: Copy;

@@ -1,5 +1,5 @@
-//! Theorems on ports in threads: at each stage of a call the port knows what its next step needs. They are proved of the definitions that
-//! the contracts of ports cite.
+//! Theorems on ports in threads: at each stage of a call the port knows what its next step needs. They speak of the definitions that the
+//! contracts of ports cite.
 ghost use Rattle.iox_lanes_threads_ports.specs.Counts.{PublishersCount, SubscribersCount};
 ghost use Rattle.iox_lanes_threads_ports.specs.GivenBack.{NoMoreComesBack};
 ghost use Rattle.iox_lanes_threads_ports.specs.Holding.{HeldReadsStay, HeldReadsAgree, HeldReadsAreKnown};
@@ -37,9 +37,9 @@ pub fn no_more_comes_back()
     ensures { NoMoreComesBack }
 {}
 
-/// The words that a read lent are still the words of the sample's slot, and the publisher knows them to be these. This holds while the
-/// subscriber's view lists these words as loaded with these values, as it does directly after the read, and while no write position is 2^64
-/// - 1.
+/// The words that a read returned are still the words of the sample's slot, and the publisher knows that these are its words. This holds
+/// while the subscriber's view lists these words as loaded with these values, as it does directly after the read, and while no write
+/// position is 2^64 - 1.
 pub fn reads_stand()
     ensures { ReadsStand }
 {}
@@ -56,18 +56,18 @@ pub fn reads_give_one_value()
     ensures { ReadsGiveOneValue }
 {}
 
-/// Two reads of one sample lend the same words, whatever receives, reads, and releases of other samples the subscriber makes between them.
-/// This follows from what each call ensures, provided that no write position was 2^64 - 1 when one of these reads, the second one included,
-/// loaded a word of the sample. Once ports are ended together, the publisher knows what the subscriber has read of a sample that it still
-/// holds, if the ports know that no write position is 2^64 - 1.
+/// Two reads of one sample return the same words, whatever receives, reads, and releases of other samples the subscriber makes between
+/// them. This follows from what each call ensures, provided that no write position was 2^64 - 1 when one of these reads, the second one
+/// included, loaded a word of the sample. Once ports are ended together, the publisher knows what the subscriber has read of a sample that
+/// it still holds, if the ports know that no write position is 2^64 - 1.
 pub fn held_reads_agree()
     ensures stay { HeldReadsStay }
     ensures agree { HeldReadsAgree }
     ensures known { HeldReadsAreKnown }
 {}
 
-/// A loan keeps its payload while its publisher works on others: steps of a call store words of it only where the call writes into its
-/// slot. So a loan, a send, a drop, and a write into another slot leave what the port knows of its payload.
+/// A loan keeps its payload while its publisher works on other loans: the steps of a call store payload words of a slot only if the call
+/// writes into this slot. So a loan, a send, a drop, and a write into another slot don't change what the port knows of this loan's payload.
 pub fn other_loans_stay()
     ensures steps { SparedPayloadsStay }
     ensures calls { CallsKeepPayloads }

@@ -65,7 +65,8 @@ pub fn write_room(alloc: Global, sizes: &TableSizes) -> Result<Move, AllocError>
     }))
 }
 
-// Copies slot, payload and user header into the write that the lane begins next, if they have as many words as it has room for.
+// Copies slot, payload and user header into the write that the lane begins next, if their numbers of words are those that it has memory
+// for.
 fn fill(asked: &mut Move, loan: u64, words: &[u64], header: &[u64]) -> bool
     ensures fills { result ≡ true → Asks loan words.now header.now asked.new }
     ensures refuses { (sizes : TableSizes) → HasRoom sizes asked.old → HasRoom sizes asked.new
@@ -100,7 +101,8 @@ fn fill_call(asked: &mut Call, loan: u64, words: &[u64], header: &[u64]) -> bool
     }
 }
 
-// Copies the words of a value and of a user header into that write, if they are as many as it has room for.
+// Copies the words of a value and of a user header into the write that the lane begins next, if their numbers are those that it has memory
+// for.
 fn fill_values<T: WordValues, U: WordValues>(
     asked: &mut Move,
     loan: u64,
@@ -136,7 +138,7 @@ fn sent(answer: Option<Answer>) -> Option<SendAnswer>
     }
 }
 
-// The most steps in which a publisher takes back the samples that came back at all its connections.
+// The maximum number of steps in which a publisher takes samples back at all its connections.
 fn sweep_steps(sizes: &TableSizes) -> u128
     requires { IsSmall sizes.now }
     ensures { result ≡ sweep_steps sizes.now }
@@ -144,7 +146,7 @@ fn sweep_steps(sizes: &TableSizes) -> u128
     sizes.connections as u128 * (4 * (sizes.completion_cells as u128 + 1) + 2)
 }
 
-// The most steps of a loan.
+// The maximum number of steps of a loan.
 fn loan_steps(sizes: &TableSizes) -> u128
     requires { IsSmall sizes.now }
     ensures { result ≡ loan_steps sizes.now }
@@ -152,14 +154,14 @@ fn loan_steps(sizes: &TableSizes) -> u128
     sweep_steps(sizes) + 1
 }
 
-// The most steps of a write.
+// The maximum number of steps of a write.
 fn write_steps(sizes: &TableSizes) -> u128
     ensures { result ≡ write_steps sizes.now }
 {
     sizes.payload_words as u128 + 1
 }
 
-// The most steps of a send.
+// The maximum number of steps of a send.
 fn send_steps(sizes: &TableSizes) -> u128
     requires { IsSmall sizes.now }
     ensures { result ≡ send_steps sizes.now }
@@ -227,14 +229,15 @@ impl ThreadedPublisher {
         }
     }
 
-    /// Loans a slot, in at most `loan_steps` steps: as many as its connections need to give back all the samples that they have cells for,
-    /// and one sample more each. The answer is None if the port is inside a call; then nothing is done. It is None, too, if the loan isn't
-    /// over after that many steps. This happens only where a write position was 2^64 - 1 when the call loaded a word, and more samples came
-    /// back at one connection than its completion ring has cells. The port stays inside that call.
+    /// Loans a slot in at most `loan_steps` steps, which suffice for each connection to return as many samples as its completion ring has
+    /// cells, and one more. Returns None, and does nothing, if the port is inside a call. It also returns None if the loan isn't over after
+    /// that many steps; then the port stays inside that call. That happens only where a write position was 2^64 - 1 when the call loaded a
+    /// word, and more samples came back at one connection than its completion ring has cells.
     pub fn loan_uninit<K: Opening>(&mut self, words: &Words<K>) -> Option<LoanAnswer>
         requires { self.old.table ≡ words.now.table_id }
         ensures same { SamePublisher self.old self.new }
         ensures call { Loans self.old self.new result }
+        ensures others { (other : ℕ) → other < self.old.port.service.sizes.slots → KeepsPayload self.old.port self.new.port other }
     {
         let most = loan_steps(&self.sizes);
         let step = Move::Begin(Call::LoanUninit);
@@ -250,7 +253,7 @@ impl ThreadedPublisher {
     }
 
     /// Writes the words of a payload into the slot of a loan, and keeps the words of a user header for its send. Returns false if the slot
-    /// isn't a loan of this port, the words aren't as many as a payload and a user header have, or the port is inside a call; then nothing
+    /// isn't a loan of this port, the number of words isn't that of a payload and a user header, or the port is inside a call; then nothing
     /// is done.
     pub fn write<K: Opening>(
         &mut self,
@@ -314,9 +317,9 @@ impl ThreadedPublisher {
         answer.is_some()
     }
 
-    /// Sends a loan that is written, and returns how many connections took it. The answer is `UnableToDeliver` exactly where the publisher
-    /// fails at a full mailbox and a connection refused the message. It is None if the slot isn't a written loan of this port, and where a
-    /// loan's answer would be None.
+    /// Sends a written loan, and returns the number of connections that took the message. The answer is `UnableToDeliver` exactly if the
+    /// publisher's sends fail at a full mailbox and a connection refused the message. Returns None, and does nothing, if the slot isn't a
+    /// written loan of this port; and None in the cases in which a loan returns None.
     pub fn send<K: Opening>(&mut self, words: &Words<K>, loan: u64) -> Option<SendAnswer>
         requires { self.old.table ≡ words.now.table_id }
         ensures same { SamePublisher self.old self.new }
@@ -325,6 +328,7 @@ impl ThreadedPublisher {
             × KeepsPayload self.old.port self.new.port loan }
         ensures sent { IfSome result (λ told. KnowsSent self.old.port self.new.port self.old.lane.fails self.old.lane.port.routes loan
             told) }
+        ensures others { (other : ℕ) → other < self.old.port.service.sizes.slots → KeepsPayload self.old.port self.new.port other }
     {
         let most = send_steps(&self.sizes);
         let step = Move::Begin(Call::Send { loan });
@@ -339,11 +343,12 @@ impl ThreadedPublisher {
         sent(answer)
     }
 
-    /// Gives a loan up, so that its slot is free again. It touches no shared word. Returns false, and does nothing, if the slot is no loan
-    /// of this port or the port is inside a call.
+    /// Drops a loan, so its slot is free again. It accesses no shared word. Returns false, and does nothing, if the slot is no loan of this
+    /// port or the port is inside a call.
     pub fn drop_loan(&mut self, loan: u64) -> bool
         ensures same { SamePublisher self.old self.new }
         ensures call { Drops self.old loan self.new result }
+        ensures others { (other : ℕ) → other < self.old.port.service.sizes.slots → KeepsPayload self.old.port self.new.port other }
     {
         let step = Move::Begin(Call::DropLoan { loan });
         if !self.lane.fits(&step) {
@@ -361,15 +366,15 @@ impl ThreadedPublisher {
         let _ = &self.lane;
     }
 
-    /// Its lane.
+    /// The publisher's lane.
     pub fn lane(&self) -> &PublisherLane
         ensures { result.now ≡ self.now.lane }
     {
         &self.lane
     }
 
-    /// The sequence number of the last message that it sent, or the number before the first one. None where messages have no sequence
-    /// numbers.
+    /// The sequence number of the last message that the publisher sent; before its first send, the number before that of its first message.
+    /// None where messages have no sequence numbers.
     pub fn last_sequence(&self) -> Option<u64>
         ensures { result ≡ self.now.lane.last }
     {

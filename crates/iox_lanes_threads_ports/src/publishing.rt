@@ -35,7 +35,7 @@ pub(crate) fn step<K: Opening>(
     lane.go_on(given)
 }
 
-/// Makes the steps of a publisher's call that begins, up to its last one, but at most `most`.
+/// Makes the steps of a publisher's call that has just begun, up to its last one, but at most `most`.
 pub(crate) fn run<K: Opening>(
     words: &Words<K>,
     seat: &mut WordSeat,

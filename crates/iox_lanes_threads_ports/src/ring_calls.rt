@@ -183,7 +183,7 @@ pub(crate) trait RingCall<L: Ahead, S: End>: Copy {
         → L.kind.after answer (L.kind.called (stage call state) lane) ≡ L.kind.called (stage call (S.takes state answer)) lane };
 }
 
-/// A loan that takes back at a connection.
+/// A loan that takes samples back at a connection.
 #[derive(Clone, Copy)]
 pub(crate) struct LoanReclaims {
     pub(crate) place: u64,
@@ -213,7 +213,7 @@ impl RingCall<PublisherLane, RefusingPop> for LoanReclaims {
     ghost goes_on = { λ lane call pop answer keeps asks. calls.loan_goes_on lane call.place call.route pop answer asks };
 }
 
-/// A send that takes back at a connection.
+/// A send that takes samples back at a connection.
 #[derive(Clone, Copy)]
 pub(crate) struct SendReclaims {
     pub(crate) slot: u64,

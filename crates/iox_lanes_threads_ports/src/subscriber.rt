@@ -1,5 +1,5 @@
 //! A subscriber whose calls make their steps on words that threads share.
-ghost use Rattle.std.specs.Prelude.{◌≡◌, ◌+◌, ◌||◌, true, false, length, None, Some};
+ghost use Rattle.std.specs.Prelude.{◌≡◌, ◌+◌, ◌||◌, true, false, length};
 ghost use Rattle.iox_lanes_machine.specs.LanesBase.Subscribing.{subscriber_is_idle, subscriber_is_over};
 ghost use Rattle.iox_lanes_machine.specs.LanesParties.Parties.{subscriber_begun, words_read};
 ghost use Rattle.iox_lanes_threads_rule.specs.Acts.{single, port_of};
@@ -7,7 +7,7 @@ ghost use Rattle.iox_lanes_threads_ports.specs.Courses.{SubscriberEnds};
 ghost use Rattle.iox_lanes_threads_ports.specs.Holding.{StandsBetween};
 ghost use Rattle.iox_lanes_threads_ports.specs.Known.{KnowsRead, ListsRead, KnowsGivenBack, KeepsGivenBack};
 ghost use Rattle.iox_lanes_threads_ports.specs.Ports.{SubscriberStands};
-ghost use Rattle.iox_lanes_threads_ports.specs.Values.{IsSeated, IsBetween, SameSubscriber, received_of, released_of, settled, Releases};
+ghost use Rattle.iox_lanes_threads_ports.specs.Values.{IsSeated, IsBetween, SameSubscriber, received_of, is_released, settled, Releases};
 ghost use Rattle.iox_lanes_threads_ports.specs.Values.{Reads};
 
 use crate::subscribing::{finish, run_on};
@@ -22,7 +22,8 @@ use std::sync::Wait;
 pub struct ThreadedSubscriber {
     seat: WordSeat,
     sizes: TableSizes,
-    // After a read the lane's last step, which touches no shared word, is still to be made: until then the lane lends the words read.
+    // After a read, the lane's last step, which accesses no shared word, isn't made yet; until it is made, the lane contains the words
+    // read.
     lane: SubscriberLane,
 }
 
@@ -77,12 +78,12 @@ fn received(answer: Option<Answer>) -> Receipt
     }
 }
 
-fn released(answer: Option<Answer>) -> Option<bool>
-    ensures { result ≡ released_of answer }
+fn is_released(answer: Option<Answer>) -> bool
+    ensures { result ≡ is_released answer }
 {
     match answer {
-        Some(Answer::Released(done)) => Some(done),
-        _ => None,
+        Some(Answer::Released(done)) => done,
+        _ => false,
     }
 }
 
@@ -98,7 +99,7 @@ impl ThreadedSubscriber {
         ThreadedSubscriber { seat, sizes, lane }
     }
 
-    /// Asks the connections, in their order, for a message, and returns the receipt. It may go on forever if publishers move the positions
+    /// Asks the connections, in their order, for a message, and returns the receipt. It may never return if publishers move the positions
     /// of a ring again and again.
     pub fn receive<R: Wait, K: Opening>(&mut self, rt: &R, words: &Words<K>) -> Receipt
         requires { self.old.table ≡ words.now.table_id }
@@ -113,8 +114,8 @@ impl ThreadedSubscriber {
         received(self.lane.go_on(0, 0))
     }
 
-    /// Reads the words of header, user header and payload of a sample, which `words` then lends. Returns false if the slot isn't a sample
-    /// of this port; then nothing is read. Two reads of one sample lend the same words, if no call between them releases it, and no write
+    /// Reads the words of a sample's header, user header and payload, which `words` then returns. Returns false, and reads nothing, if the
+    /// slot isn't a sample of this port. Two reads of one sample give the same words if no call between them releases it, and no write
     /// position was 2^64 - 1 when they loaded the words (`held_reads_agree`).
     pub fn read<K: Opening>(&mut self, words: &Words<K>, sample: u64) -> bool
         requires { self.old.table ≡ words.now.table_id }
@@ -142,23 +143,24 @@ impl ThreadedSubscriber {
         self.lane.words_read()
     }
 
-    /// Releases a sample, and returns whether it went back to its publisher. Returns None if the slot isn't a sample of this port; then
-    /// nothing is done.
-    pub fn release<K: Opening>(&mut self, words: &Words<K>, sample: u64) -> Option<bool>
+    /// Releases a sample: it goes back to its publisher. Returns false, and does nothing, if the slot isn't a sample of this port. It also
+    /// returns false, and the sample is still borrowed, where the completion ring was full; that happens only where a write position was
+    /// 2^64 - 1 when the call loaded a word (`IsReleasedLate`).
+    pub fn release<K: Opening>(&mut self, words: &Words<K>, sample: u64) -> bool
         requires { self.old.table ≡ words.now.table_id }
         ensures same { SameSubscriber self.old self.new }
         ensures stood { StandsBetween self.old }
         ensures call { Releases self.old sample self.new result }
-        ensures put { result ≡ Some true → KnowsGivenBack self.old.port self.new.port self.old.lane sample }
-        ensures kept { result ≡ Some false → KeepsGivenBack self.old.port self.new.port self.old.lane sample }
+        ensures put { result ≡ true → KnowsGivenBack self.old.port self.new.port self.old.lane sample }
+        ensures kept { result ≡ false → KeepsGivenBack self.old.port self.new.port self.old.lane sample }
     {
         settle(&mut self.lane);
         if !self.lane.fits(&Move::Begin(Call::Release { sample })) {
-            return None;
+            return false;
         }
         self.lane.begin(0, &Call::Release { sample });
         finish(words, &mut self.seat, &self.sizes, &mut self.lane);
-        released(self.lane.go_on(0, 0))
+        is_released(self.lane.go_on(0, 0))
     }
 
     /// Takes the port apart into its seat and its lane.

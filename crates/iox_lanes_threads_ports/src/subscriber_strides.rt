@@ -89,7 +89,7 @@ fn read_words<K: Opening>(
     let sizes = *sizes;
     let SampleRead { slot, extent } = sample;
     let last = 2 + extent.user_header_words + extent.payload_words;
-    // From there on each word is one of the payload: none asks which it is.
+    // From this word on each word is one of the payload, so no iteration asks which it is.
     let first = 3 + extent.user_header_words;
     let row = first.min(last);
     for word in 0..row {

@@ -28,7 +28,7 @@ use Rattle.iox_lanes_threads_rule.specs.Lanes.{IsEarly}
 abbrev untimed : Placed → Placed
 untimed placed = record placed { moment = 0 }
 
--- the lanes as if they had made so many steps, and all acts stood at the first moment
+-- the lanes as if they had made n steps, and all acts stood at the first moment
 abbrev pub retimed : World → World
 retimed m = record m { orders = map (λ order. map untimed order) m.orders; moments = 2 ^ 63 - 1 }
 

@@ -1,4 +1,4 @@
--- The lanes behind words and ports after one access of a party.
+-- The lanes that words and ports represent, after one access of a party.
 use Rattle.std.proofs.Common.{◌≡◌, ◌<◌, ◌^◌, true, refl, sym, ◌∙◌, ap, subst, arith}
 use Rattle.iox_lanes_machine.specs.LanesBase.Table.{TableWords, after_shared}
 use Rattle.iox_lanes_machine.specs.LanesBase.declared.words.access.SharedAccess.{SharedAccess}
@@ -15,7 +15,7 @@ use Rattle.iox_lanes_threads_rule.specs.Lanes.{IsEarly}
 use Rattle.iox_lanes_threads_rule.proofs.Anew.{retimed, anew, rooms_anew}
 use Rattle.iox_lanes_threads_rule.proofs.Together.{happens_together}
 
--- lanes behind an access of one party: they hold together, have room at each connection, and all others are as they were
+-- lanes after an access of one party: they hold together, have room at each connection, and all others are as they were
 pub record AfterAccess (m : World) (who : Party) (access : SharedAccess) (n : World) : Type 0 where
   pub together : HoldTogether n
   pub rooms : RoomsKept n

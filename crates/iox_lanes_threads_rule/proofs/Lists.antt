@@ -6,7 +6,7 @@ use lib.ListN.{get_elem?}
 pub none_there : {X : Type 0} (x : X) (i : ℕ) → get_elem? [] i ≡ some x → ⊥
 none_there x i e = some-ne-none x (sym e)
 
--- what stands in two lists one behind the other stands in one of them
+-- what stands in two lists one after the other stands in one of them
 pub in_either : {X : Type 0} (xs ys : List X) (n : ℕ) (x : X) → get_elem? (xs ++ ys) n ≡ some x → (get_elem? xs n ≡ some x)
     ⊎ ((j : ℕ) × (n ≡ length xs + j) × (get_elem? ys j ≡ some x))
 in_either [] ys n x e = inr (n, omega arith, e)

@@ -1,4 +1,4 @@
--- What a port does with a shared word, the lanes behind words and ports do.
+-- What a port does with a shared word, the lanes that words and ports represent do, too.
 use Rattle.std.proofs.Common.{ℕ, zero, suc, ◌≡◌, ◌<◌, ◌≤◌, ◌^◌, ◌==◌, Bool, true, false, if◌then◌else◌, List, [], ◌∷◌, map}
 use Rattle.std.proofs.Common.{length, set}
 use Rattle.std.proofs.Common.{slice_get, slice_index, refl, sym, ◌∙◌, ap, subst, inl, inr, arith}

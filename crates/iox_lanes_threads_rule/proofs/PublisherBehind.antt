@@ -1,4 +1,4 @@
--- The lanes behind words and ports go on as a publisher does: by begins and steps on no shared word, and by one access.
+-- The lanes that words and ports represent go on as a publisher does: by begins and steps on no shared word, and by one access.
 use Rattle.std.proofs.Common.{ℕ, ◌≡◌, ◌<◌, ◌^◌, Bool, true, false, not, slice_get, Option, Some, refl, sym, ◌∙◌, ap, subst}
 use Rattle.iox_lanes_machine.specs.LanesBase.Table.{shared_answer, after_shared}
 use Rattle.iox_lanes_machine.specs.LanesBase.Publishing.{publisher_next, publisher_take, publisher_change, publisher_is_idle}

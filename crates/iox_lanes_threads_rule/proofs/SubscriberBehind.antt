@@ -1,4 +1,4 @@
--- The lanes behind words and ports go on as a subscriber does: by begins and steps on no shared word, and by one access.
+-- The lanes that words and ports represent go on as a subscriber does: by begins and steps on no shared word, and by one access.
 use Rattle.std.proofs.Common.{ℕ, ◌≡◌, ◌<◌, ◌^◌, Bool, true, false, not, ◌&&◌, slice_get, Option, None, Some, refl, sym, ◌∙◌, ap, subst}
 use Rattle.iox_lanes_machine.specs.LanesBase.Table.{shared_answer, after_shared}
 use Rattle.iox_lanes_machine.specs.LanesBase.Subscribing.{subscriber_next, subscriber_take, subscriber_change, subscriber_is_idle}

@@ -1,4 +1,4 @@
--- One access of a port to the words that threads share: when it may be made, what it reports, and what the port knows then.
+-- One access of a port to the words that threads share: when it may be made, what it reports, and what the port knows afterwards.
 use Rattle.std.specs.Prelude.{ℕ, ◌≡◌, ◌<◌, ◌≤◌, ◌^◌, List, [], ◌∷◌, set}
 use mathlib.Core.Option.{some}
 use lib.ListN.{get_elem?}
@@ -19,7 +19,7 @@ use Rattle.iox_lanes_threads_rule.specs.declared.view.PortParty.{PortParty}
 use Rattle.iox_lanes_threads_rule.specs.declared.view.PortParty.TheVariants as party
 use Rattle.iox_lanes_threads_rule.specs.declared.view.View.{View}
 
--- Words and ports of some service fit, and are those of some lanes as long as no write position is 2^64 - 1.
+-- Words and ports of some service fit, and, as long as no write position is 2^64 - 1, they are those of some lanes.
 abbrev pub FitSome : List ℕ → List Port → Type 0
 FitSome words ports = (s : Service) × Fits s words ports × IsBacked s words ports
 
@@ -35,7 +35,7 @@ no_service = record {
   ranges = [];
 }
 
--- A party that stands for none.
+-- A party that fills the place of a party where there is none.
 abbrev pub no_party : PortParty
 no_party = party.Subscriber (record {
   port = new_subscriber [] 0 (record { user_header_words = 0; payload_words = 0 }) 0 0;
@@ -43,7 +43,7 @@ no_party = party.Subscriber (record {
   first = 0;
 })
 
--- A port that stands for none.
+-- A port that fills the place of a port where there is none.
 abbrev pub no_port : Port
 no_port = record { number = 0; name = Publisher 0; service = no_service; known = []; accesses = 0; party = no_party; seen = [] }
 
@@ -67,8 +67,8 @@ MayAct p (Store w new) = MayStore p.service p w new
 MayAct p (Exchange w old new) = MayExchange p.service p w old new
 MayAct p Local = Unit {0}
 
--- A moment at which the port loads the word and finds this value: words and ports fit, and are those of some lanes as long as no write
--- position is 2^64 - 1. The port is one of these ports, and the word has the value.
+-- A moment at which the port loads the word and finds this value: words and ports fit, and, as long as no write position is 2^64 - 1, they
+-- are those of some lanes. The port is one of these ports, and the word has the value.
 pub record StandsAt (p : Port) (w : SharedWord) (found : ℕ) : Type 0 where
   pub words : List ℕ
   pub ports : List Port
@@ -92,8 +92,7 @@ stepped p (Exchange w old new) answer after
     = learned p (known_exchanged p.name p.known (number_of p.service.sizes w) old new answer) (after answer)
 stepped p Local answer after = p
 
--- What a load of the word with this number reports to a seat that had only this port before; so a second report of the same load adds
--- nothing.
+-- What a load of the word with this number reports to a seat that had only this port before. A second report of the same load adds nothing.
 abbrev pub loaded : Port → (ℕ → PortParty) → Step ℕ → Me ℕ View → ℕ → Me ℕ View → Type 0
 loaded p after step before found me = (before ≡ single p)
     × ((w : SharedWord) → IsWord p.service.sizes w → number_of p.service.sizes w ≡ step.word

@@ -27,13 +27,13 @@ KnowEarly s ports = (connection : ℕ) (ring : ConnectionRing) → connection < 
     → (at : ℕ) × (p : Port) × (get_elem? ports at ≡ some p) × Stores s p.name (Ring connection ring Write)
     × (held s p.known (Ring connection ring Write) < 2 ^ 64 - 1)
 
--- What one of these ports has loaded of a sample that it still holds is what another of them, which stores the word, knows; as long as they
--- know that no write position is 2^64 - 1.
+-- If one of these ports has loaded a word of a sample that it still holds, its value is the one that the port which stores the word knows,
+-- provided that this port is one of them too. This holds as long as they know that no write position is 2^64 - 1.
 abbrev pub Agree : List Port → Type 0
 Agree ports = (at number place : ℕ) (q p : Port) (w : SharedWord) → get_elem? ports at ≡ some q → get_elem? ports number ≡ some p
     → KnowEarly q.service ports → slice_get q.seen place ≡ Some w → Stores q.service p.name w
     → held q.service q.known w ≡ held q.service p.known w
 
--- What a load of a word reports to a seat of its ports.
+-- What a seat knows after a load of a word by one of its ports: the seat is as it was before, and its ports agree (`Agree`).
 abbrev pub agreed : Step ℕ → Me ℕ View → ℕ → Me ℕ View → Type 0
 agreed step before found me = (me ≡ before) × Agree before.0.ports

@@ -1,4 +1,4 @@
--- The lanes that words and ports of threads are those of, and how a port comes to its next access.
+-- The lanes whose words and ports threads have, and how a port comes to its next access.
 use Rattle.std.specs.Prelude.{ℕ, ◌≡◌, ◌-◌, ◌<◌, ◌^◌, true, List, map, slice_get, Some}
 use Rattle.std.specs.List.{All}
 use mathlib.Core.Option.{some}
@@ -57,14 +57,14 @@ abbrev pub ComesToSubscriber : PortParty → SubscriberLaneState → Type 0
 ComesToSubscriber (party.Publisher lane) now = ⊥
 ComesToSubscriber (party.Subscriber lane) now = SubscriberLeads lane now
 
--- A publisher that the party comes to makes this access next, and `after` says what it is after each answer.
+-- The party in a port's view comes to a publisher that makes this access next, and `after` gives the party after each answer.
 pub record PublisherActs (own : PortParty) (access : SharedAccess) (after : ℕ → PortParty) : Type 0 where
   pub now : PublisherLaneState
   pub comes : ComesToPublisher own now
   pub next : publisher_next now.port.call ≡ access
   pub after_is : (answer : ℕ) → after answer ≡ party.Publisher (publisher_after answer now)
 
--- A subscriber that the party comes to makes this access next, and `after` says what it is after each answer.
+-- The party in a port's view comes to a subscriber that makes this access next, and `after` gives the party after each answer.
 pub record SubscriberActs (own : PortParty) (access : SharedAccess) (after : ℕ → PortParty) : Type 0 where
   pub now : SubscriberLaneState
   pub comes : ComesToSubscriber own now
@@ -110,9 +110,9 @@ pub record IsSeen (s : Service) (words : List ℕ) (p : Port) (w : SharedWord) :
 abbrev pub line_of : LinkState → Line
 line_of link = record { publisher = link.publisher; subscriber = link.subscriber; kind = link.kind; limit = link.limit }
 
--- Some lanes have these words and connections, and each port as its last step on a shared word left it. These lanes' words, ports and slots
--- agree (`HoldTogether`), and each connection has enough cells for all that may come back. What a port has loaded of a sample that it holds
--- is what it knows of it.
+-- Some lanes have these words and connections, and each port as its last step on a shared word left it. The words, ports and slots of the
+-- lanes agree (`HoldTogether`), and each connection has enough cells for all samples that may come back. Each word that a port has loaded
+-- of a sample that it holds has the value that the port knows.
 pub record StandBehind (s : Service) (words : List ℕ) (all : List Port) : Type 0 where
   pub lanes : World
   pub together : HoldTogether lanes

@@ -1,4 +1,4 @@
--- The rule of the words: what holds of them, and of what each port knows, between any two steps.
+-- The rule of the words: what is true of them, and of what each port knows, between any two steps.
 use Rattle.std.specs.Prelude.{ℕ, ◌≡◌, ◌+◌, ◌<◌, ◌≤◌, List, [], ◌∷◌, length, slice_get, slice_index, Some}
 use mathlib.Core.Option.{some}
 use lib.ListN.{get_elem?}
@@ -13,7 +13,7 @@ use Rattle.iox_lanes_threads_rule.specs.declared.service.Service.{Service}
 use Rattle.iox_lanes_threads_rule.specs.declared.view.Port.{Port}
 use Rattle.iox_lanes_threads_rule.specs.declared.view.View.{View}
 
--- The value of a word, or what a port knows of it, as the list is.
+-- The value that the list has for a word: its value, if these are the words; what a port knows of it, if these are the port's.
 abbrev pub held : Service → List ℕ → SharedWord → ℕ
 held s words w = slice_index words (number_of s.sizes w)
 
@@ -50,7 +50,7 @@ pub record Fits (s : Service) (words : List ℕ) (all : List Port) : Type 0 wher
       → (held s p.known (read_word connection) ≡ held s words (read_word connection) → ⊥)
       → held s words (read_word connection) < held s words (write_word connection)
 
--- The seat has the port, which is the one at its number.
+-- This seat has the port, which is the one with its number in the list.
 abbrev pub Sits : (ℕ → ℕ) → List Port → ℕ → Port → Type 0
 Sits owner ports seat p = (owner p.number ≡ seat) × (get_elem? ports p.number ≡ some p)
 

@@ -7,7 +7,7 @@ use Rattle.iox_lanes_threads_rule.specs.Rule.{one}
 use Rattle.iox_lanes_threads_rule.specs.declared.view.Port.{Port}
 use Rattle.iox_lanes_threads_rule.specs.declared.view.View.{View}
 
--- The words that threads share, as the table that they are.
+-- The words that threads share, identified by their table.
 pub record WordsState : Type 0 where
   pub table_id : TableId
 
@@ -28,6 +28,6 @@ others_wait v = waits (v.from + 1) (behind_first v.waiting)
 abbrev pub first_seated : View → View
 first_seated v = one (first_port v.waiting)
 
--- A seat at which at least one port waits, and which has none.
+-- At least one port waits at the seat, and no port sits there.
 abbrev pub IsWaiting : Me ℕ View → Type 0
 IsWaiting me = me ≡ (waits me.0.from (first_port me.0.waiting ∷ behind_first me.0.waiting), [])

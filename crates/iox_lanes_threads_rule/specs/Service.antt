@@ -27,7 +27,7 @@ abbrev pub IsReceiver : Option Line → Party → Type 0
 IsReceiver None name = ⊥
 IsReceiver (Some line) name = name ≡ Subscriber line.subscriber
 
--- A full ring of this kind refuses one message more.
+-- A full ring of this kind refuses another message.
 abbrev pub Refuses : RingKind → Type 0
 Refuses kind.Overflowing = ⊥
 Refuses kind.Refusing = Unit {0}
@@ -43,7 +43,7 @@ HasSlot s (Publisher place) slot = (range : SlotRange) × (slice_get s.ranges pl
     × (slot < range.first + range.count)
 HasSlot s (Subscriber place) slot = ⊥
 
--- Only this port stores the word; the read position of an overflowing ring is moved by both its ends, so no port stores it alone.
+-- Only this port stores the word. The read position of an overflowing ring is moved by both its ends, so no port stores it alone.
 abbrev pub Stores : Service → Party → SharedWord → Type 0
 Stores s name (Ring connection Submission Write) = IsSender (slice_get s.lines connection) name
 Stores s name (Ring connection Submission Read) = IsLoneReader (slice_get s.lines connection) name

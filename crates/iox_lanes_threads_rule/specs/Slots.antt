@@ -1,4 +1,4 @@
--- What holds in threads of the slots that subscribers hold, as long as no write position is 2^64 - 1.
+-- What is true in threads of the slots that subscribers hold, as long as no write position is 2^64 - 1.
 use Rattle.std.specs.Prelude.{ℕ, ◌≡◌, ◌+◌, ◌<◌, ◌≤◌, ◌==◌, true, false, if◌then◌else◌, List, length, set, slice_get, Some}
 use mathlib.Core.Option.{some}
 use lib.ListN.{get_elem?}
@@ -29,7 +29,7 @@ use Rattle.iox_lanes_threads_rule.specs.declared.view.Port.{Port}
 use Rattle.iox_lanes_threads_rule.specs.declared.view.PortParty.{PortParty}
 use Rattle.iox_lanes_threads_rule.specs.declared.view.PortParty.TheVariants as party
 
--- If words and ports are those of some lanes, they are so after a load that a port makes next.
+-- If words and ports are those of some lanes, they still are after a load that a port makes next.
 abbrev pub LoadsLeaveLanes : Type 0
 LoadsLeaveLanes = (s : Service) (words : List ℕ) (ports : List Port) (p : Port) (w : SharedWord) (after : ℕ → PortParty)
     → Fits s words ports → get_elem? ports p.number ≡ some p → IsWord s.sizes w → MakesNext p.party (Load w) after
@@ -37,7 +37,7 @@ LoadsLeaveLanes = (s : Service) (words : List ℕ) (ports : List Port) (p : Port
     → IsBacked s (set words (number_of s.sizes w) (held s words w))
     (set ports p.number (learned (saw p w) (set p.known (number_of s.sizes w) (held s words w)) (after (held s words w))))
 
--- If words and ports are those of some lanes, they are so after a store that a port may make and makes next.
+-- If words and ports are those of some lanes, they still are after a store that a port may make and makes next.
 abbrev pub StoresLeaveLanes : Type 0
 StoresLeaveLanes = (s : Service) (words : List ℕ) (ports : List Port) (p : Port) (w : SharedWord) (new : ℕ) (after : ℕ → PortParty)
     → Fits s words ports → get_elem? ports p.number ≡ some p → MayStore s p w new → MakesNext p.party (Store w new) after
@@ -45,7 +45,7 @@ StoresLeaveLanes = (s : Service) (words : List ℕ) (ports : List Port) (p : Por
     → IsBacked s (set words (number_of s.sizes w) new)
     (set ports p.number (learned p (set p.known (number_of s.sizes w) new) (after 0)))
 
--- If words and ports are those of some lanes, they are so after an exchange that a port may make and makes next.
+-- If words and ports are those of some lanes, they still are after an exchange that a port may make and makes next.
 abbrev pub ExchangesLeaveLanes : Type 0
 ExchangesLeaveLanes = (s : Service) (words : List ℕ) (ports : List Port) (p : Port) (w : SharedWord) (old new : ℕ)
     (after : ℕ → PortParty)
@@ -66,8 +66,8 @@ IsLoneLoanOf (party.Publisher lane) slot = (is_out (loan_of slot lane.port.book)
     × ((place : ℕ) → place < length lane.port.routes → refers_to lane.port.book place slot ≡ false)
 IsLoneLoanOf (party.Subscriber lane) slot = ⊥
 
--- A port that stores a word of a slot next has the slot as a loan in its view after the store, and none of its connections has the slot;
--- and no port's view has the slot as a sample.
+-- If a port's next access stores a word of a slot, the slot is a loan in the port's view after the store, and none of its connections has
+-- the slot; and no port's view has the slot as a sample.
 abbrev pub SlotStoresAreOfLoans : Type 0
 SlotStoresAreOfLoans = (s : Service) (words : List ℕ) (ports : List Port) (p : Port) (slot : ℕ) (word : SlotWord) (new : ℕ)
     (after : ℕ → PortParty)
@@ -76,7 +76,7 @@ SlotStoresAreOfLoans = (s : Service) (words : List ℕ) (ports : List Port) (p :
     → IsLoneLoanOf (after 0) slot
     × ((number : ℕ) (q : Port) → get_elem? ports number ≡ some q → IsSampleOf q.party slot → ⊥)
 
--- What is in the cells of a connection's submission ring, between its two positions.
+-- The cells between the two positions of a connection's submission ring.
 abbrev pub sent_between : Service → List ℕ → Line → ℕ → List ℕ
 sent_between s words line connection = between (ring_in (as_table s words) connection (cells_of line.kind line.limit))
 
@@ -100,7 +100,7 @@ ReferencesAreCounted = (s : Service) (words : List ℕ) (ports : List Port) (pub
     → count slot (sent_between s words line route.connection) + one_if (borrows route.connection slot (Some own))
     + count slot (given_back (as_table s words) route.connection) ≡ one_if (refers_to lane.port.book place slot)
 
--- No read position is beyond its write position, and none is further behind than its ring has cells.
+-- No read position is beyond its write position, or smaller by more than the number of its ring's cells.
 pub record AreNearAt (s : Service) (words : List ℕ) (connection : ℕ) (line : Line) : Type 0 where
   pub behind : held s words (Ring connection Submission Read) ≤ held s words (Ring connection Submission Write)
   pub near : held s words (Ring connection Submission Write)

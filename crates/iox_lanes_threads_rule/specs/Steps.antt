@@ -1,4 +1,4 @@
--- What a port may do with a shared word, what that reports, and what the port knows then.
+-- What a port may do with a shared word, what that reports, and what the port knows afterwards.
 use Rattle.std.specs.Prelude.{ℕ, ◌≡◌, ◌+◌, ◌-◌, ◌<◌, ◌≤◌, ◌^◌, max, Bool, false, List, [], ◌∷◌, ◌++◌, set, slice_index, if◌then◌else◌}
 use Rattle.std.specs.Prelude.{◌==◌}
 use mathlib.Core.Option.{some}
@@ -32,8 +32,8 @@ of_samples own (w ∷ ws) = (if is_of_sample own w then w ∷ [] else []) ++ of_
 abbrev pub saw : Port → SharedWord → Port
 saw p w = record p { seen = w ∷ p.seen }
 
--- The port after it made one access more, learned something and went on; of the words that it has loaded, it keeps those of samples that it
--- still holds.
+-- The port after it made another access, learned something and continued. Of the words that it has loaded, it keeps those of samples that
+-- it still holds.
 abbrev pub learned : Port → List ℕ → PortParty → Port
 learned p known party = record p { known = known; accesses = p.accesses + 1; party = party; seen = of_samples party p.seen }
 
@@ -64,7 +64,7 @@ pub record MayStore (s : Service) (p : Port) (w : SharedWord) (new : ℕ) : Type
   pub grows : IsPosition w → held s p.known w ≤ new
   pub cell : IsCell w → 0 < s.sizes.slots → new < s.sizes.slots
 
--- An exchange of the publisher leaves a message waiting; one of the subscriber expects the position that it knows.
+-- An exchange of the publisher leaves a message waiting; an exchange of the subscriber expects the position that the subscriber knows.
 abbrev pub MoveOn : Service → Port → Line → ℕ → ℕ → ℕ → Party → Type 0
 MoveOn s p line connection old new (Publisher place) = (place ≡ line.publisher) × (new < held s p.known (write_word connection))
 MoveOn s p line connection old new (Subscriber place) = (place ≡ line.subscriber) × (old ≡ held s p.known (read_word connection))

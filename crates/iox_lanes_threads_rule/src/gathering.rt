@@ -39,7 +39,7 @@ impl Play<u8, View> for Agrees {
     ghost then = { agreed };
 }
 
-/// The first port that waits, on a seat of its own.
+/// Gives the first port that waits a seat of its own, and returns that seat.
 pub fn give_out<K: Opening>(words: &Words<K>, home: &mut WordSeat) -> WordSeat
     requires table { (home.old.table_id ≡ words.now.table_id) × (0 < words.now.table_id.words) }
     requires waits { IsWaiting home.old.me }
@@ -50,7 +50,7 @@ pub fn give_out<K: Opening>(words: &Words<K>, home: &mut WordSeat) -> WordSeat
     words.shared().split_seat::<GiveOut>(home)
 }
 
-/// Moves the ports of another seat to this one, behind those that it has.
+/// Moves the ports of another seat to this one, after those that it has.
 pub fn gather<K: Opening>(words: &Words<K>, seat: &mut WordSeat, other: WordSeat)
     requires table { (seat.old.table_id ≡ words.now.table_id) × (other.table_id ≡ words.now.table_id) × (0 < words.now.table_id.words) }
     requires alone { other.me.1 ≡ [] }
@@ -60,7 +60,7 @@ pub fn gather<K: Opening>(words: &Words<K>, seat: &mut WordSeat, other: WordSeat
     words.shared().join_seat::<Gathers>(seat, other);
 }
 
-/// Loads a word by a seat that makes no step after that; in return, the ports of the seat agree (`Agree`).
+/// Loads a word by a seat that makes no further step; after that the ports of the seat agree (`Agree`).
 pub fn agree<K: Opening>(words: &Words<K>, mut seat: WordSeat)
     requires table { (seat.table_id ≡ words.now.table_id) × (0 < words.now.table_id.words) }
     ensures agree { Agree seat.me.0.ports }

@@ -1,4 +1,4 @@
-//! Theorems that each step that a port may make keeps the rule of the words. They are proved of the definitions that the contracts of ports
+//! Theorems that each step that a port may make keeps the rule of the words. They speak of the definitions that the contracts of ports
 //! cite.
 ghost use Rattle.iox_lanes_threads_rule.specs.Again.{LoadsGiveTheKnown};
 ghost use Rattle.iox_lanes_threads_rule.specs.Slots.{LoadsLeaveLanes, StoresLeaveLanes, ExchangesLeaveLanes};
@@ -17,16 +17,16 @@ pub fn stores_keep_the_rule()
     ensures { StoresKeep }
 {}
 
-/// An exchange of the read position of an overflowing ring keeps the rule, whether it succeeds or fails, if either end of the ring moves
-/// the position on, though not past the write position that it knows.
+/// An exchange keeps the rule, whether it succeeds or fails, if it moves the read position of an overflowing ring on, and not beyond the
+/// write position that its port, either end of the ring, knows.
 pub fn exchanges_keep_the_rule()
     ensures { ExchangesKeep }
 {}
 
-/// If words and ports are those of some lanes, they are so after each access that a port may make and makes next, as long as no write
+/// If words and ports are those of some lanes, they still are after each access that a port may make and makes next, as long as no write
 /// position comes to 2^64 - 1. So what `HoldTogether` says of lanes holds in threads between any two accesses: both rings of each
-/// connection contain what their ends know, and each connection has what its publisher's record says. Nothing is said of calls that ended
-/// and their answers.
+/// connection contain what their ends know, and each connection has what its publisher's record says. This theorem says nothing of calls
+/// that ended and their answers.
 pub fn accesses_leave_lanes()
     ensures loads { LoadsLeaveLanes }
     ensures stores { StoresLeaveLanes }
@@ -39,14 +39,15 @@ pub fn slot_stores_are_of_loans()
     ensures { SlotStoresAreOfLoans }
 {}
 
-/// What a subscriber's view lists as loaded (`seen`) of a sample that it holds is what the words of its slot contain, and what its
-/// publisher's view has, as long as no write position comes to 2^64 - 1. So a load of a listed word finds what the view knows of it.
+/// If a subscriber holds a sample, and its view lists a word of the sample as loaded (`seen`), this word has the value that the view knows,
+/// and that its publisher's view knows, as long as no write position comes to 2^64 - 1. So a load of a listed word finds the value that the
+/// view knows.
 pub fn seen_words_stand()
     ensures { SeenWordsStand }
 {}
 
-/// A load of a word that its port's view lists as loaded finds what the view knows of it, if no write position was 2^64 - 1 when the word
-/// was loaded: `act` says what words and ports were at that moment.
+/// A load of a word that its port's view lists as loaded finds the value that the view knows, if no write position was 2^64 - 1 when the
+/// word was loaded: `act` says what words and ports were at that moment.
 pub fn loads_give_the_known()
     ensures { LoadsGiveTheKnown }
 {}
@@ -58,8 +59,8 @@ pub fn references_are_counted()
     ensures { ReferencesAreCounted }
 {}
 
-/// No read position is beyond its write position, and no ring contains more than it has cells, as long as no write position comes to 2^64 -
-/// 1.
+/// No read position is beyond its write position, and no ring contains more than it has cells, as long as no write position comes to
+/// 2^64 - 1.
 pub fn positions_are_near()
     ensures { PositionsAreNear }
 {}

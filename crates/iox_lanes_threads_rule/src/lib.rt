@@ -1,6 +1,6 @@
-//! The rule of the words that threads share: what holds of them between any two steps, whatever the threads do.
+//! The rule of the words that threads share: what is true of them between any two steps, whatever the threads do.
 //!
-//! - [`service`]: which ports and connections there are.
+//! - [`service`]: which ports and connections a service has.
 //! - [`view`]: what a port knows.
 //! - [`laws`]: theorems that each step that a port may make keeps the rule.
 //! - [`board`]: one step on one of the words.

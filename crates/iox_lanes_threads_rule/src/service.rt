@@ -9,9 +9,9 @@ pub struct Line {
     pub publisher: u64,
     /// The subscriber's number.
     pub subscriber: u64,
-    /// What its submission ring does with one message more when it is full.
+    /// What its submission ring does with another message when it is full.
     pub kind: RingKind,
-    /// How many messages may wait.
+    /// The maximum number of waiting messages.
     pub limit: u64,
 }
 

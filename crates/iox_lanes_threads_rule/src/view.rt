@@ -20,8 +20,8 @@ pub struct Port {
     pub name: Party,
     /// Its service.
     pub service: Service,
-    /// What it knows of each word, by the words' numbers: of a word that only this port stores, its value; of any other position, how far
-    /// it has come at least; of any other word, the value that it last saw.
+    /// What it knows of each word, by the words' numbers: the value of a word that only this port stores; a lower bound of any other
+    /// position; the value that it last saw of any other word.
     pub known: LinkedList<u64>,
     /// How many accesses to shared words it made by `act` since it was opened.
     pub accesses: u64,
@@ -31,9 +31,9 @@ pub struct Port {
     pub seen: LinkedList<SharedWord>,
 }
 
-/// What a seat at the words knows: the ports that it has. No value is ever made.
+/// What a seat at the words knows, which is about the ports that it has. No value is ever made.
 pub struct View {
-    /// How many ports were given out before the waiting ones.
+    /// The number of ports that were given out before the waiting ones.
     pub from: u64,
     /// The ports that are still to be given out.
     pub waiting: LinkedList<Port>,

@@ -19,7 +19,7 @@ use Rattle.iox_line.specs.Steps.{WritesStep, StepFits, WritesLists, ListsFit}
 use Rattle.iox_line.specs.StepsReading.{step_of, step_before, above, next_access, listed_step, and_then, bar_or_step, lists_from, lists_of}
 use Rattle.iox_line.proofs.StepLemmas.{prepend_some, step_some, step_own}
 
--- the first step is before this access
+-- the first step is before this storage operation
 abbrev Heads : ℕ → List StepBefore → Type 0
 Heads now [] = ⊥
 Heads now (t ∷ ts) = t.access ≡ now

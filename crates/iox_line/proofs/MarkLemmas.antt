@@ -53,7 +53,7 @@ onto_back : (mark b : ℕ) (ws : List (List ℕ)) → back_of_rest mark (onto_fi
 onto_back mark b [] = refl
 onto_back mark b (w ∷ ws) = refl
 
--- after so many bytes stands a separator, and the words are cut there
+-- after n bytes stands a separator, and the words are cut there
 abbrev pub IsCut : ℕ → ℕ → List ℕ → ℕ → Type 0
 IsCut mark sep text i = (i < length text) × (first_and_front mark (pieces_of sep text) ≡ pieces_of sep (take i text))
     × (back_of_rest mark (pieces_of sep text) ≡ pieces_of sep (drop (suc i) text))

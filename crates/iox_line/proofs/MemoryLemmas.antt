@@ -58,7 +58,7 @@ service_lacks takes make read ws s kind first second lacking t h k e f g =
       t m.0.0 m.0.1 ∙ m.2,
     )
 
--- where memory is wanting for foreign steps, a line of such steps is spelled
+-- if memory runs out for the actions of other nodes, a line of these actions is still spelled
 pub foreign_lacks : (words rest ws : List (List ℕ)) (w v : List ℕ) (kind : MessagingPattern) (name : List ℕ)
     (r : Result (Option (List ForeignStep)) AllocError) (lacking : AllocError)
     → words ≡ w ∷ rest → rest ≡ v ∷ ws → pattern_named w ≡ Some kind → name_of v ≡ Some name → MayLack some (steps_of kind ws) r

@@ -73,7 +73,7 @@ some_words ws h = ap no_words h.2
 pub text_has_words : (sep : ℕ) (text : List ℕ) → false ≡ no_words (pieces_of sep text)
 text_has_words sep text = sym (some_words (pieces_of sep text) (pieces_some sep text))
 
--- after so many words none is left exactly if there are so many
+-- after n words none is left exactly if there are n
 pub so_many : (ws : List (List ℕ)) (n count : ℕ) → count + length ws ≡ n → no_words ws ≡ (n == count)
 so_many [] n count h = let e : n ≡ count = omega (arith, h) in grind (arith, common_steps, e)
 so_many (w ∷ ws) n count h = grind (arith, common_steps, h)

@@ -41,7 +41,7 @@ abbrev pub pairs_of : List (List ℕ) → Option (List Attribute)
 pairs_of [] = Some []
 pairs_of (w ∷ ws) = prepend (pair_of w) (pairs_of ws)
 
--- A requirement with one pair or key more, in front of those that were read after it.
+-- A requirement with one more pair or key, in front of those that were read after it.
 abbrev pub require : Option Attribute → Option (List ℕ) → Option Required → Option Required
 require (Some a) key None = None
 require (Some a) key (Some r) = Some (required (a ∷ r.pairs) r.keys)

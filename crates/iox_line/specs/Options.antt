@@ -3,7 +3,8 @@ use Rattle.std.specs.Prelude.{ℕ, ◌==◌, ◌+◌, ◌≡◌, Bool, true, fal
 use Rattle.std.specs.List.{list_all}
 use Rattle.std.specs.Option.{option_map}
 
--- The first words are the second in any order: the first of the second occurs among the first, and the others are the rest.
+-- The first list has the words of the second list, in any order: the first word of the second list is somewhere in it, and its other words
+-- are the rest of the second list, in any order.
 abbrev pub AnyOrder : List (List ℕ) → List (List ℕ) → Type 0
 AnyOrder words [] = words ≡ []
 AnyOrder words (w ∷ ws) = (front : List (List ℕ)) × (back : List (List ℕ)) × (words ≡ front ++ w ∷ back) × AnyOrder (front ++ back) ws
@@ -15,7 +16,7 @@ option_words (key ∷ keys) [] = []
 option_words (key ∷ keys) (None ∷ values) = option_words keys values
 option_words (key ∷ keys) (Some value ∷ values) = (key ++ value) ∷ option_words keys values
 
--- What follows the key in a word that begins with it; none if the word doesn't.
+-- The part of a word after the key with which it begins; none if the word doesn't begin with the key.
 abbrev pub after : List ℕ → List ℕ → Option (List ℕ)
 after [] word = Some word
 after (k ∷ ks) [] = None
@@ -26,7 +27,7 @@ abbrev pub or_else : {A : Type 0} → Option A → Option A → Option A
 or_else (Some a) other = Some a
 or_else None other = other
 
--- What follows the key in the first of the words that begins with it.
+-- The part after the key of the first word that begins with the key.
 abbrev pub find : List ℕ → List (List ℕ) → Option (List ℕ)
 find key [] = None
 find key (w ∷ ws) = or_else (after key w) (find key ws)

@@ -214,7 +214,7 @@ abbrev pub of_words : List (List ℕ) → Option (Command ℕ)
 of_words [] = None
 of_words (w ∷ ws) = of_read (verb_of w) (service_verb_of w) ws
 
--- Both parts, if both were read. That a part can't be read comes before an allocation failure.
+-- Both parts, if both were read. If one can't be read, there are none, even if an allocation failed for the other.
 abbrev pub together : {A B : Type 0} → Result (Option A) AllocError → Result (Option B) AllocError → Result (Option (A × B)) AllocError
 together (Ok None) second = Ok None
 together (Ok (Some a)) (Ok None) = Ok None

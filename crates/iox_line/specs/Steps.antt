@@ -26,7 +26,7 @@ WritesStep (step.Register node) word = word ≡ codes "register:x" ++ decimal no
 WritesStep (step.Leave node) word = word ≡ codes "leave:x" ++ decimal node
 WritesStep (step.Remove node) word = word ≡ codes "remove:x" ++ decimal node
 
--- The numbers of the action are below 2^64, and a service that it publishes has the pattern.
+-- The numbers of the action are less than 2^64, and a service that it publishes has the command's pattern.
 abbrev pub StepFits : MessagingPattern → ForeignStep → Type 0
 StepFits pattern (step.Lock node) = IsNumber node
 StepFits pattern (step.GiveUp node) = IsNumber node
@@ -36,14 +36,14 @@ StepFits pattern (step.Register node) = IsNumber node
 StepFits pattern (step.Leave node) = IsNumber node
 StepFits pattern (step.Remove node) = IsNumber node
 
--- The words write lists of actions: the actions in their order, and before the first one of a list a bar and the number of its access; the
--- list of access `now` has begun.
+-- The words write lists of actions: the actions in their order, and before the first one of a list a bar and the number of its storage
+-- operation; the list of storage operation `now` has begun.
 abbrev pub WritesLists : ℕ → List StepBefore → List (List ℕ) → Type 0
 WritesLists now [] words = words ≡ []
 WritesLists now (t ∷ ts) words = (w : List ℕ) × (ws : List (List ℕ)) × WritesStep t.step w × WritesLists t.access ts ws
     × (words ≡ (if t.access == now then [] else (codes "|" ++ decimal t.access) ∷ []) ++ w ∷ ws)
 
--- The accesses are numbered from 1 and never fall, from `now` on, and their numbers are below 2^64.
+-- The storage operations are numbered from 1 and never fall, from `now` on, and their numbers are below 2^64.
 abbrev pub ListsFit : MessagingPattern → ℕ → List StepBefore → Type 0
 ListsFit pattern now [] = Unit {0}
 ListsFit pattern now (t ∷ ts) = (1 ≤ t.access) × (now ≤ t.access) × IsNumber t.access × StepFits pattern t.step

@@ -75,7 +75,7 @@ abbrev pub steps_of : MessagingPattern → List (List ℕ) → Option (List Fore
 steps_of pattern [] = None
 steps_of pattern (w ∷ ws) = each_step pattern (w ∷ ws)
 
--- The action before this access.
+-- The action before this storage operation.
 abbrev pub step_before : ℕ → ForeignStep → StepBefore
 step_before access step = record { access = access; step = step }
 
@@ -84,7 +84,7 @@ abbrev pub above : ℕ → Option ℕ → Option ℕ
 above now None = None
 above now (Some i) = if nat_lt now i then Some i else None
 
--- The access of a list that begins with this text, if the list before it has an action.
+-- The storage operation of a list that begins with this text, if the list before it has an action.
 abbrev pub next_access : Bool → ℕ → List ℕ → Option ℕ
 next_access fresh now text = if fresh then None else above now (number_of text)
 
@@ -102,7 +102,7 @@ abbrev pub bar_or_step : {B : Type 0} → Option (List ℕ) → (List ℕ → Op
 bar_or_step None bar step = step
 bar_or_step (Some text) bar step = bar text
 
--- The actions that words spell, after the list of access `now` has begun; `fresh` says that this list has no action yet.
+-- The actions that words spell, after the list of storage operation `now` has begun; `fresh` says that this list has no action yet.
 abbrev pub lists_from : MessagingPattern → ℕ → Bool → List (List ℕ) → Option (List StepBefore)
 lists_from pattern now fresh [] = if fresh then None else Some []
 lists_from pattern now fresh (w ∷ ws)

@@ -24,7 +24,7 @@ use std::alloc::{AllocError, Global};
 ///
 /// The answer is `LineError::TooLong` if the line has more than 1,024 bytes, and otherwise `LineError::Faulty` if it spells no command.
 /// Fails only if an allocation fails and the line spells a command with attributes or with actions of other nodes: all other commands take
-/// no memory, and that a line isn't a command is found without memory.
+/// no memory, and neither does finding that a line isn't a command.
 pub fn read_command<'a>(
     alloc: Global,
     line: &[u8],
@@ -42,9 +42,9 @@ pub fn read_command<'a>(
     }
 }
 
-/// The command on an existing port that a line spells, given without its newline; `None` if it spells none, or has more than 1,024 bytes.
-/// The values of a message are put into the scratch. It takes no memory, and a command that it answers is the one that `read_command`
-/// answers.
+/// The command on an existing port that a line spells; `None` if it spells none, or has more than 1,024 bytes. The line is given without
+/// its newline. The values of a message are put into the scratch. It takes no memory, and a command that it answers is the one that
+/// `read_command` answers.
 pub fn read_port_command<'a>(line: &[u8], scratch: &'a mut Scratch) -> Option<PortCommand<'a, u64>>
     ensures some { IfSome result (λ command. (length line.now ≤ 1024) × Spells line.now (command_of command)) }
     ensures none { result ≡ None → (command : PortCommand ℕ) → length line.now ≤ 1024 → Spells line.now (command_of command) → ⊥ }
@@ -102,7 +102,7 @@ fn of_verb<'a>(verb: Verb, words: Words, scratch: &'a mut Scratch) -> Option<Com
     }
 }
 
-/// The command of a port, if the verb is of one.
+/// The command of a verb, if it is the verb of a command on an existing port.
 fn of_port_verb<'a>(
     verb: Verb,
     words: Words,

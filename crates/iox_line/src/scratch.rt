@@ -4,7 +4,7 @@ ghost use Rattle.std.specs.Prelude.{◌≡◌, ◌<◌, [], ◌∷◌, ◌++◌,
 use std::alloc::{AllocError, Global};
 use std::marker::Model;
 
-/// The most values that a line of 1,024 bytes could have, and more than it has.
+/// More values than a line of 1,024 bytes can have.
 const MOST_VALUES: usize = 1_025;
 
 /// Memory for the values of one line, which is allocated once and used for line after line.

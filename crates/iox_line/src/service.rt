@@ -120,7 +120,7 @@ fn foreign_line<'a>(alloc: Global, words: Words) -> Result<Option<Command<'a, u6
     }
 }
 
-/// Both, if both are there; that one is none comes before an allocation failure.
+/// Both values, if both exist. None if one is None, even if an allocation failed for the other.
 fn together<A: Drop, B: Drop>(
     first: Result<Option<A>, AllocError>,
     second: Result<Option<B>, AllocError>,

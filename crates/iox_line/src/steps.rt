@@ -1,4 +1,4 @@
-//! How a line names actions of other nodes: after `foreign`, and in lists `|I STEP..` before the accesses of a call.
+//! How a line names actions of other nodes: after `foreign`, and in lists `|I STEP..` before the storage operations of a call.
 //!
 //! `specs/Steps.antt` says how each is written.
 //!
@@ -6,7 +6,7 @@
 //! |---|---|
 //! | `step` | one action |
 //! | `foreign` | the actions of a `foreign` line |
-//! | `lists` | the lists of actions before accesses |
+//! | `lists` | the lists of actions before storage operations |
 //!
 //! First calls. `read_command` makes them.
 //!

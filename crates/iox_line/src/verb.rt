@@ -48,7 +48,7 @@ pub enum Verb {
     Has,
 }
 
-/// What a line asks for that names a service. Not in `iceoryx2`.
+/// The verb of a line that names a service. Not in `iceoryx2`.
 #[derive(Clone, Copy)]
 pub enum ServiceVerb {
     /// `create`
@@ -106,7 +106,7 @@ pub fn first_verb(word: &[u8]) -> Option<Verb>
     }
 }
 
-/// The same for the words that are seldom met.
+/// The verb that a first word spells, of those that are seldom used.
 fn seldom_verb(word: &[u8]) -> Option<Verb>
     ensures { result ≡ seldom_verb_of word.now }
 {

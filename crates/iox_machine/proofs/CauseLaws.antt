@@ -33,7 +33,7 @@ use Rattle.iox_machine.proofs.Shorthands.{IsSkipped}
 use Rattle.iox_command.specs.declared.reply.Reply.TheVariants as reply
 
 module _ {T : Type 0} where
-  -- the numbers of the first of some messages, and of those behind them
+  -- the numbers of the first of some messages, and of those after them
   goes-front : (last : ℕ) (xs ys : List (Message T)) → GoOnBehind (Some last) (xs ++ ys) → GoOnBehind (Some last) xs
   goes-front last [] ys on = tt
   goes-front last (x ∷ xs) ys on =

@@ -161,7 +161,7 @@ either-so false = inr refl
 
 -- A failure to connect is told of a list of ports, the port that follows that list, and the port that is listed.
 module _ (Fails : PortList → ℕ → ℕ → Type 0) where
-  -- A publisher that has seen so many changes of a list, and is connected so, is connected to all that are listed if it has seen all.
+  -- A publisher that has seen n changes of a list, and is connected so, is connected to all that are listed if it has seen all.
   abbrev pub PublisherKeepsUp : PortList → ℕ → ℕ → List (Option ℕ) → Type 0
   PublisherKeepsUp list number seen connected =
       (seen ≤ list.changes)

@@ -489,7 +489,7 @@ module _ {T : Type 0} where
   by-writes number loan one false values old answer new h =
       subst (λ (s : Service T). ByPublisher number old s) (sym h.1) (by-none number old)
 
-  abbrev PublisherComes : ℕ → Publisher T → Service T → Reply T → Service T → Type 0
+  abbrev pub PublisherComes : ℕ → Publisher T → Service T → Reply T → Service T → Type 0
   PublisherComes number one old answer new =
       (place : ℕ) × (slice_get old.publisher_list.places place ≡ Some None) × (after : Publisher T) × (mid : Service T)
       × publishing.Follows number one (record old { publishers = old.publishers ++ (number, one) ∷ [] }) after mid
@@ -549,7 +549,7 @@ module _ {T : Type 0} where
         (λ other subscriber off. refl),
       )
 
-  abbrev SubscriberComes : ℕ → ℕ → Subscriber → Service T → Reply T → Service T → Type 0
+  abbrev pub SubscriberComes : ℕ → ℕ → Subscriber → Service T → Reply T → Service T → Type 0
   SubscriberComes buffer number one old answer new =
       (place : ℕ) × (slice_get old.subscriber_list.places place ≡ Some None) × (after : Subscriber) × (mid : Service T)
       × subscribing.Follows buffer number one (record old { subscribers = old.subscribers ++ (number, one) ∷ [] }) after mid

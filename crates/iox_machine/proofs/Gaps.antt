@@ -27,7 +27,7 @@ module _ {T : Type 0} where
       on : (low high number : ℕ) → low ≤ high → high < number → low < number
       on low high number up above = omega (arith, up, above)
 
-  -- the numbers behind the first one
+  -- the numbers after the first one
   pub goes-on : (last : ℕ) (x : Message T) (xs : List (Message T)) → GoOnBehind (Some last) (x ∷ xs) → GoOnBehind (Some (last + 1)) xs
   goes-on last x xs on = subst (λ (o : Option ℕ). GoOnBehind o xs) on.0 on.1
 

@@ -95,7 +95,7 @@ module _ {T S : Type 0} where
 
 -- ---- lists
 
-first-there : {X : Type 0} (xs : List X) → nat_lt 0 (length xs) ≡ true → (x : X) × (slice_get xs 0 ≡ Some x)
+pub first-there : {X : Type 0} (xs : List X) → nat_lt 0 (length xs) ≡ true → (x : X) × (slice_get xs 0 ≡ Some x)
 first-there [] is = absurd (true≢false (sym is))
 first-there (x ∷ xs) is = (x, refl)
 

@@ -89,3 +89,31 @@ mod Meanwhile
 pub mod Among
 mod Lenders
 pub mod LenderSteps
+mod Attending
+mod Waiting
+mod Skipped
+mod Written
+mod Closed
+mod Offered
+mod Delivered
+mod Failed
+mod Lent
+mod Called
+mod WorstCase
+mod Expired
+mod Swept
+mod Arrived
+mod Either
+mod Limiting
+mod Limited
+mod PortReplies
+mod Parting
+mod Verdicts
+mod Borrowed
+mod Defaults
+mod Resting
+mod Borrowing
+mod Acting
+mod Naming
+mod Reopened
+mod ActingEither

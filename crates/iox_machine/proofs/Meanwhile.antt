@@ -45,7 +45,7 @@ fold-joined f a (x ∷ xs) ys = fold-joined f (f a x) xs ys
 
 module _ (types : MessageTypeDetails) (pattern : MessagingPattern) (steps : List StepBefore) (node : ℕ) (start : Phase)
     (whole : Whole start) where
-  -- what is made of the phase before so many accesses
+  -- what is made of the phase before n storage operations
   abbrev so_far : ℕ → Phase
   so_far accesses = fold (acted types pattern) start (steps_through steps accesses)
 

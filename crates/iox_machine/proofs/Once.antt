@@ -446,11 +446,16 @@ part-fewer n part (message ∷ whole) (inr (rest, e, h)) =
     (longer (one_if (message.number == n)) (times n (map (λ (it : Message _). it.number) rest))
     (times n (map (λ (it : Message _). it.number) whole)) (part-fewer n rest whole h))
 
-pub messages-go-once : {T : Type 0} (choices : Choices T) → MessagesGoOnce choices
-messages-go-once {T} choices types buffer asked answers new run publisher subscriber = (
-  distinct (map (λ (message : Message T). message.number) sent) (λ n. sent-once n),
-  distinct (map (λ (message : Message T). message.number) received) (λ n. within
-      (times n (map (λ (message : Message T). message.number) received)) (times n (map (λ (message : Message T). message.number) sent))
+pub messages-once : {T : Type 0} (choices : Choices T) (types : MessageTypeDetails) (buffer : ℕ) (asked : List (Command T))
+    (answers : List (Reply T)) (new : State T) (run : Runs types choices buffer asked new_state answers new) (publisher subscriber : ℕ)
+    → ((n : ℕ) → times n (map (λ (message : Message T). message.number)
+    (sent_by types choices buffer publisher asked new_state answers new run)) ≤ 1)
+    × ((n : ℕ) → times n (map (λ (message : Message T). message.number)
+    (received_from types choices buffer publisher subscriber asked new_state answers new run)) ≤ 1)
+messages-once {T} choices types buffer asked answers new run publisher subscriber = (
+  (λ n. sent-once n),
+  (λ n. within (times n (map (λ (message : Message T). message.number) received))
+      (times n (map (λ (message : Message T). message.number) sent))
       (part-fewer n received sent (received-in-order choices types buffer asked answers new run publisher subscriber)) (sent-once n)),
 )
   where
@@ -479,3 +484,12 @@ messages-go-once {T} choices types buffer asked answers new run publisher subscr
         (times publisher (filter_map publisher_told answers))
         (run-goes publisher n types choices buffer asked new_state answers new run told)
         (told-once 0 (filter_map publisher_told answers) (numbers-go-up choices types buffer asked answers new run).2 publisher)
+
+pub messages-go-once : {T : Type 0} (choices : Choices T) → MessagesGoOnce choices
+messages-go-once {T} choices types buffer asked answers new run publisher subscriber =
+    let once = messages-once choices types buffer asked answers new run publisher subscriber in (
+      distinct (map (λ (message : Message T). message.number)
+          (sent_by types choices buffer publisher asked new_state answers new run)) (λ n. once.0 n),
+      distinct (map (λ (message : Message T). message.number)
+          (received_from types choices buffer publisher subscriber asked new_state answers new run)) (λ n. once.1 n),
+    )

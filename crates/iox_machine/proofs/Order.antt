@@ -44,7 +44,7 @@ use Rattle.iox_command.specs.DomainValues.Sequences.{before_first, next_sequence
 pub absurd-both : {A : Type 0} (b : Bool) → b ≡ true → b ≡ false → A
 absurd-both b is_so not_so = absurd (true≢false (sym is_so ∙ not_so))
 
--- Whether a subscriber may be connected yet: it isn't made, or it is listed; so many were made so far.
+-- Whether a subscriber may be connected yet: it isn't made, or it is listed; n were made so far.
 abbrev pub MayCome : ℕ → ℕ → List (Option ℕ) → Type 0
 MayCome s born places = (born < s) ⊎ (contains (those places) s ≡ true)
 
@@ -71,7 +71,7 @@ IsUnder T s May sent received connected box send =
 abbrev pub NumberedUpTo : (T : Type 0) → Bool → Option ℕ → List (Message T) → Type 0
 NumberedUpTo T switch last sent = GoOnBehind (before_first switch 1) sent × (last ≡ last_behind (before_first switch 1) sent)
 
--- one more message is numbered behind the others
+-- one more message is numbered after the others
 pub behind-more : {T : Type 0} (start last : Option ℕ) (sent : List (Message T)) (message : Message T)
     → message.sequence ≡ next_sequence last → GoOnBehind start sent × (last ≡ last_behind start sent)
     → GoOnBehind start (sent ++ message ∷ []) × (message.sequence ≡ last_behind start (sent ++ message ∷ []))

@@ -147,7 +147,7 @@ module _ {T : Type 0} (by : Numberings) where
       → IsSkipped (f old) (other_reply answer) (f new)
   skipped-by f old answer new (told, same) = (ap other_reply told, ap f same)
 
-  -- a send under way to subscribers that go by other numbers
+  -- a send in progress to subscribers that go by other numbers
   abbrev pub other_send : Send T → Send T
   other_send send = renumbered_send (renaming_of by) send
 

@@ -71,11 +71,11 @@ turned-from one n k = ap one.from (at-first k (one.to n)) ∙ one.back n
 
 -- ---- numbers that are counted anew
 
--- What goes by the first so many numbers are some of the first so many.
+-- What goes by the first n numbers are some of the first n.
 abbrev IsWithin : Numbering → ℕ → ℕ → Type 0
 IsWithin one last made = (k : ℕ) → k ≤ last → one.from k ≤ made
 
--- By the first so many numbers goes the same.
+-- By the first n numbers goes the same.
 abbrev Agrees : Numbering → Numbering → ℕ → Type 0
 Agrees one other last = (k : ℕ) → k ≤ last → other.from k ≡ one.from k
 
@@ -165,7 +165,7 @@ within-later by counts made later fewer within = (
 )
 
 module _ {T : Type 0} where
-  -- the numberings once a reply told a number, where so many were counted anew
+  -- the numberings once a reply told a number, where n were counted anew
   abbrev turned_by : Reply T → Made → Numberings → Numberings
   turned_by (reply.FactoryMade number) counts by = record by { factories = turned by.factories number (counts.factories + 1) }
   turned_by (reply.PublisherMade number) counts by = record by { publishers = turned by.publishers number (counts.publishers + 1) }
@@ -318,7 +318,7 @@ module _ {T : Type 0} where
 
     -- ---- a run
 
-    -- What concerns the service in a run is a run of who knows it alone and counted so many, by numberings that go on from these.
+    -- What concerns the service in a run is a run of who knows it alone and counted n, by numberings that go on from these.
     abbrev IsAnew : (asked : List (Command T)) (old : State T) (answers : List (Reply T)) (new : State T)
         → Runs types choices buffer asked old answers new → Made → Numberings → State T → Type 0
     IsAnew asked old answers new run counts given own =

@@ -54,7 +54,7 @@ subscriber-standing-by by None = refl
 subscriber-standing-by by (Some subscriber) = cond-of (option_map (other_subscriber by)) subscriber.stands (Some subscriber) None
 
 module _ {T : Type 0} (by : Numberings) where
-  -- a state in which all goes by other numbers, and so many values were made
+  -- a state in which all goes by other numbers, and n values were made
   abbrev pub other_state : Made → State T → State T
   other_state made state = record {
     made = made;

@@ -28,7 +28,7 @@ share node (entry ∷ more) = cond (same_node entry.0 node) entry.1 0 + share no
 abbrev pub Full : List (Node × ℕ) → Type 0
 Full nodes = AllByRecursion (λ (entry : Node × ℕ). 1 ≤ entry.1) nodes
 
--- Each node of the hub has so many factories in a phase.
+-- Each node of the hub has n factories in a phase.
 abbrev pub Counts : (ℕ → ℕ) → Phase → Type 0
 Counts f (Absent lives) = (m : ℕ) → f m ≡ 0
 Counts f (BeingMade life by) = (m : ℕ) → f m ≡ 0

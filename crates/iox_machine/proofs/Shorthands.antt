@@ -106,7 +106,7 @@ LendsLonger number values publisher refusal after =
     × (refusal ≡ None)
     × (after ≡ record publisher { room = room; segments = publisher.segments + 1; first = publisher.next; next = publisher.next + 1 }))
 
--- whether no sequence number is left behind the last one, which is 2^64 - 1
+-- whether no sequence number is left after the last one, which is 2^64 - 1
 abbrev pub is_used_up : Option ℕ → Bool
 is_used_up last = option_map_or (λ number. number == 2 ^ 64 - 1) last false
 

@@ -2,6 +2,7 @@
 use Rattle.std.proofs.Common.{◌⊎◌, ◌≤◌, ℕ, List, [], ◌∷◌, length, sym, subst, inl, inr}
 use Rattle.std.specs.List.{AllByRecursion}
 use Rattle.iox_machine.specs.Choices.{Choices}
+use Rattle.iox_machine.specs.DefaultLaws.{IsNamedAs, PublishersAreAsNamed}
 use Rattle.iox_machine.specs.Run.{Runs}
 use Rattle.iox_machine.specs.RunLaws.{CameAs, ComesAs, IsSizedAs, IsWithinSizes, SizesAreAgreed}
 use Rattle.iox_machine.specs.Service.{Publisher, Service}
@@ -81,10 +82,26 @@ sizes-agreed {T} choices types buffer asked answers new run =
       all-weaker (λ (entry : ℕ × Publisher T). PublisherFits AnyMessage AnySample Named service.settings entry.0 entry.1)
           (λ (entry : ℕ × Publisher T). (options : PublisherOptions) × Named entry.0 options
           × IsSizedAs options service.settings entry.1)
-          (λ entry fits. fits.3) service.publishers sound.1,
+          (λ entry fits. (fits.3.0, fits.3.1, fits.3.2.0)) service.publishers sound.1,
     ))
     new.services
     (all-weaker-named (λ number options. ⊥ ⊎ Named number options) Named
     (λ number options it. elim it [ inl never ↦ absurd never | inr came ↦ came ]) new
     (runs-named types choices buffer (λ number options. ⊥) asked new_state answers new run tt))
     (runs-placed types choices buffer asked new_state answers new run tt)
+
+pub publishers-as-named : {T : Type 0} (choices : Choices T) → PublishersAreAsNamed choices
+publishers-as-named {T} choices types buffer asked answers new run =
+    let Named : ℕ → PublisherOptions → Type 0 =
+    λ number options. CameAs types choices buffer number options asked new_state answers new run in
+    all-weaker (Sound AnyMessage AnySample Named)
+    (λ (service : Service T). AllByRecursion (λ (entry : ℕ × Publisher T). (options : PublisherOptions)
+    × Named entry.0 options × IsNamedAs options entry.1) service.publishers)
+    (λ service sound. all-weaker
+    (λ (entry : ℕ × Publisher T). PublisherFits AnyMessage AnySample Named service.settings entry.0 entry.1)
+    (λ (entry : ℕ × Publisher T). (options : PublisherOptions) × Named entry.0 options × IsNamedAs options entry.1)
+    (λ entry fits. (fits.3.0, fits.3.1, fits.3.2.1)) service.publishers sound.1)
+    new.services
+    (all-weaker-named (λ number options. ⊥ ⊎ Named number options) Named
+    (λ number options it. elim it [ inl never ↦ absurd never | inr came ↦ came ]) new
+    (runs-named types choices buffer (λ number options. ⊥) asked new_state answers new run tt))

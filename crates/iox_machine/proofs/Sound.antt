@@ -11,6 +11,7 @@ use Rattle.std.specs.Prelude.{MatchBool, MatchOption, drop, zip}
 use Rattle.iox_machine.proofs.Shorthands.{given_back, registered, taken, with_subscriber, with_publisher, IsRefused, IsSkipped, has_data}
 use Rattle.iox_machine.proofs.Shorthands.{LendsLonger}
 use Rattle.iox_machine.specs.Choices.{Choices}
+use Rattle.iox_machine.specs.DefaultLaws.{IsNamedAs}
 use Rattle.iox_machine.proofs.Delivering.{Outcomes, by-outcome, first_of, offered, deliver, goes-on-so, keeping, by-send, sending}
 use Rattle.iox_machine.specs.Arriving.{worst_case, PublisherArrives, SubscriberArrives}
 use Rattle.iox_machine.specs.Lending.{Lends, loan_refusal}
@@ -82,7 +83,7 @@ module _ {T : Type 0} (Good : ℕ → Message T → Type 0) (Fine : ℕ → Samp
   PublisherFits settings number publisher =
       (length publisher.history ≤ settings.history_size) × AllByRecursion (Good number) publisher.history
       × MatchOption publisher.blocked ⊤ (λ send. Good number send.message)
-      × ((options : PublisherOptions) × Named number options × IsSizedAs options settings publisher)
+      × ((options : PublisherOptions) × Named number options × (IsSizedAs options settings publisher × IsNamedAs options publisher))
 
   abbrev pub SubscriberFits : StaticConfig → ℕ → Subscriber → Type 0
   SubscriberFits settings number subscriber = subscriber.buffer_size ≤ settings.subscriber_max_buffer_size

@@ -179,7 +179,19 @@ module _ {T : Type 0} (Good : ℕ → Message T → Type 0) (Fine : ℕ → Samp
         (new_publisher factory options service.settings) service) old answer new
         (λ service after sound did. publisher-arrives Good Fine Named (old.made.publishers + 1)
         (new_publisher factory options service.settings) service answer after
-        sound (λ told. (omega arith, tt, tt, (options, named (old.made.publishers + 1) options (refl, told), (refl, refl)))) did)
+        sound (λ told. (
+          omega arith,
+          tt,
+          tt,
+          (
+            options,
+            named (old.made.publishers + 1) options (refl, told),
+            (
+              (refl, refl),
+              (refl, refl, refl, refl),
+            ),
+          ),
+        )) did)
         h all
     step-sound (command.Subscriber factory options) old answer new good fine named h all =
         at-factory types choices buffer factory

@@ -92,7 +92,7 @@ module _ {V : Type 0} where
       step on true e = never-some entry.1 (sym e)
       step on false e = on e
 
-  -- what goes by a number behind a table isn't seen by another number
+  -- what goes by a number after a table isn't seen by another number
   pub at-appended-other : (number other : ℕ) (v : V) (table : List (ℕ × V)) → (other ≡ number → ⊥)
       → at other (table ++ (number, v) ∷ []) ≡ at other table
   at-appended-other number other v [] off =
@@ -161,7 +161,7 @@ module _ {V : Type 0} where
       found (Some was) is e = inr (same-some x v (sym e ∙ at-changed number v was table is))
       found None is e = inr (gone-changed number v x table is e)
 
-  gone-removed : {A : Type 0} (number : ℕ) (x : V) (table : List (ℕ × V)) → at number (removed number table) ≡ Some x → A
+  pub gone-removed : {A : Type 0} (number : ℕ) (x : V) (table : List (ℕ × V)) → at number (removed number table) ≡ Some x → A
   gone-removed number x [] e = never-some x e
   gone-removed {A} number x (entry ∷ table) e = step (gone-removed {A = A} number x table) (entry.0 == number) refl e
     where

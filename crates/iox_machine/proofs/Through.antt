@@ -38,7 +38,7 @@ not-both : (b c : Bool) → c ≡ false → (b && c) ≡ false
 not-both b c is = and_right b c is
 
 module _ {T : Type 0} where
-  abbrev borrowed_in : Option (Mailbox T) → List (Message T)
+  abbrev pub borrowed_in : Option (Mailbox T) → List (Message T)
   borrowed_in box = (unwrap_or box (record { limit = 0; waiting = []; borrowed = [] })).borrowed
 
   -- ---- what is borrowed
@@ -67,7 +67,7 @@ module _ {T : Type 0} where
       here true is = refl
       here false none = there none ((p == a) && (s == b)) refl
 
-  borrowed-set : (p s a b : ℕ) (box : Mailbox T) (service : Service T) → box.borrowed ≡ borrowed_in (service.mailboxes a b)
+  pub borrowed-set : (p s a b : ℕ) (box : Mailbox T) (service : Service T) → box.borrowed ≡ borrowed_in (service.mailboxes a b)
       → borrowed_in ((with_mailbox a b box service).mailboxes p s) ≡ borrowed_in (service.mailboxes p s)
   borrowed-set p s a b box service same = here ((p == a) && (s == b)) refl
     where
@@ -88,21 +88,21 @@ module _ {T : Type 0} where
       borrowed-set p s number t (record box { waiting = newest box.limit history }) met refl
       ∙ borrowed-connect p s limit number t service
 
-  borrowed-welcomes : (p s number : ℕ) (history : List (Message T)) (news : List ℕ) (service : Service T)
+  pub borrowed-welcomes : (p s number : ℕ) (history : List (Message T)) (news : List ℕ) (service : Service T)
       → borrowed_in ((fold (publishing.welcome number history) service news).mailboxes p s) ≡ borrowed_in (service.mailboxes p s)
   borrowed-welcomes p s number history [] service = refl
   borrowed-welcomes p s number history (t ∷ more) service =
       borrowed-welcomes p s number history more (publishing.welcome number history service t)
       ∙ borrowed-welcome p s number history service t
 
-  borrowed-connects : (p s limit number : ℕ) (publishers : List ℕ) (service : Service T)
+  pub borrowed-connects : (p s limit number : ℕ) (publishers : List ℕ) (service : Service T)
       → borrowed_in ((fold (λ (it : Service T) (publisher : ℕ). connect limit publisher number it) service publishers).mailboxes p s)
       ≡ borrowed_in (service.mailboxes p s)
   borrowed-connects p s limit number [] service = refl
   borrowed-connects p s limit number (one ∷ more) service =
       borrowed-connects p s limit number more (connect limit one number service) ∙ borrowed-connect p s limit one number service
 
-  borrowed-ended : (p s number : ℕ) (service : Service T)
+  pub borrowed-ended : (p s number : ℕ) (service : Service T)
       → borrowed_in ((publishing.ended number service).mailboxes p s) ≡ borrowed_in (service.mailboxes p s)
   borrowed-ended p s number service =
       here ((p == number) && not (contains (those service.subscriber_list.places) s)) (service.mailboxes p s)

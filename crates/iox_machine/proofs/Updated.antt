@@ -127,13 +127,13 @@ unless-followed has_box refused on (Some port) = here (contains refused port) re
     here true is = inr (refl, on port is)
     here false is = inl refl
 
-subscriber-standing : (subscriber : Subscriber) (o : Option Subscriber) → subscriber.stands ≡ true → o ≡ Some subscriber
+pub subscriber-standing : (subscriber : Subscriber) (o : Option Subscriber) → subscriber.stands ≡ true → o ≡ Some subscriber
     → option_and_then (λ (it : Subscriber). cond it.stands (Some it) None) o ≡ Some subscriber
 subscriber-standing subscriber o stands is =
     ap (option_and_then (λ (it : Subscriber). cond it.stands (Some it) None)) is
     ∙ ap (λ (b : Bool). cond b (Some subscriber) None) stands
 
-subscriber-stood : (o : Option Subscriber) (subscriber : Subscriber)
+pub subscriber-stood : (o : Option Subscriber) (subscriber : Subscriber)
     → option_and_then (λ (it : Subscriber). cond it.stands (Some it) None) o ≡ Some subscriber
     → (subscriber.stands ≡ true) × (o ≡ Some subscriber)
 subscriber-stood None subscriber e = never-some subscriber e
@@ -179,14 +179,14 @@ module _ {T : Type 0} where
       came ∙ (ap (λ (it : Service T). record old { services = replaced has it old.services }) same
       ∙ ap (λ (list : List (Service T)). record old { services = list }) (replaced-same has service old.services first))
 
-  standing : (publisher : Publisher T) (o : Option (Publisher T)) → publisher.stands ≡ true → o ≡ Some publisher
+  pub standing : (publisher : Publisher T) (o : Option (Publisher T)) → publisher.stands ≡ true → o ≡ Some publisher
       → option_and_then (λ (it : Publisher T). cond it.stands (Some it) None) o ≡ Some publisher
   standing publisher o stands is =
       ap (option_and_then (λ (it : Publisher T). cond it.stands (Some it) None)) is
       ∙ ap (λ (b : Bool). cond b (Some publisher) None) stands
 
   -- a publisher that was found stands, and is the one of its number
-  stood : (o : Option (Publisher T)) (publisher : Publisher T)
+  pub stood : (o : Option (Publisher T)) (publisher : Publisher T)
       → option_and_then (λ (it : Publisher T). cond it.stands (Some it) None) o ≡ Some publisher
       → (publisher.stands ≡ true) × (o ≡ Some publisher)
   stood None publisher e = never-some publisher e

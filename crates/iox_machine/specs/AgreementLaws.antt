@@ -24,7 +24,7 @@ use Rattle.iox_command.specs.declared.step.ForeignStep.{ForeignStep}
 use Rattle.iox_command.specs.declared.step.ForeignStep.TheVariants as step
 use Rattle.iox_command.specs.declared.step.StepBefore.{StepBefore}
 
--- The number of the phase's lifetime; for an absent phase, of the last lifetime, or 0.
+-- The number of the phase's lifetime; for an absent phase, that of the last lifetime, or 0 if there was none.
 abbrev pub life_of : Phase → ℕ
 life_of (Absent lives) = lives
 life_of (BeingMade life by) = life
@@ -60,11 +60,11 @@ module _ {T : Type 0} where
       IsPublished (state.phases factory.pattern factory.name) (λ agreed nodes. is_in (Own factory.node) nodes ≡ true)
       × (factory.pattern ≡ pattern.PublishSubscribe → list_any (is_service_of factory) state.services ≡ true)
 
--- Each number of the table is above this one.
+-- Each number of the table is larger than this one.
 abbrev pub AreAbove : {V : Type 0} → ℕ → List (ℕ × V) → Type 0
 AreAbove number table = AllByRecursion (λ entry. number < entry.0) table
 
--- Each port, loan and sample of the service has a number above these counts.
+-- The number of each port, loan and sample of the service is larger than these counts.
 abbrev pub IsLaterThan : {T : Type 0} → Made → Service T → Type 0
 IsLaterThan made service =
     AreAbove made.publishers service.publishers × AreAbove made.subscribers service.subscribers
@@ -141,15 +141,15 @@ module _ {T : Type 0} (choices : Choices T) where
       × (new.phases (pattern_of options) name
       ≡ Published life (record { settings = settings_of types options; attributes = attributes }) ((Own node, 1) ∷ []))
 
-  -- A service that is open after a command, and wasn't open before it, is empty: no port, no mailbox, no history, no message.
+  -- A service that is open after a command, and wasn't open before it, has no port, no mailbox, no history and no message.
   abbrev pub ServicesStartEmpty : Type 0
   ServicesStartEmpty = (types : MessageTypeDetails) (buffer : ℕ) (asked : Command T) (old : State T) (answer : Reply T) (new : State T)
       → Step types choices buffer asked old answer new
       → AllByRecursion (λ service. (list_any (λ other. bytes_eq other.name service.name) old.services ≡ true)
       ⊎ (service ≡ new_service service.name service.settings)) new.services
 
-  -- If a new machine, after a run, has no factory of a service, it has no such service. Ports, loans and samples that a later service of
-  -- that name has get numbers that weren't given before.
+  -- If a new machine, after a run, has no factory of a service, it doesn't have the service either. Ports, loans and samples that a later
+  -- service of the same name has get numbers that weren't given before.
   abbrev pub LivesStartAnew : Type 0
   LivesStartAnew = (types : MessageTypeDetails) (buffer : ℕ) (before : List (Command T)) (told : List (Reply T)) (old : State T)
       → Runs types choices buffer before new_state told old

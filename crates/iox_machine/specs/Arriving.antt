@@ -18,8 +18,8 @@ use Rattle.iox_command.specs.declared.refusal.Refusal.TheVariants as refusal
 use Rattle.iox_command.specs.declared.reply.Reply.{Reply}
 use Rattle.iox_command.specs.declared.reply.Reply.TheVariants as reply
 
--- How many messages of a publisher may be in use in the worst case: what each subscriber may have waiting and borrowed, the history, and
--- the loans.
+-- The maximum number of messages of a publisher that are in use at once: those that may wait for each subscriber or be borrowed by it, the
+-- history, and the loans.
 abbrev pub worst_case : StaticConfig → ℕ → ℕ
 worst_case settings loans =
     settings.max_subscribers * (settings.subscriber_max_buffer_size + settings.subscriber_max_borrowed_samples) +
@@ -65,7 +65,8 @@ module _ {T : Type 0} where
       }
 
   -- A publisher is created: it follows the list of subscribers, and is registered at any free place. It is refused if it needs too many
-  -- slots or too long ones, then if no place is free, then for memory. A connection that fails doesn't prevent its creation.
+  -- slots or too long ones, if no place is free, or if memory runs out; the first of these is the reason. A connection that fails doesn't
+  -- prevent its creation.
   abbrev pub PublisherArrives : ℕ → Publisher T → Service T → Reply T → Service T → Type 0
   PublisherArrives number publisher old answer new =
       MatchBool (nat_le (2 ^ 32) (worst_case old.settings publisher.max_loaned_samples) || nat_le (2 ^ 32) publisher.room)
@@ -84,7 +85,8 @@ module _ {T : Type 0} where
       }))))
 
   -- A subscriber is created: it follows the list of publishers, and is registered at any free place. It is refused if its buffer is larger
-  -- than the service allows, then if no place is free, then for memory. A connection that fails doesn't prevent its creation.
+  -- than the service allows, if no place is free, or if memory runs out; the first of these is the reason. A connection that fails doesn't
+  -- prevent its creation.
   abbrev pub SubscriberArrives : ℕ → ℕ → Subscriber → Service T → Reply T → Service T → Type 0
   SubscriberArrives buffer number subscriber old answer new =
       MatchBool (nat_lt old.settings.subscriber_max_buffer_size subscriber.buffer_size)

@@ -7,9 +7,9 @@ use Rattle.iox_command.specs.DomainValues.declared.degradation.DegradationCause.
 use Rattle.iox_command.specs.DomainValues.declared.degradation.DegradationCause.TheVariants.{FailedToEstablishConnection}
 use Rattle.iox_command.specs.DomainValues.declared.degradation.DegradationInfo.{DegradationInfo}
 
--- What may be chosen: which value is a default value; which decision a publisher with this number gets at a full mailbox, after so many
--- retries and so many nanoseconds since it was found full; and which action a port with this number takes when a connection of it failed.
--- The last three may depend on what the command named for the port, or its default.
+-- What may be chosen: which value is a default value; which decision a publisher with this number gets at a full mailbox, after this many
+-- retries and nanoseconds since it was found full; and which action a publisher or a subscriber with this number takes when a connection of
+-- it failed. Decisions and actions may depend on what the command named for the port, or its default.
 pub record Choices (T : Type 0) : Type 1 where
   pub is_default : T → Type 0
   pub publisher_decides : (publisher retries elapsed : ℕ) → (named decision : BackpressureDecision) → Type 0
@@ -31,7 +31,7 @@ pub record Handed (B D : Type 0) : Type 0 where
   pub subscribers : ℕ → Option D
 
 -- The choices by which a port with a handed-in handler does what the handler may answer, and every other port what was named for it. A
--- handler is told the same elapsed time, and as many retries, but at most 2^64 - 1.
+-- publisher's handler is asked with the elapsed time and the number of retries, or 2^64 - 1 if there were more.
 abbrev pub chosen_by : {T B D : Type 0} → (T → Type 0) → (B → BackpressureInfo → BackpressureDecision → Type 0)
     → (B → DegradationCause → DegradationInfo → DegradationAction → Type 0)
     → (D → DegradationCause → DegradationInfo → DegradationAction → Type 0) → Handed B D → Choices T

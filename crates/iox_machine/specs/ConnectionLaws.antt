@@ -22,7 +22,7 @@ module _ {T : Type 0} where
       × IsDistinct (λ one other. one == other) (those service.publisher_list.places)
       × IsDistinct (λ one other. one == other) (those service.subscriber_list.places)
 
-  -- Two ports of the service of which one is connected to the other are both of this service, and have a mailbox.
+  -- If a port of the service is connected to another port, the other one is of this service too, and the two have a mailbox.
   abbrev pub JoinsWhoIsConnected : Service T → Type 0
   JoinsWhoIsConnected service =
       ((publisher subscriber : ℕ)
@@ -63,8 +63,8 @@ module _ {T : Type 0} (choices : Choices T) where
   ConnectedAreJoined = (types : MessageTypeDetails) (buffer : ℕ) (asked : List (Command T)) (answers : List (Reply T)) (new : State T)
       → Runs types choices buffer asked new_state answers new → AllByRecursion JoinsWhoIsConnected new.services
 
-  -- In every run of a new machine, a publisher gets connected to a subscriber at most once, and a subscriber to a publisher: a connection
-  -- that ended is never made again.
+  -- In every run of a new machine, a publisher gets connected to the same subscriber at most once, and a subscriber to the same publisher:
+  -- a connection that ended is never made again.
   abbrev pub PairsConnectOnce : Type 0
   PairsConnectOnce = (types : MessageTypeDetails) (buffer : ℕ) (asked : List (Command T)) (answers : List (Reply T)) (new : State T)
       (run : Runs types choices buffer asked new_state answers new) (publisher subscriber : ℕ)

@@ -31,7 +31,8 @@ module _ {T : Type 0} where
   abbrev pub is_first : MessagingPattern → List ℕ → (Service T → Bool) → State T → Bool
   is_first pattern name has state = option_map_or (is_of pattern name) (find has state.services) false
 
-  -- Whether the command asks something of the service of this pattern and name: by these, by a factory, or by a port, a loan or a sample.
+  -- Whether the command asks something of the service of this pattern and name: it names the pattern and the name, or a factory, a port, a
+  -- loan or a sample of the service.
   abbrev pub asks : MessagingPattern → List ℕ → Command T → State T → Bool
   asks pattern name command.Node state = false
   asks pattern name (command.Create node other options attributes steps) state =
@@ -48,7 +49,8 @@ module _ {T : Type 0} where
       option_map_or (is_factory_of pattern name) (at factory state.factories) false
   asks pattern name other state = is_first pattern name (has_named state.factories other) state
 
-  -- All of the service is as it was: its phase, its factories, and its ports with all that is loaned, waits, is kept and is borrowed.
+  -- All of the service is as it was: its phase, its factories, and its ports with all messages that are loaned, wait, are in the history or
+  -- are borrowed.
   abbrev pub IsLeft : MessagingPattern → List ℕ → State T → State T → Type 0
   IsLeft pattern name old new =
       (new.phases pattern name ≡ old.phases pattern name)
@@ -115,16 +117,18 @@ module _ {T : Type 0} (choices : Choices T) where
       → AsksNothing types choices buffer pattern name asked old answers new run → IsLeft pattern name old new
 
   -- In every run of a new machine, leave out the commands that ask nothing of a service, except those that make nodes. A new machine that
-  -- gets only the others may give the same replies, if it skips the numbers that were given to the rest.
+  -- gets only the remaining commands may give the same replies to them, if it skips the numbers that were given in reply to the commands
+  -- left out.
   abbrev pub ServicesAreAsIfAlone : Type 0
   ServicesAreAsIfAlone = (types : MessageTypeDetails) (buffer : ℕ) (asked : List (Command T)) (answers : List (Reply T)) (new : State T)
       (run : Runs types choices buffer asked new_state answers new)
       → (pattern : MessagingPattern) (name : List ℕ)
       → IsAlone types choices buffer pattern name asked new_state answers new run new_state
 
-  -- In every run of a new machine, leave out the commands that ask nothing of a service, except those that make nodes. The others, with
-  -- other numbers for what they name, are a run of a new machine by themselves: each has the same reply, with the other number if it
-  -- reports one. So numbers are counted anew, without gaps. At the end that machine has the same of the service.
+  -- In every run of a new machine, leave out the commands that ask nothing of a service, except those that make nodes. The remaining
+  -- commands, with other numbers for what they name, are a run of a new machine by themselves: each has the same reply, with the other
+  -- number if it reports one. So numbers are counted anew, without gaps. At the end that machine has of the service what the first machine
+  -- has, except for the numbers.
   abbrev pub NumbersAreCountedAnew : Type 0
   NumbersAreCountedAnew = (types : MessageTypeDetails) (buffer : ℕ) (asked : List (Command T)) (answers : List (Reply T)) (new : State T)
       (run : Runs types choices buffer asked new_state answers new)

@@ -15,8 +15,8 @@ abbrev pub how_many : List ℕ → ℕ
 how_many [] = 0
 how_many (number ∷ more) = if contains more number then how_many more else 1 + how_many more
 
--- How many values a new segment has capacity for, if a loan of so many values doesn't fit the current one: exactly as many, or the least
--- power of two that is at least as many. A static publisher gets no new segment.
+-- The capacity of a new segment, in values, if a loan of this many values doesn't fit the current segment: this number, or the least power
+-- of two that is at least this number. A static publisher gets no new segment.
 abbrev pub IsRoomFor : AllocationStrategy → ℕ → ℕ → Type 0
 IsRoomFor BestFit values room = room ≡ values
 IsRoomFor PowerOfTwo values room = IsNextPowerOfTwo values room
@@ -36,9 +36,9 @@ module _ {T : Type 0} (number : ℕ) where
       (publisher.history ++ flat_map (λ entry. (mailbox number entry.0 service).waiting ++
       (mailbox number entry.0 service).borrowed) service.subscribers)
 
-  -- Why a loan of so many values is refused, except for memory: it is longer than a static segment allows; or the maximum number of loans
-  -- is out; or it fits the current segment, of which as many messages are in use as it has slots. The first of these that applies is the
-  -- reason.
+  -- Why a loan of this many values is refused, before memory for a new segment is asked for. It is longer than a static segment allows; or
+  -- the publisher has as many loans as it may have; or it fits the current segment, and each slot of that segment is in use. The first of
+  -- these that applies is the reason.
   abbrev pub loan_refusal : ℕ → Publisher T → Service T → Option LoanError
   loan_refusal values publisher service =
       if nat_lt publisher.room values && elim publisher.allocation [ Static ↦ true | BestFit ↦ false | PowerOfTwo ↦ false ]
@@ -48,8 +48,9 @@ module _ {T : Type 0} (number : ℕ) where
       (how_many (filter (nat_le publisher.first) (in_use publisher service)))
       then Some OutOfMemory else None))
 
-  -- A publisher loans its next message, of so many values, unless that is refused. If the message doesn't fit the current segment, a new
-  -- one is opened, with capacity for fewer than 2^32 values and if fewer than 255 exist; or the loan is refused for memory.
+  -- A publisher loans its next message, of this many values, unless the loan is refused. If the message doesn't fit the current segment, a
+  -- new segment is allocated, provided that it has capacity for fewer than 2^32 values and fewer than 255 segments exist; or the loan is
+  -- refused as out of memory.
   abbrev pub Lends : ℕ → Publisher T → Service T → Option LoanError → Publisher T → Type 0
   Lends values publisher service refusal after =
       MatchOption (loan_refusal values publisher service)

@@ -20,8 +20,8 @@ use Rattle.iox_command.specs.declared.reply.Reply.TheVariants as reply
 
 module _ {T : Type 0} where
   -- The command drops a message from the mailbox of a publisher and a subscriber: the message waited there, isn't received now, and isn't
-  -- on its way any longer. The service has safe overflow, a later message that the publisher sent is put behind those that waited, and of
-  -- all these the newest wait now, as many as may.
+  -- on its way any longer. The service has safe overflow, and a later message that the publisher sent was put into the mailbox, after those
+  -- that waited. Of all these, the newest wait there now: as many as the mailbox's maximum.
   abbrev pub IsDropped : ℕ → ℕ → Message T → Command T → State T → Reply T → State T → Type 0
   IsDropped publisher subscriber message asked old answer new =
       (has_message (waiting_for publisher subscriber old) message ≡ true)
@@ -37,9 +37,9 @@ module _ {T : Type 0} where
   abbrev pub takes_it : Bool → Message T → Mailbox T → Bool
   takes_it overflows message box = option_map_or (λ after. has_message after.waiting message) (put overflows message box) false
 
-  -- The command skips a subscriber with the message of a send that begins now, or that was blocked with the subscriber left. Either the
-  -- send is given up; or it goes past the subscriber's mailbox, which is full and takes no message, and the publisher is connected to the
-  -- subscriber.
+  -- The command skips a subscriber with this message, whose send begins now, or was blocked and still had to bring it to the subscriber.
+  -- Either the send is given up; or it goes past the subscriber's mailbox, which is full and takes no message, and the publisher is
+  -- connected to the subscriber.
   abbrev pub IsPassedOver : ℕ → ℕ → Message T → Command T → State T → Reply T → State T → Type 0
   IsPassedOver publisher subscriber message asked old answer new =
       (has_message (passed_by publisher subscriber asked old answer new) message ≡ true)
@@ -68,9 +68,10 @@ module _ {T : Type 0} (types : MessageTypeDetails) (choices : Choices T) (buffer
       ⊎ IsLostBy Loses publisher subscriber message more run.1 run.2 new run.4
 
 module _ {T : Type 0} (choices : Choices T) where
-  -- In every run of a new machine, let a subscriber receive two messages of a publisher, one directly after the other, with sequence
-  -- numbers; samples report these while they are held. The publisher sent as many messages with numbers between theirs as there are such
-  -- numbers. Each of these was lost for exactly one cause: it was dropped from their mailbox, or it was skipped there.
+  -- In every run of a new machine, let a subscriber receive two messages from a publisher, one directly after the other, with sequence
+  -- numbers; samples report these numbers while they are held. The number of messages that the publisher sent with sequence numbers between
+  -- these two is the number of integers between them. Each of these messages was lost for exactly one cause: it was dropped from the
+  -- mailbox of the two ports, or it was skipped there.
   abbrev pub GapsHaveCauses : Type 0
   GapsHaveCauses = (types : MessageTypeDetails) (buffer : ℕ) (asked : List (Command T)) (answers : List (Reply T)) (new : State T)
       (run : Runs types choices buffer asked new_state answers new) (publisher subscriber : ℕ)

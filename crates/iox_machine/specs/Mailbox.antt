@@ -14,12 +14,12 @@ abbrev pub newest : {X : Type 0} → ℕ → List X → List X
 newest count xs = drop (length xs - count) xs
 
 module _ {T : Type 0} where
-  -- Whether no message waits in the mailbox and none is borrowed of it.
+  -- Whether no message waits in the mailbox, and none of its messages is borrowed.
   abbrev pub is_idle : Mailbox T → Bool
   is_idle box = not (nat_lt 0 (length box.waiting)) && length box.borrowed == 0
 
-  -- The mailbox once a message is put behind those that wait. With safe overflow the oldest message is dropped if more would wait than may;
-  -- without safe overflow a full mailbox refuses the message (`None`).
+  -- The mailbox after a message was put into it, as the last of those that wait. With safe overflow, the oldest message is dropped if more
+  -- than `limit` would wait; without safe overflow, a full mailbox refuses the message (`None`).
   abbrev pub put : Bool → Message T → Mailbox T → Option (Mailbox T)
   put overflows message box =
       if not overflows && nat_le box.limit (length box.waiting) then None

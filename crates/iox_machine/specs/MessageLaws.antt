@@ -118,8 +118,8 @@ module _ {T : Type 0} (types : MessageTypeDetails) (choices : Choices T) (buffer
       ⊎ BeganIn publisher name settings values more run.1 run.2 new run.4
 
 module _ {T : Type 0} (choices : Choices T) where
-  -- If a subscriber receives after a run of a new machine, the values are those of a message that it takes of a publisher. The send of that
-  -- message began in the run. The publisher is of the subscriber's own service, and has been so since that send.
+  -- If a subscriber receives after a run of a new machine, the values are those of a message that it takes from a publisher's mailbox. The
+  -- send of that message began in the run. The publisher is of the subscriber's own service, and has been so since that send.
   abbrev pub ReceivedWasSent : Type 0
   ReceivedWasSent = (types : MessageTypeDetails) (buffer : ℕ) (asked : List (Command T)) (answers : List (Reply T)) (old : State T)
       (run : Runs types choices buffer asked new_state answers old)
@@ -131,7 +131,8 @@ module _ {T : Type 0} (choices : Choices T) where
       × IsTaken publisher subscriber sample message service new × (vec_items values ≡ message.values)
       × BeganIn types choices buffer publisher service.name service.settings message.values asked new_state answers old run
 
-  -- In every run of a new machine, what a subscriber received of a publisher is a subsequence of what the publisher sent.
+  -- In every run of a new machine, the messages that a subscriber received from a publisher are a subsequence of those that the publisher
+  -- sent.
   abbrev pub ReceivedInOrder : Type 0
   ReceivedInOrder = (types : MessageTypeDetails) (buffer : ℕ) (asked : List (Command T)) (answers : List (Reply T)) (new : State T)
       (run : Runs types choices buffer asked new_state answers new) (publisher subscriber : ℕ)

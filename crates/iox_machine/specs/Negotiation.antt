@@ -16,16 +16,17 @@ use Rattle.iox_command.specs.NegotiateBase.declared.failure.OpenOrCreateFailure.
 use Rattle.iox_command.specs.NegotiateBase.declared.failure.OpenOrCreateFailure.TheVariants as neither
 use Rattle.iox_command.specs.declared.step.StepBefore.{StepBefore}
 
--- A call under way: the phase of its pattern and name, and how many accesses the call has made.
+-- A call in progress: the phase of its pattern and name, and the number of storage operations that the call has made.
 pub record Call : Type 0 where
   pub phase : Phase
   pub accesses : ℕ
 
--- The answer of a round: whether the service is new, or why the call failed; or none, and the next round begins.
+-- The answer of a round: whether the service is new, or why the call failed; or no answer, and the next round begins.
 abbrev pub Answer : Type 0 → Type 0
 Answer F = Option (Result Bool F)
 
--- The answer of a creation as an answer of `open_or_create`: a lock or a service of another node leads to the next round.
+-- The answer of a creation as an answer of `open_or_create`: if another node has the lock or has created the service, the next round
+-- begins.
 abbrev pub created : {V : Type 0} → Answer CreateFailure → Answer (OpenOrCreateFailure V)
 created None = None
 created (Some (Ok new)) = Some (Ok new)
@@ -37,15 +38,15 @@ created (Some (Err failure)) = Some (Err (neither.Create failure))
 abbrev pub Fails : {F : Type 0} → F → Call → Answer F → Call → Type 0
 Fails failure call answer after = (answer ≡ Some (Err failure)) × (after ≡ call)
 
--- At most so many rounds: the first that has an answer ends them. If none has, the call fails with the error `exhausted`.
+-- At most this many rounds: the first that has an answer ends them. If none has an answer, the call fails with the error `exhausted`.
 abbrev pub Rounds : {F : Type 0} → (Call → Answer F → Call → Type 0) → F → ℕ → Call → Answer F → Call → Type 0
 Rounds Round exhausted zero call answer after = Fails exhausted call answer after
 Rounds {F} Round exhausted (suc count) call answer after =
     (mid : Call) × (first : Answer F) × Round call first mid × MatchOption first (Rounds Round exhausted count mid answer after)
     (λ found. (answer ≡ first) × (after ≡ mid))
 
--- How a node registers in the lifetime that it saw: it enters if it was in or there was a place for one node more. If that lifetime is over
--- there is no answer.
+-- How a node registers in the lifetime that it saw: it enters if it is in the service already, or if there is a place for one more node. If
+-- that lifetime is over, there is no answer.
 abbrev pub registered : {V : Type 0} → ℕ → Node → Phase → Answer (OpenFailure V) × Phase
 registered life node (Published now agreed nodes) =
     if now == life then (if is_in node nodes || nat_lt (length nodes) (max_nodes_of agreed.settings) then
@@ -56,8 +57,9 @@ registered life node (Emptied now agreed by) =
 registered life node phase = (None, phase)
 
 module _ (types : MessageTypeDetails) (pattern : MessagingPattern) (steps : List StepBefore) (node : Node) where
-  -- An access: first the actions that other nodes do before it are done; then what the access finds leads on. Or memory runs out, at the
-  -- access or at one of these actions, and the actions before that stay done.
+  -- A storage operation. First, other nodes do the actions that are asked for before it; then `Found` says how the call goes on with the
+  -- phase that the storage operation finds. Or memory runs out at the storage operation or at one of these actions, and the actions before
+  -- it stay done.
   abbrev pub Access : {F : Type 0} → F → (Phase → Call → Answer F → Call → Type 0) → Call → Answer F → Call → Type 0
   Access lacking Found call answer after =
       let meanwhile = map (λ before. before.step) (filter (λ before. before.access == call.accesses + 1) steps) in
@@ -66,7 +68,8 @@ module _ (types : MessageTypeDetails) (pattern : MessagingPattern) (steps : List
       ⊎ ((done : ℕ) × Fails lacking (record call { phase = fold (acted types pattern) call.phase (take done meanwhile) }) answer after)
 
   module _ (agreed : Agreement) where
-    -- What a lock finds. If the phase is absent, the service is made and published at once; or memory runs out, and the lock is given back.
+    -- What a call does with the phase that its lock finds. If the phase is absent, the service is made and published at once; or memory
+    -- runs out, and the lock is released.
     abbrev pub Locks : Phase → Call → Answer CreateFailure → Call → Type 0
     Locks (Absent lives) call answer after =
         ((answer ≡ Some (Ok true)) × (after ≡ record call { phase = Published (lives + 1) agreed ((node, 1) ∷ []) }))
@@ -74,20 +77,20 @@ module _ (types : MessageTypeDetails) (pattern : MessagingPattern) (steps : List
     Locks (BeingMade life by) call answer after = Fails uncreated.IsBeingCreatedByAnotherInstance call answer after
     Locks found call answer after = Fails uncreated.AlreadyExists call answer after
 
-    -- What the look of a creation finds: if the phase is absent, the call locks.
+    -- What a creation does with the phase that its lookup finds: if the phase is absent, it locks.
     abbrev pub CreateLooks : Phase → Call → Answer CreateFailure → Call → Type 0
     CreateLooks (Absent lives) call answer after = Access uncreated.OutOfMemory Locks call answer after
     CreateLooks (BeingMade life by) call answer after = Fails uncreated.HangsInCreation call answer after
     CreateLooks found call answer after = Fails uncreated.AlreadyExists call answer after
 
-    -- `create`: settings that are impossible are refused before the look.
+    -- `create` refuses impossible settings before its lookup.
     abbrev pub Creates : Call → Answer CreateFailure → Call → Type 0
     Creates call answer after =
         MatchOption (unfit agreed.settings) (Access uncreated.OutOfMemory CreateLooks call answer after)
         (λ failure. Fails failure call answer after)
 
   module _ {V : Type 0} (verdict : Agreement → Result (Unit {0}) V) where
-    -- A service that was found is opened if it meets what is asked: the node registers in the lifetime that was found.
+    -- A service that was found is opened if it meets what is asked for: the node registers in the lifetime that was found.
     abbrev pub OpensFound : ℕ → Agreement → Call → Answer (OpenFailure V) → Call → Type 0
     OpensFound life agreed call answer after =
         MatchResult (verdict agreed)
@@ -96,7 +99,7 @@ module _ (types : MessageTypeDetails) (pattern : MessagingPattern) (steps : List
         (later ≡ record now { phase = (registered {V = V} life node phase).1 })) call answer after)
         (λ unmet. Fails (unopened.Clause unmet) call answer after)
 
-    -- What the look of an opening finds.
+    -- What an opening does with the phase that its lookup finds.
     abbrev pub OpenLooks : Phase → Call → Answer (OpenFailure V) → Call → Type 0
     OpenLooks (Absent lives) call answer after = Fails unopened.DoesNotExist call answer after
     OpenLooks (BeingMade life by) call answer after = Fails unopened.HangsInCreation call answer after
@@ -104,8 +107,8 @@ module _ (types : MessageTypeDetails) (pattern : MessagingPattern) (steps : List
     OpenLooks (Emptied life agreed by) call answer after = OpensFound life agreed call answer after
 
     module _ (agreed : Agreement) where
-      -- What the look of `open_or_create` finds: if the phase is absent, the service is created, if its settings are possible; otherwise it
-      -- is opened.
+      -- What `open_or_create` does with the phase that its lookup finds: if the phase is absent, the service is created, provided that its
+      -- settings are possible; otherwise the service is opened.
       abbrev pub EitherLooks : Phase → Call → Answer (OpenOrCreateFailure V) → Call → Type 0
       EitherLooks (Absent lives) call answer after =
           MatchOption (unfit agreed.settings)

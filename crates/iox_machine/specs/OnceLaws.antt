@@ -19,13 +19,13 @@ module _ {T : Type 0} where
   is_skipped reply.Skipped = true
   is_skipped other = false
 
-  -- The loan that the command spends: it is to send or drop that loan, and isn't skipped.
+  -- The loan that the command consumes: the command is to send or drop this loan, and isn't skipped.
   abbrev pub spent_by : Command T → Reply T → Option ℕ
   spent_by (command.Send loan) answer = if is_skipped answer then None else Some loan
   spent_by (command.Drop loan) answer = if is_skipped answer then None else Some loan
   spent_by other answer = None
 
-  -- The loans that these commands spend, in order, if these are the replies.
+  -- The loans that these commands consume, in order, if these are the replies.
   abbrev pub spent_in : List (Command T) → List (Reply T) → List ℕ
   spent_in asked answers = filter_map (λ step. spent_by step.0 step.1) (zip asked answers)
 

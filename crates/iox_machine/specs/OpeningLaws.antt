@@ -30,12 +30,12 @@ IsAgreedOn So phase = (agreed : Agreement) × (agreed_in phase ≡ Some agreed) 
 abbrev pub IsNewWith : Node → Agreement → ℕ → Phase → Type 0
 IsNewWith node asked before phase = (life : ℕ) × (before < life) × (phase ≡ Published life asked ((node, 1) ∷ []))
 
--- If the failure of an opening names a clause, it is the first one that the agreement doesn't meet.
+-- If the failure of an opening names a clause, this clause is the first one that the agreement doesn't meet.
 abbrev pub NamesUnmet : {V : Type 0} → (Agreement → Result (Unit {0}) V) → OpenFailure V → Phase → Type 0
 NamesUnmet verdict (Clause unmet) phase = IsAgreedOn (λ agreed. verdict agreed ≡ Err unmet) phase
 NamesUnmet verdict other phase = ⊤
 
--- If a failure of `open_or_create` is one of its opening and names a clause, it is the first one that the agreement doesn't meet.
+-- If a failure of `open_or_create` is one of its opening and names a clause, this clause is the first one that the agreement doesn't meet.
 abbrev pub EitherNamesUnmet : {V : Type 0} → (Agreement → Result (Unit {0}) V) → OpenOrCreateFailure V → Phase → Type 0
 EitherNamesUnmet verdict (neither.Open failure) phase = NamesUnmet verdict failure phase
 EitherNamesUnmet verdict other phase = ⊤
@@ -45,12 +45,12 @@ module _ (types : MessageTypeDetails) (options : ServiceOptions) (required : Req
   abbrev pub MeetsAsked : Agreement → Type 0
   MeetsAsked agreed = verdict types options required agreed ≡ Ok tt
 
-  -- The refusal reports a failure of the opening; if it names a clause, it is the first one that isn't met.
+  -- The refusal reports a failure of the opening; if it names a clause, this clause is the first one that isn't met.
   abbrev pub TellsUnmet : Refusal → Phase → Type 0
   TellsUnmet why phase =
       (failure : OpenFailure Refusal) × (why ≡ open_refusal options failure) × NamesUnmet (verdict types options required) failure phase
 
-  -- The refusal reports a failure of `open_or_create`; if it names a clause of the opening, it is the first one that isn't met.
+  -- The refusal reports a failure of `open_or_create`; if it names a clause of the opening, this clause is the first one that isn't met.
   abbrev pub EitherTellsUnmet : Refusal → Phase → Type 0
   EitherTellsUnmet why phase =
       (failure : OpenOrCreateFailure Refusal) × (why ≡ either_refusal options failure)
@@ -67,8 +67,8 @@ module _ {T : Type 0} (choices : Choices T) where
       → IsAgreedOn (MeetsAsked types options required) (new.phases (pattern_of options) name))
       × ((why : Refusal) → answer ≡ reply.Refused why → TellsUnmet types options required why (new.phases (pattern_of options) name))
 
-  -- A service of `open_or_create` meets all that is asked for, or is new and exactly as it was asked for. If a clause is refused, it is the
-  -- first one that isn't met.
+  -- A service of `open_or_create` meets all that is asked for, or is new and exactly as it was asked for. If the call is refused for a
+  -- clause, this clause is the first one that isn't met.
   abbrev pub EitherMeetsAsked : Type 0
   EitherMeetsAsked = (types : MessageTypeDetails) (buffer node : ℕ) (name : List ℕ) (options : ServiceOptions) (required : Required)
       (steps : List StepBefore) (old : State T) (answer : Reply T) (new : State T)

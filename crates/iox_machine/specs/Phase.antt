@@ -76,14 +76,14 @@ has_numbers (settings.PublishSubscribe c) = c.sequence_numbers
 has_numbers other = false
 
 module _ (types : MessageTypeDetails) (pattern : MessagingPattern) where
-  -- The phase once a node of another process publishes a service as it asks for it, if the node has the lock, and the service is of this
+  -- The phase after a node of another process published a service with these options, if the node has the lock, and the service is of this
   -- pattern and within the limits. Otherwise the phase stays.
   abbrev pub published_by : ℕ → Node → ℕ → ServiceOptions → Phase
   published_by life by node options =
       if same_node by (Foreign node) && (same_pattern (pattern_of options) pattern && are_within_limits (settings_of types options))
       then Published life (record { settings = settings_of types options; attributes = [] }) ((Foreign node, 1) ∷ []) else BeingMade life by
 
-  -- The phase after an action of another node: it locks what is absent, gives its lock back or publishes, enters, leaves, and removes what
+  -- The phase after an action of another node: it locks an absent service, releases its lock or publishes, enters, leaves, or removes what
   -- it emptied. An action that doesn't fit changes nothing.
   abbrev pub acted : Phase → ForeignStep → Phase
   acted (Absent lives) (step.Lock node) = BeingMade (lives + 1) (Foreign node)

@@ -56,7 +56,7 @@ module _ {T : Type 0} (number : ℕ) where
       with_mailbox number subscriber (record box { waiting = newest box.limit history }) met
 
   -- A publisher follows the list of subscribers: its connections to closed subscribers end, and it connects to each listed one. A
-  -- connection without a mailbox may be refused for memory.
+  -- connection that has no mailbox yet may fail, because memory runs out.
   abbrev pub Follows : Publisher T → Service T → Publisher T → Service T → Type 0
   Follows publisher old after new =
       (refused : List ℕ)

@@ -20,21 +20,21 @@ module _ {T : Type 0} (number : ℕ) where
   has_samples subscriber service = list_any (λ publisher. nat_lt 0 (length (mailbox publisher number service).waiting))
       (those subscriber.connected ++ subscriber.expired)
 
-  -- Whether the connection to this publisher gives: a message waits, and fewer messages are borrowed of it than the service allows.
+  -- Whether the connection to this publisher gives a message: one waits, and fewer messages are borrowed from it than the service allows.
   abbrev pub gives : Service T → ℕ → Bool
   gives service publisher =
       nat_lt 0 (length (mailbox publisher number service).waiting)
       && nat_lt (length (mailbox publisher number service).borrowed) service.settings.subscriber_max_borrowed_samples
 
-  -- The expired connections without the idle ones that come before the first that gives.
+  -- The expired connections without the idle ones that come before the first that gives a message.
   abbrev pub lasting : Service T → List ℕ → List ℕ
   lasting service [] = []
   lasting service (publisher ∷ more) =
       if gives service publisher then publisher ∷ more
       else (if is_idle (mailbox publisher number service) then lasting service more else publisher ∷ lasting service more)
 
-  -- Which connection gives: the first expired one that does, if there is one; otherwise any other connection that gives, or none if none
-  -- does.
+  -- The connection that gives the message: the first expired one that gives one, if there is one; otherwise any other connection that gives
+  -- one, or none if none does.
   abbrev pub IsGiver : Option ℕ → Subscriber → Service T → Option ℕ → Type 0
   IsGiver (Some expired) subscriber service giver = giver ≡ Some expired
   IsGiver None subscriber service None = list_any (gives service) (those subscriber.connected) ≡ false
@@ -50,8 +50,9 @@ module _ {T : Type 0} (number : ℕ) where
       (record box { waiting = drop 1 box.waiting; borrowed = box.borrowed ++ take 1 box.waiting })
       (record old { samples = old.samples ++ (sample, record { publisher = publisher; subscriber = number; message = message }) ∷ [] }))
 
-  -- A subscriber receives. Idle expired connections that come before the first that gives end. If no connection gives, the receive is
-  -- refused if some connection has data, since the maximum is borrowed there; otherwise the reply is that nothing waits.
+  -- A subscriber receives. Idle expired connections are ended if they come before the first expired connection that gives a message. If no
+  -- connection gives a message, the receive is refused if a message waits in some connection, since the maximum is borrowed there;
+  -- otherwise the reply is that nothing waits.
   abbrev pub Receives : ℕ → Subscriber → Service T → Reply T → Service T → Type 0
   Receives sample subscriber old answer new =
       let swept = record old {

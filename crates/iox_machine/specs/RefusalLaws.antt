@@ -43,17 +43,17 @@ IsQuietCallFor pattern name (command.OpenOrCreate node other options required st
     (pattern_of options ≡ pattern) × (other ≡ name) × (steps ≡ [])
 IsQuietCallFor pattern name other = ⊥
 
--- The actions that other nodes are to do before an access; accesses are numbered from 1.
+-- The actions that other nodes are to do before a storage operation; storage operations are numbered from 1.
 abbrev pub steps_at : List StepBefore → ℕ → List ForeignStep
 steps_at steps access = map (λ before. before.step) (filter (λ before. before.access == access) steps)
 
--- The actions that other nodes are to do before the first so many accesses, in order.
+-- The actions that other nodes are to do before the first storage operations, up to the one with this number, in order.
 abbrev pub steps_through : List StepBefore → ℕ → List ForeignStep
 steps_through steps zero = []
 steps_through steps (suc accesses) = steps_through steps accesses ++ steps_at steps (suc accesses)
 
--- The phase is what the actions of other nodes alone made of the old one: all those before so many accesses, and some of those before the
--- next one. If the phase was absent then, a lifetime may have begun and ended.
+-- The phase is what the actions of other nodes alone made of the old one: for some number of storage operations, all actions before these
+-- storage operations, and some of those before the next one. If the phase was absent then, a lifetime may have begun and ended.
 abbrev pub IsLeftBySteps : MessageTypeDetails → MessagingPattern → List StepBefore → Phase → Phase → Type 0
 IsLeftBySteps types pattern steps old new =
     (accesses : ℕ) × (done : ℕ)
@@ -90,7 +90,7 @@ module _ {T : Type 0} where
   is_sending (command.Put publisher values) = true
   is_sending other = false
 
-  -- The loans that are out after a refused call: a send has spent its own.
+  -- The loans that exist after a refused call: a send has consumed its own loan.
   abbrev pub loans_left : Command T → List (ℕ × Loan T) → List (ℕ × Loan T)
   loans_left (command.Send loan) loans = removed loan loans
   loans_left other loans = loans
@@ -123,8 +123,8 @@ module _ {T : Type 0} where
       && option_map_or (λ one. contains (those one.connected) subscriber) (at publisher old.publishers) false) ≡ true
       → new.mailboxes publisher subscriber ≡ Some box)
 
-  -- The command sends this message by this publisher, before the send numbers it: that of a loan, or the publisher's next one with the
-  -- values of a put.
+  -- The command is to send this message by this publisher. The message, which has no sequence number yet, is that of a loan, or the
+  -- publisher's next one with the values of a put.
   abbrev pub IsSentBy : Command T → Service T → ℕ → Message T → Type 0
   IsSentBy (command.Send loan) service number message =
       (lent : Loan T) × (at loan service.loans ≡ Some lent) × (number ≡ lent.publisher) × (message ≡ sent_as lent)
@@ -133,7 +133,7 @@ module _ {T : Type 0} where
       × (message ≡ record { number = one.next; sequence = None; values = values })
   IsSentBy other service number message = ⊥
 
-  -- The mailbox once a message was put behind those that wait; a full mailbox stays as it is.
+  -- The mailbox after a message was put into it, as the last of those that wait; a full mailbox stays as it is.
   abbrev pub offered_to : Message T → Mailbox T → Mailbox T
   offered_to message box = if nat_le box.limit (length box.waiting) then box else record box { waiting = box.waiting ++ message ∷ [] }
 
@@ -148,9 +148,10 @@ module _ {T : Type 0} where
       × (nat_le (mailbox number lacking service).limit (length (mailbox number lacking service).waiting) ≡ true)
       × (option_map_or (λ it. it.stands && contains (those it.connected) number) (at lacking service.subscribers) false ≡ true))
 
-  -- A publisher sent a message to all that it is connected to, and couldn't deliver. Without safe overflow the message waits in each
-  -- mailbox that had capacity, and in no other, and at least one subscriber didn't get it. The message has the publisher's next sequence
-  -- number, if the service numbers messages, and is the newest of the history. No send is blocked, and all else is as before.
+  -- A publisher sent a message to all subscribers that it is connected to, and couldn't deliver it to all. Without safe overflow the
+  -- message waits in each mailbox that had capacity, and in no other, and at least one subscriber didn't get it. The message has the
+  -- publisher's next sequence number, if the service numbers messages, and is the newest of the history. No send is blocked, and all else
+  -- is as before.
   abbrev pub IsUndelivered : Choices T → ℕ → Publisher T → Message T → Service T → Service T → Type 0
   IsUndelivered choices number one message old new =
       LacksOne choices number one (those one.connected) old
@@ -167,8 +168,8 @@ module _ {T : Type 0} where
         mailboxes = new.mailboxes;
       })
 
-  -- A blocked send went to the subscribers that were left, and couldn't deliver. Each mailbox with capacity took its message, at least one
-  -- subscriber didn't get it, now or before the send was blocked, and no send is blocked.
+  -- A blocked send went to the subscribers that were left, and couldn't deliver to all. Each mailbox with capacity took its message. At
+  -- least one subscriber didn't get it, now or before the send was blocked. Now no send is blocked.
   abbrev pub IsRetried : Choices T → ℕ → Publisher T → Send T → Service T → Service T → Type 0
   IsRetried choices number one send old new =
       ((send.fails ≡ true) ⊎ LacksOne choices number one send.left old)
@@ -180,7 +181,7 @@ module _ {T : Type 0} where
       × (new ≡ record old { publishers = changed number (record one { blocked = None }) old.publishers; mailboxes = new.mailboxes })
 
 module _ {T : Type 0} (choices : Choices T) where
-  -- A send, put, receive, update or look for data that is refused changes only the service that has what it names. A send has spent its
+  -- A send, put, receive, update or look for data that is refused changes only the service that has what it names. A send has consumed its
   -- loan; the other loans stay, and so does what `KeepsPorts` and `KeepsMessages` say. This doesn't apply to a send that couldn't deliver,
   -- which did all else that a send does.
   abbrev pub RefusedPortsLeave : Type 0
@@ -192,7 +193,7 @@ module _ {T : Type 0} (choices : Choices T) where
       × (after.loans ≡ loans_left asked service.loans) × KeepsPorts service after × KeepsMessages service after
 
   -- In every run of a new machine, a send or put that couldn't deliver updated the publisher's connections, with what a refused update
-  -- leaves, and then sent its message to all connected subscribers with capacity. The loan is spent, and all other services stay.
+  -- leaves, and then sent its message to all connected subscribers with capacity. The loan is consumed, and all other services stay.
   abbrev pub UndeliveredLeaves : Type 0
   UndeliveredLeaves = (types : MessageTypeDetails) (buffer : ℕ) (before : List (Command T)) (told : List (Reply T)) (old : State T)
       → Runs types choices buffer before new_state told old

@@ -23,8 +23,8 @@ use Rattle.iox_command.specs.declared.refusal.Refusal.TheVariants as refusal
 use Rattle.iox_command.specs.declared.service.ServiceOptions.{ServiceOptions}
 use Rattle.iox_command.specs.declared.service.ServiceOptions.TheVariants as options
 
--- The refusal that reports a failed creation, by the service's pattern. Only publish-subscribe has a history, so only there can the buffer
--- be shorter.
+-- The refusal that reports a failed creation, by the service's pattern. Only publish-subscribe has a history, so only its buffer can be
+-- shorter than the history.
 abbrev pub create_refusal : ServiceOptions → CreateFailure → Refusal
 create_refusal (options.PublishSubscribe named) uncreated.AlreadyExists
     = refusal.PublishSubscribeCreate publish_subscribe_create.AlreadyExists

@@ -38,8 +38,8 @@ module _ {T : Type 0} where
   MayStop (command.Read sample ∷ rest) answers = Unit {0}
   MayStop (other ∷ rest) answers = answers ≡ []
 
--- The parameters of a machine: the types of its messages, the choices of others, and how many connections of a subscriber may be expired at
--- once (or as many as samples may be borrowed of one connection, if that is more).
+-- The parameters of a machine: the types of its messages, the choices of others, and the maximum number of expired connections of a
+-- subscriber (or the service's borrow limit, if that is larger).
 module _ {T : Type 0} (types : MessageTypeDetails) (choices : Choices T) (buffer : ℕ) where
   -- A command that names a factory: `Does` is done at the factory's publish-subscribe service. It is skipped if there is no such factory,
   -- or it has another pattern.

@@ -1,9 +1,9 @@
 -- Theorems about every run of the machine: sizes, messages, samples, and commands that change nothing.
-use Rattle.std.specs.Prelude.{ℕ, ◌≡◌, ◌≤◌, ◌⊎◌, Bool, true, false, List, [], ◌∷◌, length, filter_map, find, is_some, None, Some}
+use Rattle.std.specs.Prelude.{ℕ, ◌+◌, ◌*◌, ◌≡◌, ◌≤◌, ◌⊎◌, Bool, true, false, min, max, List, [], ◌∷◌, length, filter_map, find, is_some}
+use Rattle.std.specs.Prelude.{None, Some, unwrap_or}
 use Rattle.std.specs.Global.{Vec}
 use Rattle.std.specs.List.{AllByRecursion, list_all}
 use Rattle.std.specs.Vec.{vec_items}
-use Rattle.iox_machine.specs.Arriving.{new_publisher}
 use Rattle.iox_machine.specs.Choices.{Choices}
 use Rattle.iox_machine.specs.Mailbox.{Mailbox}
 use Rattle.iox_machine.specs.Message.{Message, Loan}
@@ -55,8 +55,8 @@ BeginsToSend {T} publisher values (command.Send loan) old answer =
     × (has_begun answer ≡ true)
 BeginsToSend publisher values other old answer = ⊥
 
--- Whether the command is one that changes nothing if it is refused: it neither negotiates, nor does actions of other nodes, nor updates
--- connections first.
+-- Whether the command changes nothing if it is refused: it neither negotiates, nor does actions of other nodes, nor updates connections
+-- first.
 abbrev pub is_refused_whole : {T : Type 0} → Command T → Bool
 is_refused_whole command.Node = true
 is_refused_whole (command.Close factory) = true
@@ -79,11 +79,15 @@ abbrev pub ComesAs : {T : Type 0} → ℕ → PublisherOptions → Command T →
 ComesAs number options (command.Publisher factory named) answer = (named ≡ options) × (answer ≡ reply.PublisherMade number)
 ComesAs number options other answer = ⊥
 
--- The publisher has the number of slots and the limit of loans that follow from the settings and from the options named for it.
+-- The publisher's loan limit is the named one, or 2. At most `most` of its messages can be in use at once: for each subscriber those that
+-- may wait and those that may be borrowed, the history, and the loans. It has that many slots, or as many as were named if these are fewer,
+-- but at least 1.
 abbrev pub IsSizedAs : {T : Type 0} → PublisherOptions → StaticConfig → Publisher T → Type 0
-IsSizedAs {T} options settings publisher =
-    let made : Publisher T = new_publisher publisher.factory options settings in
-    (publisher.max_loaned_samples ≡ made.max_loaned_samples) × (publisher.slots ≡ made.slots)
+IsSizedAs options settings publisher =
+    let loans = unwrap_or options.max_loaned_samples 2 in
+    let most = settings.max_subscribers * (settings.subscriber_max_buffer_size + settings.subscriber_max_borrowed_samples) +
+    (settings.history_size + loans) in
+    (publisher.max_loaned_samples ≡ loans) × (publisher.slots ≡ max 1 (min most (unwrap_or options.preallocated_samples most)))
 
 -- No more messages wait, are borrowed or are kept as history than the settings of the service allow, and no more publishers and subscribers
 -- are listed. The lists have exactly as many places, and each publisher is sized by these settings and by the options named for it.
@@ -130,7 +134,7 @@ module _ {T : Type 0} (choices : Choices T) where
   SkippedChangesNothing = (types : MessageTypeDetails) (buffer : ℕ) (asked : Command T) (old new : State T)
       → Step types choices buffer asked old reply.Skipped new → new ≡ old
 
-  -- A command that is refused, and is one of those that change nothing then, changes nothing.
+  -- A refused command changes nothing, if it is one of those without negotiation, actions of other nodes and updates (`is_refused_whole`).
   abbrev pub RefusedChangesNothing : Type 0
   RefusedChangesNothing = (types : MessageTypeDetails) (buffer : ℕ) (asked : Command T) (old new : State T) (why : Refusal)
       → is_refused_whole asked ≡ true → Step types choices buffer asked old (reply.Refused why) new → new ≡ old
@@ -143,8 +147,8 @@ module _ {T : Type 0} (choices : Choices T) where
       → IsCallFor pattern name asked → Step types choices buffer asked old (reply.Refused why) new
       → (new ≡ old) ⊎ ((phase : Phase) × (new ≡ with_phase pattern name phase old))
 
-  -- In every run of a new machine, what each service uses is within the sizes of its settings. Its lists have as many places as these say,
-  -- and its publishers as many slots and loans as these and their commands say.
+  -- In every run of a new machine, what each service uses is within the sizes of its settings. Its lists have as many places as the
+  -- settings say. Its publishers have the number of slots and the loan limit that the settings and their commands say.
   abbrev pub SizesAreAgreed : Type 0
   SizesAreAgreed = (types : MessageTypeDetails) (buffer : ℕ) (asked : List (Command T)) (answers : List (Reply T)) (new : State T)
       (run : Runs types choices buffer asked new_state answers new)

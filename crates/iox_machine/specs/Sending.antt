@@ -27,8 +27,8 @@ module _ {T : Type 0} (choices : Choices T) (number : ℕ) where
       (choices.publisher_decides number send.retries send.elapsed (decision_of publisher.strategy publisher.handler) decision)
       (decision ≡ DiscardData)
 
-  -- A message goes to these subscribers, one after the other. A mailbox takes it, or is full, and then what is decided is done: the send is
-  -- blocked there, or skips the mailbox and goes on.
+  -- A message goes to these subscribers, one after the other. A mailbox takes it. If a mailbox is full, a decision applies: the send is
+  -- blocked there, or it skips the mailbox and goes on.
   abbrev pub Delivers : Publisher T → List ℕ → Send T → Service T → Send T → Service T → Type 0
   Delivers publisher [] send old after new = (after ≡ record send { left = [] }) × (new ≡ old)
   Delivers publisher (subscriber ∷ more) send old after new =

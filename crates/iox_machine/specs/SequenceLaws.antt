@@ -19,18 +19,18 @@ use Rattle.iox_command.specs.declared.reply.Reply.{Reply}
 use Rattle.iox_command.specs.declared.reply.Reply.TheVariants as reply
 
 module _ {T : Type 0} where
-  -- The sequence number of each message is one more than that of the message before it, and the first follows `last`; if `last` is none, no
-  -- message has one.
+  -- The sequence number of each message is one more than that of the message before it, and the first is one more than `last`; if `last` is
+  -- none, no message has one.
   abbrev pub GoOnBehind : Option ℕ → List (Message T) → Type 0
   GoOnBehind last [] = ⊤
   GoOnBehind last (message ∷ more) = (message.sequence ≡ next_sequence last) × GoOnBehind message.sequence more
 
-  -- The sequence number of the last of these messages; without messages, the one before them.
+  -- The sequence number of the last of these messages; if there are no messages, `last`.
   abbrev pub last_behind : Option ℕ → List (Message T) → Option ℕ
   last_behind last [] = last
   last_behind last (message ∷ more) = last_behind message.sequence more
 
-  -- Whether the message is one of these, which are all of its publisher.
+  -- Whether this message is one of these messages, which are all of one publisher.
   abbrev pub has_message : List (Message T) → Message T → Bool
   has_message messages message = contains (map (λ one. one.number) messages) message.number
 
@@ -43,7 +43,7 @@ module _ {T : Type 0} where
   waiting_for publisher subscriber state = option_map_or (λ service. (mailbox publisher subscriber service).waiting)
       (find (λ service. is_some (at publisher service.publishers)) state.services) []
 
-  -- The message that a blocked send still has to bring to this subscriber, if a send is blocked and has.
+  -- The message that a blocked send still has to bring to this subscriber, if a send is blocked and the subscriber is left to try.
   abbrev pub still_brought : ℕ → Option (Send T) → List (Message T)
   still_brought subscriber None = []
   still_brought subscriber (Some send) = if contains send.left subscriber then send.message ∷ [] else []
@@ -65,9 +65,9 @@ module _ {T : Type 0} where
       (λ message. not (has_message (with_one (received_by publisher subscriber asked answer new) (waiting_for publisher subscriber new))
       message)) (waiting_for publisher subscriber old)
 
-  -- The messages with which a command skips a subscriber: the send of the message begins now, or was blocked and still had to bring it; and
-  -- now the message neither waits nor is still to come. This happens at a full mailbox, if that is decided there; when a send is given up;
-  -- and if the publisher isn't connected to the subscriber.
+  -- The messages with which a command skips a subscriber. The send of such a message begins now, or was blocked and still had to bring it
+  -- to the subscriber; after the command the message doesn't wait, and no send still has to bring it. This happens at a full mailbox, if
+  -- that is decided there; when a send is given up; and if the publisher isn't connected to the subscriber.
   abbrev pub passed_by : ℕ → ℕ → Command T → State T → Reply T → State T → List (Message T)
   passed_by publisher subscriber asked old answer new =
       filter (λ message. not (has_message (on_way publisher subscriber new) message))
@@ -110,9 +110,10 @@ module _ {T : Type 0} (choices : Choices T) where
       → (answer : Reply T) (new : State T) → Step types choices buffer (command.Sequence sample) later answer new
       → answer ≡ reply.Sequence message.sequence)
 
-  -- In every run of a new machine, let a subscriber receive two messages of a publisher, one directly after the other. The publisher sent
-  -- as many messages with sequence numbers between theirs as there are such numbers. Each of these was lost to the subscriber, was never
-  -- received, and isn't on its way; no other message with such a number was lost.
+  -- In every run of a new machine, let a subscriber receive two messages from a publisher, one directly after the other, with sequence
+  -- numbers. The number of messages that the publisher sent with sequence numbers between these two is the number of integers between them.
+  -- Each of these messages was lost to the subscriber, was never received, and isn't on its way. No other message with a sequence number
+  -- between the two was lost.
   abbrev pub GapsAreLosses : Type 0
   GapsAreLosses = (types : MessageTypeDetails) (buffer : ℕ) (asked : List (Command T)) (answers : List (Reply T)) (new : State T)
       (run : Runs types choices buffer asked new_state answers new) (publisher subscriber : ℕ)

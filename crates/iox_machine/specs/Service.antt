@@ -9,8 +9,8 @@ use Rattle.iox_command.specs.DomainValues.declared.data_segment.AllocationStrate
 use Rattle.iox_command.specs.DomainValues.declared.degradation.DegradationAction.{DegradationAction}
 use Rattle.iox_command.specs.NegotiateBase.DescribeSettings.declared.static_config.publish_subscribe.StaticConfig.{StaticConfig}
 
--- A send under way: its message; the subscribers that are `left` to try, in place order; how often the first of these was tried again, and
--- for how many nanoseconds; how many mailboxes took the message; and whether the send is to fail at its end.
+-- A send in progress: its message; the subscribers that are `left` to try, in place order; how often the first of these was tried again,
+-- and for how many nanoseconds; how many mailboxes took the message; and whether the send is to fail at its end.
 pub record Send (T : Type 0) : Type 0 where
   pub message : Message T
   pub left : List ℕ
@@ -55,7 +55,7 @@ pub record Subscriber : Type 0 where
   pub expired : List ℕ
 
 -- A service, from its first factory in the hub to its last. A publisher and a subscriber that have a connection have a mailbox. A port is
--- `connected` to ports of the other kind, at their places, and has `seen` so many changes of their list.
+-- `connected` to ports of the other kind, at their places, and has `seen` this many changes of their list.
 pub record Service (T : Type 0) : Type 0 where
   pub name : List ℕ
   pub settings : StaticConfig

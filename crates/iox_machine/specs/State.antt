@@ -60,7 +60,7 @@ module _ {T : Type 0} where
     phases = λ other another. if same_pattern other pattern && bytes_eq another name then phase else state.phases other another;
   }
 
-  -- The services with another one in the place of the first that passes the test.
+  -- The services with another service in place of the first that passes the test.
   abbrev pub replaced : (Service T → Bool) → Service T → List (Service T) → List (Service T)
   replaced has after [] = []
   replaced has after (service ∷ more) = if has service then after ∷ more else service ∷ replaced has after more

@@ -15,14 +15,14 @@ use Rattle.iox_command.specs.declared.refusal.Refusal.{Refusal}
 use Rattle.iox_command.specs.declared.reply.Reply.{Reply}
 use Rattle.iox_command.specs.declared.reply.Reply.TheVariants as reply
 
--- The expired connections, oldest first, and the connections that stay at their places because no more may be expired.
+-- The expired connections, oldest first, and the connections that stay at their places because no more connections may be expired.
 pub record Parted : Type 0 where
   pub expired : List ℕ
   pub staying : List ℕ
 
 module _ {T : Type 0} (buffer number : ℕ) where
-  -- Which expired connection ends, so that another can expire: the first idle one; if there is none, and something is borrowed of the other
-  -- one, the first of which nothing is borrowed.
+  -- The expired connection that ends so that the connection to `publisher` can expire: the first idle one. If none is idle, and a message
+  -- is borrowed from the connection to `publisher`, it is the first one from which nothing is borrowed.
   abbrev pub room_for : ℕ → List ℕ → Service T → Option ℕ
   room_for publisher expired service = slice_get
       (filter (λ other. is_idle (mailbox other number service)) expired
@@ -30,7 +30,8 @@ module _ {T : Type 0} (buffer number : ℕ) where
       else filter (λ other. length (mailbox other number service).borrowed == 0) expired)) 0
 
   -- What becomes of the connection to a closed publisher: it ends if it is idle, and expires otherwise. If no more connections may be
-  -- expired, one of these ends and makes room; if none can, the connection ends if nothing is borrowed of it, and stays otherwise.
+  -- expired, an expired one ends in its favour (`room_for`). If none can, the connection ends if nothing is borrowed from it, and stays
+  -- otherwise.
   abbrev pub part : Service T → Parted → ℕ → Parted
   part service parted publisher =
       if is_idle (mailbox publisher number service) then parted
@@ -42,9 +43,9 @@ module _ {T : Type 0} (buffer number : ℕ) where
             else record parted { staying = parted.staying ++ publisher ∷ [] }
       ])
 
-  -- A subscriber follows the list of publishers. Its connections to publishers that aren't listed at their place any longer are parted:
-  -- first at places where another publisher is listed now, then at the others. At each place it is then connected to a publisher that stays
-  -- there, or else to the listed one. A connection without a mailbox may be refused for memory.
+  -- A subscriber follows the list of publishers. Its connections to publishers that are no longer listed at their places end, expire or
+  -- stay (`part`): first at places where another publisher is listed now, then at the others. At each place it is then connected to a
+  -- publisher that stays there, or else to the listed one. A connection that has no mailbox yet may fail, because memory runs out.
   abbrev pub Follows : Subscriber → Service T → Subscriber → Service T → Type 0
   Follows subscriber old after new =
       let places = zip subscriber.connected old.publisher_list.places in

@@ -40,13 +40,13 @@ module _ {T : Type 0} where
       if not (contains (those service.subscriber_list.places) subscriber) then []
       else (if contains (those was.connected) subscriber then box.waiting else newest box.limit was.history)
 
-  -- The mailbox after the update, if it is one of this publisher; any other one stays as it was.
+  -- The mailbox after the update, if it is one of this publisher; any other mailbox stays as it was.
   abbrev pub box_then : ℕ → Publisher T → Service T → ℕ → ℕ → Mailbox T → Mailbox T
   box_then number was service publisher subscriber box =
       if publisher == number then record box { waiting = waits_then was service subscriber box } else box
 
-  -- The mailbox of a publisher and a subscriber that had none: for as many messages as the subscriber allows, with as much of the history
-  -- as may wait, and with nothing borrowed.
+  -- The mailbox of a publisher and a subscriber that had none: with the subscriber's buffer size, with as much of the history as may wait,
+  -- and with nothing borrowed.
   abbrev pub first_box : Publisher T → Service T → ℕ → Mailbox T
   first_box was service subscriber =
       let limit = option_map_or (λ one. one.buffer_size) (at subscriber service.subscribers) 0 in
@@ -60,8 +60,8 @@ module _ {T : Type 0} where
 
 module _ {T : Type 0} (choices : Choices T) where
   -- After a successful update of a publisher, it has seen all changes of the list of subscribers. If there were changes, it is connected to
-  -- each listed subscriber, or the connection failed; none failed if the publisher is to fail then. If there were no changes, nothing
-  -- changes.
+  -- each listed subscriber, or the connection failed; no connection failed if the publisher's action then is to fail. If there were no
+  -- changes, nothing changes.
   abbrev pub PublisherIsUpdated : Type 0
   PublisherIsUpdated = (types : MessageTypeDetails) (buffer number : ℕ) (old new : State T)
       → Step types choices buffer (command.Update (port.Publisher number)) old reply.Done new
@@ -74,8 +74,8 @@ module _ {T : Type 0} (choices : Choices T) where
       (zip service.subscriber_list.places one.connected)
       × UpdateAnswers (choices.publisher_acts number one.degradation) (zip service.subscriber_list.places one.connected) (Ok tt)))
 
-  -- After a successful update of a subscriber, the same holds for the list of publishers; a closed publisher may stay at its place, if
-  -- something is borrowed of it.
+  -- After a successful update of a subscriber, the same is true for it and the list of publishers, except that a closed publisher may stay
+  -- at its place if something is borrowed from it.
   abbrev pub SubscriberIsUpdated : Type 0
   SubscriberIsUpdated = (types : MessageTypeDetails) (buffer number : ℕ) (old new : State T)
       → Step types choices buffer (command.Update (port.Subscriber number)) old reply.Done new
@@ -88,9 +88,9 @@ module _ {T : Type 0} (choices : Choices T) where
       (zip service.publisher_list.places one.connected)
       × UpdateAnswers (choices.subscriber_acts number one.degradation) (zip service.publisher_list.places one.connected) (Ok tt)))
 
-  -- After a successful update of a publisher, each mailbox that existed still exists, with all that is borrowed. In one of the publisher
-  -- itself, what waited still waits if the publisher was connected to the subscriber and the subscriber is still listed. A new mailbox is
-  -- one of the publisher and a listed subscriber, and begins with the history. All else stays.
+  -- After a successful update of a publisher, each mailbox that existed still exists, with all that is borrowed. In a mailbox of the
+  -- publisher itself, what waited still waits if the publisher was connected to the subscriber and the subscriber is still listed. A new
+  -- mailbox is one of the publisher and a listed subscriber, and begins with the history. All else stays.
   abbrev pub PublisherKeepsMailboxes : Type 0
   PublisherKeepsMailboxes = (types : MessageTypeDetails) (buffer number : ℕ) (old new : State T)
       → Step types choices buffer (command.Update (port.Publisher number)) old reply.Done new
@@ -106,8 +106,8 @@ module _ {T : Type 0} (choices : Choices T) where
       → (publisher ≡ number) × (contains (those service.subscriber_list.places) subscriber ≡ true)
       × (box ≡ first_box was service subscriber)))
 
-  -- After a successful update of a subscriber, each mailbox that existed is as it was. A new one is the subscriber's own, for as many
-  -- messages as it allows, and nothing waits there. All else stays.
+  -- After a successful update of a subscriber, each mailbox that existed is as it was. A new mailbox is one of this subscriber, has its
+  -- buffer size, and is empty. All else stays.
   abbrev pub SubscriberKeepsMailboxes : Type 0
   SubscriberKeepsMailboxes = (types : MessageTypeDetails) (buffer number : ℕ) (old new : State T)
       → Step types choices buffer (command.Update (port.Subscriber number)) old reply.Done new

@@ -20,8 +20,8 @@ IsOpen factories name number =
     × ((same_pattern factory.pattern pattern.PublishSubscribe && bytes_eq name factory.name) ≡ true)
 
 module _ {T : Type 0} (factories : List (ℕ × Factory)) where
-  -- Each open port of the service is of an open factory of the service, and so are the publisher of each loan and the subscriber of each
-  -- sample.
+  -- Each open port of the service belongs to an open factory of the service, and so do the publisher of each loan and the subscriber of
+  -- each sample.
   pub record IsOfOpenFactories (service : Service T) : Type 0 where
     pub publishers : (number : ℕ) (one : Publisher T) → at number service.publishers ≡ Some one → one.stands ≡ true
         → IsOpen factories service.name one.factory

@@ -33,6 +33,9 @@ ghost use Rattle.iox_machine.specs.UpdateLaws.{PublisherIsUpdated, PublisherKeep
 
 use iox_domain_values::{Decides, Degrades};
 
+pub mod named;
+pub mod replies;
+
 /// A new machine skips a put at any publisher; it has no other reply to it, and nothing changes.
 pub fn put_at_unknown_is_skipped()
     ensures { PutAtUnknownIsSkipped }
@@ -46,7 +49,7 @@ pub fn overflow_drops_the_oldest()
 
 /// In every run of a new machine, no more messages wait in a mailbox, are borrowed from it, or are kept as history than the settings of the
 /// service allow, and no subscriber has a longer buffer. The lists of ports have exactly as many places as the settings say. Each publisher
-/// has the slots and the limit of loans that follow from the settings and from the command that created it.
+/// has the number of slots and the loan limit that follow from the settings and from the command that created it.
 pub fn sizes_are_agreed<T: Default, B: Decides + Degrades, D: Degrades>()
     ensures { (handed : Handed B D) → SizesAreAgreed (chosen_by T.is_default (λ who. B.decides who) (λ who. B.degrades who)
         (λ who. D.degrades who) handed) }
@@ -91,9 +94,9 @@ pub fn refused_calls_leave_nodes<T: Default, B: Decides + Degrades, D: Degrades>
         (λ who. D.degrades who) handed) }
 {}
 
-/// In every run of a new machine: a refused creation or opening leaves the phase that the actions of other nodes alone make of it, as they
-/// were done meanwhile: all before so many accesses, in order, and some of those before the next one. If the phase was absent then, a
-/// lifetime may have begun and ended.
+/// In every run of a new machine: a refused creation or opening leaves the phase as the actions of other nodes alone make it: for some
+/// number of storage operations of the call, all actions before these storage operations, in order, and some of those before the next one.
+/// If the phase was absent then, a lifetime may have begun and ended.
 pub fn refused_calls_leave_foreign_steps<T: Default, B: Decides + Degrades, D: Degrades>()
     ensures { (handed : Handed B D) → RefusedCallsLeaveSteps (chosen_by T.is_default (λ who. B.decides who) (λ who. B.degrades who)
         (λ who. D.degrades who) handed) }
@@ -101,7 +104,7 @@ pub fn refused_calls_leave_foreign_steps<T: Default, B: Decides + Degrades, D: D
 
 /// A send, put, receive, update or look for data that is refused changes only the service that has what it names. Of that service it leaves
 /// name, settings, lists, samples and all that is borrowed, and each port, except how far the port follows the other list and what a loan
-/// changes. Loans stay, except that a send has spent its own. If the publisher was connected to a subscriber that is listed, what waits
+/// changes. Loans stay, except that a send has consumed its own. If the publisher was connected to a subscriber that is listed, what waits
 /// stays, and a mailbox that existed is as it was. This doesn't apply to a send that couldn't deliver, which did all else that a send does.
 pub fn a_refused_port_leaves_the_rest<T: Default, B: Decides + Degrades, D: Degrades>()
     ensures { (handed : Handed B D) → RefusedPortsLeave (chosen_by T.is_default (λ who. B.decides who) (λ who. B.degrades who)
@@ -109,9 +112,9 @@ pub fn a_refused_port_leaves_the_rest<T: Default, B: Decides + Degrades, D: Degr
 {}
 
 /// In every run of a new machine: a send or a put that couldn't deliver has updated its publisher's connections, and has sent its message
-/// to all connected subscribers, without safe overflow. The message waits in each mailbox that had capacity, behind the others; a full
-/// mailbox hasn't got it, and what waited there stays. At least one such subscriber is open, and is connected itself. The message is the
-/// newest of the history, a loan is spent, and all else stays.
+/// to all connected subscribers, without safe overflow. The message waits in each mailbox that had capacity, as the last one; each full
+/// mailbox is as it was. At least one subscriber with a full mailbox is open and connected to the publisher. The message is the newest of
+/// the history, a send has consumed its loan, and all else stays.
 pub fn an_undelivered_send_went_to_all_others<T: Default, B: Decides + Degrades, D: Degrades>()
     ensures { (handed : Handed B D) → UndeliveredLeaves (chosen_by T.is_default (λ who. B.decides who) (λ who. B.degrades who)
         (λ who. D.degrades who) handed) }
@@ -157,8 +160,8 @@ pub fn received_was_sent<T: Default, B: Decides + Degrades, D: Degrades>()
         (λ who. D.degrades who) handed) }
 {}
 
-/// What a subscriber received of a publisher, in a whole run, is a subsequence of what the publisher sent, in the order of sending, each
-/// message at most once.
+/// The messages that a subscriber received from a publisher, in a whole run, are a subsequence of those that the publisher sent, in the
+/// order of sending, each message at most once.
 pub fn received_in_order<T: Default, B: Decides + Degrades, D: Degrades>()
     ensures { (handed : Handed B D) → ReceivedInOrder (chosen_by T.is_default (λ who. B.decides who) (λ who. B.degrades who)
         (λ who. D.degrades who) handed) }
@@ -192,18 +195,19 @@ pub fn a_sequence_number_stays<T: Default, B: Decides + Degrades, D: Degrades>()
         (λ who. D.degrades who) handed) }
 {}
 
-/// In every run of a new machine, let a subscriber receive two messages of a publisher, one directly after the other, with sequence
-/// numbers. The publisher sent a message with each number between theirs, and each of these was lost to the subscriber: it was dropped from
-/// their mailbox or skipped there. None of them was received or is on its way, and no other message with such a number was lost.
+/// In every run of a new machine, let a subscriber receive two messages from a publisher, one directly after the other, with sequence
+/// numbers. The publisher sent a message with each number between these two, and each of these messages was lost to the subscriber: it was
+/// dropped from their mailbox or skipped there. None of them was received or is on its way, and no other message with a number between the
+/// two was lost.
 pub fn gaps_are_losses<T: Default, B: Decides + Degrades, D: Degrades>()
     ensures { (handed : Handed B D) → GapsAreLosses (chosen_by T.is_default (λ who. B.decides who) (λ who. B.degrades who)
         (λ who. D.degrades who) handed) }
 {}
 
-/// In every run of a new machine, let a subscriber receive two messages of a publisher, one directly after the other, with sequence
-/// numbers, which samples of them report while they are held. The publisher sent one message with each number between theirs, and each of
-/// these was lost for exactly one cause. It was dropped: with safe overflow a later message was put into their mailbox, and this one had to
-/// make way. Or it was skipped: its send went past the mailbox, which was full, or was given up while it was blocked there or earlier.
+/// In every run of a new machine, let a subscriber receive two messages from a publisher, one directly after the other, with sequence
+/// numbers, which samples report while they are held. The publisher sent one message with each number between these two, and each of these
+/// messages was lost for exactly one cause. It was dropped: with safe overflow a later message was put into their mailbox, and this one had
+/// to make way. Or it was skipped: its send went past the mailbox, which was full, or was given up while it was blocked there or earlier.
 pub fn gaps_have_causes<T: Default, B: Decides + Degrades, D: Degrades>()
     ensures { (handed : Handed B D) → GapsHaveCauses (chosen_by T.is_default (λ who. B.decides who) (λ who. B.degrades who)
         (λ who. D.degrades who) handed) }
@@ -229,8 +233,8 @@ pub fn services_agree<T: Default, B: Decides + Degrades, D: Degrades>()
         (λ who. D.degrades who) handed) }
 {}
 
-/// In every run of a new machine, each open port, the publisher of each loan, and the subscriber of each sample is of an open factory of
-/// its service.
+/// In every run of a new machine, each open port, the publisher of each loan, and the subscriber of each sample belongs to an open factory
+/// of its service.
 pub fn what_is_used_is_of_a_factory<T: Default, B: Decides + Degrades, D: Degrades>()
     ensures { (handed : Handed B D) → UseIsOwned (chosen_by T.is_default (λ who. B.decides who) (λ who. B.degrades who)
         (λ who. D.degrades who) handed) }
@@ -261,15 +265,15 @@ pub fn a_service_is_created_as_described<T: Default, B: Decides + Degrades, D: D
         (λ who. D.degrades who) handed) }
 {}
 
-/// A service that is opened meets each clause that is asked. If an opening is refused for a clause, the service exists, and the clause is
-/// the first that it doesn't meet.
+/// A service that is opened meets each clause that is asked for. If an opening is refused for a clause, the service exists, and the clause
+/// is the first that it doesn't meet.
 pub fn what_is_opened_is_as_asked<T: Default, B: Decides + Degrades, D: Degrades>()
     ensures { (handed : Handed B D) → OpenedMeetsAsked (chosen_by T.is_default (λ who. B.decides who) (λ who. B.degrades who)
         (λ who. D.degrades who) handed) }
 {}
 
-/// A service that is opened or created either meets each clause that is asked; or it is new, in a later lifetime, exactly as it was asked
-/// for and with the node alone.
+/// A service that is opened or created either meets each clause that is asked for; or it is new, in a later lifetime, exactly as it was
+/// asked for and with the node alone.
 pub fn what_is_opened_or_created_is_as_asked<T: Default, B: Decides + Degrades, D: Degrades>()
     ensures { (handed : Handed B D) → EitherMeetsAsked (chosen_by T.is_default (λ who. B.decides who) (λ who. B.degrades who)
         (λ who. D.degrades who) handed) }
@@ -281,16 +285,16 @@ pub fn a_service_starts_empty<T: Default, B: Decides + Degrades, D: Degrades>()
         (λ who. D.degrades who) handed) }
 {}
 
-/// If a new machine, after a run, has no factory of a service, it has no such service. Ports, loans and samples that a later service of
-/// that name has get numbers that weren't given before.
+/// If a new machine, after a run, has no factory of a service, it doesn't have the service either. Ports, loans and samples that a later
+/// service of the same name has get numbers that weren't given before.
 pub fn a_life_starts_anew<T: Default, B: Decides + Degrades, D: Degrades>()
     ensures { (handed : Handed B D) → LivesStartAnew (chosen_by T.is_default (λ who. B.decides who) (λ who. B.degrades who)
         (λ who. D.degrades who) handed) }
 {}
 
 /// After a successful update of a publisher, it has seen all changes of the list of subscribers. If there were changes, each listed
-/// subscriber is connected at its place, or no connection was made because memory ran out; none failed so if the publisher is to fail then.
-/// If there were no changes, nothing changes.
+/// subscriber is connected at its place, or no connection was made there because memory ran out; that never happened if the publisher's
+/// action then is to fail. If there were no changes, nothing changes.
 pub fn an_update_connects_a_publisher<T: Default, B: Decides + Degrades, D: Degrades>()
     ensures { (handed : Handed B D) → PublisherIsUpdated (chosen_by T.is_default (λ who. B.decides who) (λ who. B.degrades who)
         (λ who. D.degrades who) handed) }
@@ -298,25 +302,25 @@ pub fn an_update_connects_a_publisher<T: Default, B: Decides + Degrades, D: Degr
 
 /// After a successful update of a subscriber, it has seen all changes of the list of publishers. If there were changes, or it was to update
 /// again, each listed publisher is connected at its place; or no connection was made because memory ran out; or a closed publisher is still
-/// connected there, of which something is borrowed. None failed so if the subscriber is to fail then. Otherwise nothing changes.
+/// connected there, from which something is borrowed. No connection failed for memory if the subscriber's action then is to fail. If there
+/// were no changes, and it wasn't to update again, nothing changes.
 pub fn an_update_connects_a_subscriber<T: Default, B: Decides + Degrades, D: Degrades>()
     ensures { (handed : Handed B D) → SubscriberIsUpdated (chosen_by T.is_default (λ who. B.decides who) (λ who. B.degrades who)
         (λ who. D.degrades who) handed) }
 {}
 
-/// After a successful update of a publisher, each mailbox that existed still exists, with all that is borrowed. In one of the publisher's
-/// own, what waited still waits if the publisher was connected to the subscriber and the subscriber is listed; nothing waits if the
-/// subscriber was closed; otherwise as much of the history waits as may. The same amount waits in a new mailbox, which is one with a listed
-/// subscriber, for as many messages as the subscriber allows. All other services stay, and so do loans, samples, lists, histories, and
+/// After a successful update of a publisher, each mailbox that existed still exists, with all that is borrowed. In a mailbox of this
+/// publisher, what waited still waits if the publisher was connected to the subscriber and the subscriber is listed; nothing waits if the
+/// subscriber was closed; otherwise as much of the history waits as may. The same part of the history waits in a new mailbox, which is one
+/// with a listed subscriber and has this subscriber's buffer size. All other services stay, and so do loans, samples, lists, histories, and
 /// ports except for their connections.
 pub fn an_update_of_a_publisher_keeps_mailboxes<T: Default, B: Decides + Degrades, D: Degrades>()
     ensures { (handed : Handed B D) → PublisherKeepsMailboxes (chosen_by T.is_default (λ who. B.decides who) (λ who. B.degrades who)
         (λ who. D.degrades who) handed) }
 {}
 
-/// After a successful update of a subscriber, each mailbox that existed is as it was. A new one is the subscriber's own, for as many
-/// messages as it allows, and empty. All other services stay, and so do loans, samples, lists, histories, and ports except for their
-/// connections.
+/// After a successful update of a subscriber, each mailbox that existed is as it was. A new mailbox is one of this subscriber, has its
+/// buffer size, and is empty. All other services stay, and so do loans, samples, lists, histories, and ports except for their connections.
 pub fn an_update_of_a_subscriber_keeps_mailboxes<T: Default, B: Decides + Degrades, D: Degrades>()
     ensures { (handed : Handed B D) → SubscriberKeepsMailboxes (chosen_by T.is_default (λ who. B.decides who) (λ who. B.degrades who)
         (λ who. D.degrades who) handed) }
@@ -353,15 +357,15 @@ pub fn who_is_connected_has_a_mailbox<T: Default, B: Decides + Degrades, D: Degr
         (λ who. D.degrades who) handed) }
 {}
 
-/// In every run of a new machine, a publisher gets connected to a subscriber at most once, and a subscriber to a publisher: a connection
-/// that ended is never made again.
+/// In every run of a new machine, a publisher gets connected to the same subscriber at most once, and a subscriber to the same publisher: a
+/// connection that ended is never made again.
 pub fn a_pair_connects_once<T: Default, B: Decides + Degrades, D: Degrades>()
     ensures { (handed : Handed B D) → PairsConnectOnce (chosen_by T.is_default (λ who. B.decides who) (λ who. B.degrades who)
         (λ who. D.degrades who) handed) }
 {}
 
 /// In a run of a new machine, all of a service stays as it was while no command asks anything of it, whatever is asked of others and
-/// answered: its phase, its factories, its ports, and all that is loaned, waits, is kept or is borrowed there.
+/// answered: its phase, its factories, its ports, and all messages that are loaned, wait, are in the history or are borrowed there.
 pub fn services_are_beside_one_another<T: Default, B: Decides + Degrades, D: Degrades>()
     ensures { (handed : Handed B D) → OthersAreLeft (chosen_by T.is_default (λ who. B.decides who) (λ who. B.degrades who)
         (λ who. D.degrades who) handed) }
@@ -382,17 +386,17 @@ pub fn what_nobody_has_is_skipped<T: Default, B: Decides + Degrades, D: Degrades
 {}
 
 /// In every run of a new machine, leave out the commands that ask nothing of a service, except those that make nodes. A new machine that
-/// gets only the others may give the same replies, if it skips the numbers that were given to the rest. So replies about a service depend
-/// on other services only by the numbers that these take.
+/// gets only the remaining commands may give the same replies to them, if it skips the numbers that were given in reply to the commands
+/// left out. So replies about a service depend on other services only by the numbers that these take.
 pub fn a_service_is_as_if_alone<T: Default, B: Decides + Degrades, D: Degrades>()
     ensures { (handed : Handed B D) → ServicesAreAsIfAlone (chosen_by T.is_default (λ who. B.decides who) (λ who. B.degrades who)
         (λ who. D.degrades who) handed) }
 {}
 
-/// In every run of a new machine, leave out the commands that ask nothing of a service, except those that make nodes. The others are a run
-/// of a new machine by themselves, with factories, publishers, subscribers, loans and samples numbered anew. Each command names the same by
-/// its other number, and has the same reply, with the other number if it reports one; no two of a kind have the same number. At the end
-/// both machines have the same of the service, except for these numbers.
+/// In every run of a new machine, leave out the commands that ask nothing of a service, except those that make nodes. The remaining
+/// commands are a run of a new machine by themselves, with factories, publishers, subscribers, loans and samples numbered anew. Each of
+/// these commands names the same things by their other numbers, and has the same reply, with the other number if it reports one; no two
+/// things of a kind have the same number. At the end both machines have the same of the service, except for these numbers.
 pub fn numbers_are_counted_anew<T: Default, B: Decides + Degrades, D: Degrades>()
     ensures { (handed : Handed B D) → NumbersAreCountedAnew (chosen_by T.is_default (λ who. B.decides who) (λ who. B.degrades who)
         (λ who. D.degrades who) handed) }

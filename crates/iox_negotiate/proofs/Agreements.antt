@@ -23,7 +23,7 @@ use Rattle.iox_negotiate.proofs.Lives.{one-life-of}
 use Rattle.iox_negotiate.proofs.Stepping.{Past, acts-ran}
 use Rattle.iox_negotiate.proofs.Tables.{reached}
 
--- ---- accesses and foreign steps are events
+-- ---- storage operations and actions of other nodes are events
 
 ran-on : (first second : List Event) (old mid new : Contents) → Ran old first mid → Ran mid second new → Ran old (first ++ second) new
 ran-on [] second old mid new same later = subst (λ t. Ran t second new) same later
@@ -61,13 +61,13 @@ stepped-past (Leave hash number node answer) old new h = access-past (Leave hash
 stepped-past (RemoveDescription hash number answer) old new h = access-past (RemoveDescription hash number answer) old.table new.table h.0
 stepped-past (RemoveSegment hash number answer) old new h = access-past (RemoveSegment hash number answer) old.table new.table h.0
 
--- a list of accesses, each with its foreign steps before it
+-- a list of storage operations, each with actions of other nodes before it
 pub stepped-went-past : (made : List Access) (old new : Steps) → Went SteppedSight old made new → Past old.table new.table
 stepped-went-past [] old new went = no-past old.table new.table (ap (λ s. s.table) went)
 stepped-went-past (access ∷ made) old new (mid, first, rest)
     = past-on old.table mid.table new.table (stepped-past access old mid first) (stepped-went-past made mid new rest)
 
--- a list of accesses without foreign steps
+-- a list of storage operations without actions of other nodes
 pub went-past : (made : List Access) (old new : Contents) → Went Sight old made new → Past old new
 went-past [] old new went = no-past old new went
 went-past (access ∷ made) old new (mid, first, rest) = past-on old mid new (access-past access old mid first) (went-past made mid new rest)

@@ -1,4 +1,4 @@
--- Whole calls, one after the other: each open factory stands.
+-- Whole calls, one after another: each open factory stays valid.
 use Rattle.std.proofs.Common.{◌≡◌, ℕ, List, [], ◌∷◌, ◌++◌, Option, Result, Ok, Err, sym, subst}
 use Rattle.std.proofs.lemmas.List.{append-nil}
 use Rattle.iox_negotiate_table.specs.DescribeBase.declared.hash.ServiceHash.{ServiceHash}

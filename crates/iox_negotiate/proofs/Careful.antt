@@ -33,7 +33,7 @@ use Rattle.iox_negotiate_table.specs.Stepped.{Steps, SteppedSight}
 use Rattle.iox_negotiate.proofs.Stepping.{stepped-keeps}
 use Rattle.iox_negotiate.proofs.Rooming.{Roomy, Unpublishing, roomy-step, roomy-access, pair-roomy}
 
--- an access that publishes nothing; or a segment that is made, and its description published
+-- a storage operation that publishes nothing; or a segment that is made, and its description published
 data Piece : Type 0 where
   One : (access : Access) → Piece
   Both : (number node : ℕ) (agreed : Agreement) → Piece

@@ -53,7 +53,7 @@ Turns (Steps hash (step.Register node)) at before after = (result : Result (Unit
 Turns (Steps hash (step.Leave node)) at before after = after ≡ after_foreign_leave node before
 Turns event at before after = ⊥
 
--- What an event under a hash may make of a table.
+-- What an event on a hash may make of a table.
 pub data Change (event : Event) (hash : ServiceHash) (old new : Contents) : Type 0 where
   Same : (is : new ≡ old) → Change event hash old new
   LockOf : (node : Node) (free : entry_at hash old ≡ None) (is : new ≡ with_lock hash node old) → Change event hash old new

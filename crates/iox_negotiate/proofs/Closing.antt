@@ -1,4 +1,4 @@
--- A closing takes one factory off, and the last of the last node takes the service away.
+-- A closing removes one factory, and the last factory of the last node removes the service.
 use Rattle.std.proofs.Common.{◌≡◌, ◌≢◌, ℕ, ◌-◌, Bool, true, false, cond, List, [], ◌∷◌, Option, None, Some, Result, Ok, nat_eq, nat_lt}
 use Rattle.std.proofs.Common.{refl, sym, ap, subst, ◌∙◌, arith}
 use Rattle.std.specs.Ordering.{nat_cmp}
@@ -85,7 +85,7 @@ taken node before once = by_count (factories_of before node) refl
     by_count (Some count) has = less count has (nat_lt 1 count) refl
     by_count None has = nothing has
 
--- ---- the accesses
+-- ---- the storage operations
 
 equal : (n : ℕ) → nat_eq n n ≡ true
 equal n = grind arith

@@ -46,7 +46,7 @@ use Rattle.iox_negotiate.proofs.Owning.{owned-publication, new-owned}
 abbrev pub counts : List Factory → ℕ → ℕ → ℕ
 counts all number node = times number node all
 
--- ---- accesses
+-- ---- storage operations
 
 pub calm-keeps : (all : List Factory) (made : List Access) (old new : Steps) → AllCalm made → Owned (counts all) old.table
     → Went SteppedSight old made new → Owned (counts all) new.table
@@ -305,7 +305,7 @@ module _ {V : ℕ → Type 0} where
       called calls mid new (open_after call held) after
       (record { world = call-world call held table mid x.world may goes; owned = call-owned call held table mid x may goes }) rest
 
--- what is at least so many and at most so many
+-- what is at least n and at most n
 just : (found : Option ℕ) (count : ℕ) → count ≤ unwrap_or found 0 → IsBelow found count → found ≡ any_of count
 just None count most below = at (nat_lt 0 count) refl
   where

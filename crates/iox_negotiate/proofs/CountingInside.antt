@@ -1,4 +1,4 @@
--- After each access inside a call registered are the factories that were open before it, or those that are open after it.
+-- After each storage operation inside a call registered are the factories that were open before it, or those that are open after it.
 use Rattle.std.proofs.Common.{◌≡◌, ℕ, List, [], ◌∷◌, ◌++◌, Option, None, Some, Result, refl, sym, ap, subst, ◌∙◌, ◌⊎◌, inl, inr}
 use Rattle.std.proofs.Math.Logic.{⊎_elim}
 use Rattle.std.proofs.lemmas.List.{append-nil}
@@ -28,7 +28,7 @@ calm-front : (front back : List Access) → AllCalm (front ++ back) → AllCalm 
 calm-front [] back calm = tt
 calm-front (access ∷ front) back calm = (calm.0, calm-front front back calm.1)
 
--- any front of the last accesses registers nothing, or is all of them
+-- any front of the last storage operations registers nothing, or is all of them
 last-front : (node number : ℕ) (made : List Access) → Last node number made → (done rest : List Access) → done ++ rest ≡ made
     → AllCalm done ⊎ (rest ≡ [])
 last-front node number made last [] rest all = inl tt
@@ -57,7 +57,7 @@ last-front node number made (Publication hash room bytes is) (access ∷ next �
         ∷ Publish hash number bytes publishing.Published ∷ [] → ⊥
     differ e = cc
 
--- and so is any front of the accesses of a call
+-- and so is any front of the storage operations of a call
 gain-front : (node number : ℕ) (last : List Access) → Last node number last → (front done rest : List Access) → AllCalm front
     → done ++ rest ≡ front ++ last → AllCalm done ⊎ (rest ≡ [])
 gain-front node number last ends [] done rest calm all = last-front node number last ends done rest all
@@ -120,7 +120,7 @@ closing-inside before after factory result (OpenSegment under of by answer ∷ d
 closing-inside before after factory result (RemoveDescription under of answer ∷ done) rest old new x world told went = absurd told
 closing-inside before after factory result (RemoveSegment under of answer ∷ done) rest old new x world told went = absurd told
 
--- before the first access
+-- before the first storage operation
 abbrev start : Contents → List (List ForeignStep) → Steps
 start table lists = record { table = table; lists = lists }
 

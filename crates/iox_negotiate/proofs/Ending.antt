@@ -1,4 +1,4 @@
--- What a call that goes well ends with: a look and an opening, or a segment and a publication. Then its factory stands among the others.
+-- The end of a call that succeeds: a lookup and an opening, or a segment and a publication. Its factory is then among the open ones.
 use Rattle.std.proofs.Common.{◌≡◌, ℕ, List, [], ◌∷◌, ◌++◌, Option, None, Some, Result, Ok, Err, refl, sym, ap, subst, inl, inr}
 use Rattle.std.specs.declared.alloc.AllocError.{AllocError}
 use Rattle.std.proofs.Math.Logic.{⊎_elim}
@@ -12,7 +12,8 @@ use Rattle.iox_negotiate_table.specs.NegotiateBase.Failing.{opened, entered, cre
 use Rattle.iox_negotiate_table.specs.NegotiateBase.Opening.{Registers, OpensJudged, OpensSeen, OpenRound, Opens, EitherCreates}
 use Rattle.iox_negotiate_table.specs.NegotiateBase.Opening.{EitherSeen, EitherRound, OpensOrCreates}
 use Rattle.iox_negotiate_table.specs.NegotiateBase.Runs.{Went, Rounds}
-use Rattle.iox_negotiate_table.specs.NegotiateBase.Sight.{IsSight, Describes}
+use Rattle.iox_negotiate_table.specs.NegotiateBase.Describing.{Describes}
+use Rattle.iox_negotiate_table.specs.NegotiateBase.Sight.{IsSight}
 use Rattle.iox_negotiate_table.specs.NegotiateBase.declared.answer.LookAnswer.{LookAnswer}
 use Rattle.iox_negotiate_table.specs.NegotiateBase.declared.answer.LookAnswer.TheVariants as look
 use Rattle.iox_negotiate_table.specs.NegotiateBase.declared.answer.OpenSegmentAnswer.{OpenSegmentAnswer}
@@ -173,7 +174,7 @@ module _ (all : List Factory) (number node : ℕ) (agreed : Agreement) (old new 
       stands : AllStand (joining ∷ all) second.table
       stands = publishing-stand all joining first.table second.table w1.is after w1.stand making-it sight-there
 
--- ---- which accesses they are
+-- ---- which storage operations they are
 
 pub not-some-err : {E : Type 0} (service : Opened) (failure : E) → Some (Ok service) ≡ Some (Err failure) → ⊥
 not-some-err service failure h = cc
@@ -285,7 +286,7 @@ module _ {V : Type 0} (hash : ServiceHash) (node : ℕ) (verdict : Agreement →
 -- ---- creations
 
 module _ (all : List Factory) (node : ℕ) (agreed : Agreement) (old new : Steps) (w : World all old.table) where
-  -- accesses that end with the publication
+  -- storage operations that end with the publication
   tail-ends : (made front : List Access) (service : Opened) → AllQuiet made → service.description ≡ agreed
       → made ≡ front ++ (MakeSegment agreed.service_hash service.number node (max_nodes_of agreed.settings) making.Made
       ∷ Publish agreed.service_hash service.number (line Two agreed) publishing.Published ∷ [])

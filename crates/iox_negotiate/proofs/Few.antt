@@ -1,4 +1,4 @@
--- No more nodes are in a segment than there is room for, whoever comes and goes.
+-- A segment never has more nodes than its capacity, whichever nodes are added and removed.
 use Rattle.std.proofs.Common.{◌≡◌, ℕ, ◌+◌, ◌-◌, ◌^◌, ◌≤◌, Bool, true, false, cond, not, ◌&&◌, Option, None, Some, Result, Ok, Err, length}
 use Rattle.std.proofs.Common.{nat_eq, nat_lt, refl, inl, inr, arith}
 use Rattle.std.specs.declared.alloc.AllocError.{AllocError}

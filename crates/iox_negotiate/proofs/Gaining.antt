@@ -1,4 +1,5 @@
--- What a call registers: one that answers no service registers nothing, and one that answers a service registers it with its last accesses.
+-- What a call registers: one that answers no service registers nothing, and one that answers a service registers it with its last storage
+-- operations.
 use Rattle.std.proofs.Common.{◌≡◌, ℕ, zero, suc, cond, ◌&&◌, List, [], ◌∷◌, ◌++◌, Option, None, Some, Result, Ok, Err, nat_eq, refl, sym}
 use Rattle.std.proofs.Common.{ap, subst, ◌∙◌, ◌⊎◌, inl, inr}
 use Rattle.std.proofs.Math.Logic.{⊎_elim}
@@ -40,7 +41,7 @@ abbrev pub added : Event → ℕ → ℕ → ℕ
 added (Accesses (OpenSegment hash number node opening.Registered)) at by = cond (nat_eq number at && nat_eq node by) 1 0
 added event at by = 0
 
--- an access that registers nothing
+-- a storage operation that registers nothing
 abbrev pub Calm : Access → Type 0
 Calm access = Unpublishing access × ((at by : ℕ) → added (Accesses access) at by ≡ 0)
 
@@ -48,14 +49,14 @@ abbrev pub AllCalm : List Access → Type 0
 AllCalm [] = Unit {0}
 AllCalm (access ∷ accesses) = Calm access × AllCalm accesses
 
--- the last accesses of a call that goes well
+-- the last storage operations of a call that goes well
 pub data Last (node number : ℕ) (made : List Access) : Type 0 where
   Entrance : (hash : ServiceHash) (is : made ≡ OpenSegment hash number node opening.Registered ∷ []) → Last node number made
   Publication : (hash : ServiceHash) (room : ℕ) (bytes : List ℕ)
       (is : made ≡ MakeSegment hash number node room making.Made ∷ Publish hash number bytes publishing.Published ∷ [])
       → Last node number made
 
--- accesses of which the last ones register a factory, and no others
+-- storage operations of which the last ones register a factory, and no others
 pub record Gain (node : ℕ) (service : Opened) (made : List Access) : Type 0 where
   pub front : List Access
   pub last : List Access

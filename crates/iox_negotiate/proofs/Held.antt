@@ -1,5 +1,5 @@
 -- A service that is open for an own node stays so, with as many factories of the node, whatever foreign nodes do, and what
--- the accesses of own nodes make of it.
+-- the storage operations of own nodes make of it.
 use Rattle.std.proofs.Common.{◌≡◌, ◌≢◌, ℕ, ◌+◌, ◌-◌, ◌^◌, ◌≤◌, Bool, true, false, cond, not, ◌&&◌, List, Option, None, Some, is_some}
 use Rattle.std.proofs.Common.{Result, length, nat_eq, nat_lt, refl, sym, ap, subst, ◌∙◌, inl, inr, arith}
 use Rattle.std.specs.declared.alloc.AllocError.{AllocError}
@@ -289,7 +289,7 @@ module _ (hash : ServiceHash) (number node : ℕ) (bytes : List ℕ) (count : �
       }
       there false h = same-still h.1
 
-  -- an access under the hash, but for a leave of the node from the service
+  -- a storage operation under the hash, but for a leave of the node from the service
   pub here : (access : Access) → hash_of (Accesses access) ≡ hash
       → ((at by : ℕ) (answer : LeaveAnswer) → access ≡ Leave hash at by answer → at ≡ number → by ≢ node) → Sight old access new → Still
   here (Look under answer) same other h = same-still h.1

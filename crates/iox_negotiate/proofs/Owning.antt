@@ -40,7 +40,7 @@ use Rattle.iox_negotiate.proofs.Closing.{taken, entry-gone, segment-gone}
 use Rattle.iox_negotiate.proofs.Rooming.{UnpublishingEvent, no-publish, open-is}
 use Rattle.iox_negotiate.proofs.Gaining.{added, Calm}
 
--- a node that is out; or that has a factory, and no more than so many
+-- a node that is out; or that has a factory, and no more than n
 abbrev pub IsBelow : Option ℕ → ℕ → Type 0
 IsBelow None limit = Unit {0}
 IsBelow (Some count) limit = (1 ≤ count) × (count ≤ limit)
@@ -54,7 +54,7 @@ below-more found limit more h = below-to found limit (limit + more) (omega arith
 
 -- ---- the nodes of a segment
 
--- each node has at most as many factories as before, and so many more
+-- each node has at most as many factories as before, and n more
 abbrev Grows : (ℕ → ℕ) → Segment → Segment → Type 0
 Grows more (Open before) (Open after) = (node limit : ℕ) → IsBelow (factories_of before node) limit
     → IsBelow (factories_of after node) (limit + more node)
@@ -229,7 +229,7 @@ before-of more (Emptied by) nodes g = absurd g
 
 -- ---- the services of a table
 
--- each own node in a published service has at most so many factories
+-- each own node in a published service has at most n factories
 abbrev pub BoundedAt : (ℕ → ℕ → ℕ) → ServiceHash → ℕ → Contents → Type 0
 BoundedAt limit hash number table = (bytes : List ℕ) (nodes : Nodes) (node : ℕ) → entry_at hash table ≡ Some (Described number bytes)
     → segment_at hash number table ≡ Some (Open nodes)
@@ -354,7 +354,7 @@ owned-step limit hash step result old new o h
       bounded = event-bounded limit (StepsUnder hash step) hash old new o tt (changes old new (StepsUnder hash step) (result, h));
     })
 
--- an access that publishes nothing
+-- a storage operation that publishes nothing
 owned-raised : (limit : ℕ → ℕ → ℕ) (access : Access) (old new : Contents) → UnpublishingEvent (Accesses access) → Owned limit old
     → Sight old access new → Owned (raised limit (Accesses access)) new
 owned-raised limit access old new un o h = record {

@@ -85,7 +85,7 @@ set-same {K = K} {X = X} test (e ∷ es) v found = there (test e.0) found (set-s
     there true h rest = ap (λ x. (e.0, x) ∷ es) (value h)
     there false h rest = ap (λ r. e ∷ r) (rest h)
 
--- ---- accesses that change nothing
+-- ---- storage operations that change nothing
 
 lock-kept : (hash : ServiceHash) (node : ℕ) (answer : LockAnswer) (old new : Contents) → ((n : ℕ) → answer ≡ lock.Taken n → ⊥)
     → Sight old (Lock hash node answer) new → new ≡ old
@@ -395,7 +395,7 @@ module _ (hash : ServiceHash) (node : ℕ) (agreed : Agreement) where
       seen-back (refusal_seen seen) rest came old new unmade (not-made came failure end) goes (subst (λ t. Went Sight t rest new) same went)
   creates-back None made failure old new unmade c went = absurd c
 
--- accesses in two parts
+-- storage operations in two parts
 split : (first second : List Access) (old new : Contents) → Went Sight old (first ++ second) new → (mid : Contents)
     × Went Sight old first mid × Went Sight mid second new
 split [] second old new went = (old, refl, went)

@@ -47,7 +47,7 @@ pub record Roomy (table : Contents) : Type 0 where
   pub is : IsTable table
   pub rooms : (hash : ServiceHash) (number : ℕ) → HasRoomAt hash number table
 
--- an access that publishes nothing
+-- a storage operation that publishes nothing
 abbrev pub Unpublishing : Access → Type 0
 Unpublishing (Publish hash number bytes publishing.Published) = ⊥
 Unpublishing access = Unit {0}

@@ -1,4 +1,4 @@
--- A segment keeps its room, whoever comes and goes; and what is published tells how much it is.
+-- A segment keeps its capacity, whichever nodes are added and removed; and a publication says how much it is.
 use Rattle.std.proofs.Common.{List}
 use Rattle.std.proofs.Common.{◌≡◌, ℕ, ◌-◌, ◌^◌, Bool, true, false, cond, not, ◌&&◌, Option, None, Some, Result, Ok, Err, nat_eq, nat_lt}
 use Rattle.std.proofs.Common.{refl, sym, ap, subst, ◌∙◌, inl, inr}

@@ -1,4 +1,4 @@
--- Open factories stand through whatever happens, and one more after an opening or a publication, one less after a leave.
+-- Open factories stay valid whatever happens; an opening or a publication adds one, and a leave removes one.
 use Rattle.std.proofs.Common.{◌≡◌, ◌≢◌, ℕ, ◌+◌, ◌-◌, ◌≤◌, Bool, true, false, cond, not, ◌&&◌, List, [], ◌∷◌, ◌++◌, Option, None, Some}
 use Rattle.std.proofs.Common.{IsSome, is_some, Result, nat_eq, refl, sym, ap, subst, ◌∙◌, ◌⊎◌, ⊎_elim, inl, inr, unwrap_or, arith}
 use Rattle.std.specs.declared.alloc.AllocError.{AllocError}
@@ -124,7 +124,7 @@ stands-of all table g c = record {
   counted = rw c.held.has c.enough;
 }
 
--- an access that isn't a leave
+-- a storage operation that isn't a leave
 abbrev pub Quiet : Access → Type 0
 Quiet (Leave hash number node answer) = ⊥
 Quiet access = Unit {0}

@@ -1,4 +1,4 @@
--- Accesses with foreign steps before them.
+-- Storage operations that follow actions of other nodes.
 use Rattle.std.proofs.Common.{◌≡◌, ℕ, Bool, true, false, is_some, ◌∙◌, List, [], ◌∷◌, ◌++◌, Some, Result, Ok, Err, refl, sym, subst}
 use Rattle.std.specs.declared.alloc.AllocError.{AllocError}
 use Rattle.iox_negotiate_table.specs.DescribeBase.declared.hash.ServiceHash.{ServiceHash}
@@ -20,7 +20,7 @@ use Rattle.iox_negotiate.specs.Histories.{Event, Ran}
 use Rattle.iox_negotiate.proofs.Maps.{on}
 use Rattle.iox_negotiate.proofs.Standing.{Quiet}
 
--- ---- what each foreign step and each quiet access keeps
+-- ---- what each action of another node and each quiet storage operation keeps
 
 module _ (P : Contents → Type 0) (by_step : (hash : ServiceHash) (step : ForeignStep) (result : Result (Unit {0}) AllocError)
     (old new : Contents) → P old → Acts hash step old result new → P new) where
@@ -63,7 +63,7 @@ module _ (P : Contents → Type 0) (by_step : (hash : ServiceHash) (step : Forei
       stepped-keeps (RemoveSegment hash number answer) old new quiet p h
           = by_access (RemoveSegment hash number answer) old.table new.table quiet p h.0
 
--- an access that didn't lack memory was made, after its steps
+-- a storage operation that didn't lack memory was made, after its steps
 pub record Seen (hash : ServiceHash) (access : Access) (old new : Steps) : Type 0 where
   pub mid : Contents
   pub happened : Result (Unit {0}) AllocError
@@ -79,7 +79,7 @@ seen hash access lacking old new not_lacking h = goes h.1 h.2 h.3
     goes (Ok done) acts g = record { mid = h.0; happened = Ok done; acts = acts; sight = g }
     goes (Err lack) acts g = absurd (not_lacking g.0)
 
--- foreign steps are events
+-- actions of other nodes are events
 pub record Past (old new : Contents) : Type 0 where
   pub events : List Event
   pub ran : Ran old events new
@@ -95,7 +95,7 @@ acts-ran hash (one ∷ steps) old new result h = goes h.1 (λ later. acts-ran ha
         = later g in record { events = history.Steps hash one ∷ past.events; ran = (h.0, (Ok happened, acts), past.ran) }
     goes (Err lacking) later acts g = record { events = history.Steps hash one ∷ []; ran = (h.0, (Err lacking, acts), g.1) }
 
--- under a hash that an own node locked no foreign step fits
+-- under a hash that an own node locked no action of another node fits
 module _ (hash : ServiceHash) (node number : ℕ) where
   own-lock-idle : (step : ForeignStep) (old new : Contents) (result : Result (Unit {0}) AllocError)
       → entry_at hash old ≡ Some (Locked (Own node) number) → Acts hash step old result new → new ≡ old
@@ -150,7 +150,7 @@ module _ (hash : ServiceHash) (node number : ℕ) where
       goes (Ok happened) same later g = later g ∙ same
       goes (Err lacking) same later g = g.1 ∙ same
 
--- ---- lists of accesses
+-- ---- lists of storage operations
 
 abbrev pub AllQuiet : List Access → Type 0
 AllQuiet [] = Unit {0}

@@ -1,4 +1,4 @@
--- What holds of every table that can be reached, kept by whatever happens.
+-- What is true of every reachable table, whatever happens.
 use Rattle.std.proofs.Common.{◌≡◌, ◌≢◌, ℕ, ◌+◌, ◌-◌, ◌^◌, ◌≤◌, ◌<◌, Bool, true, false, cond, not, ◌&&◌, List, [], ◌∷◌, Option, None, Some}
 use Rattle.std.proofs.Common.{is_some, Result, Ok, Err, nat_eq, refl, ap, subst, ◌∙◌, inl, inr, arith}
 use Rattle.std.specs.List.{AllByRecursion}
@@ -56,7 +56,7 @@ use Rattle.iox_negotiate.proofs.Maps.{insert-rising, remove-rising, set-rising, 
 use Rattle.iox_negotiate.proofs.Seats.{IsSeat, opens-seat, leave-seat, register-seat, foreign-leave-seat}
 use Rattle.iox_negotiate.proofs.Few.{IsFew, opens-few, leave-few, register-few, foreign-leave-few}
 
--- Each life's number is below the next one, each hash and each number lies once, and few are in each segment.
+-- Each life's number is below the next one, each hash and each number occurs once, and no segment has too many nodes.
 pub record IsTable (table : Contents) : Type 0 where
   pub below : AllByRecursion (λ e. number_of e.1 < table.next) table.entries
   pub keys : Distinct (λ e. e.0) table.entries

@@ -24,8 +24,8 @@ pub record IsBuilt {V : ℕ → Type 0} {E F : Type 0} (call : Call V) (storage 
   pub goes : Goes call old new
   pub told : result ≡ result_map_both (membership storage node) error answer
 
--- Whatever a builder does (create, open, or either) is such a call, with the verdict, the agreement and the node of the builder. Its
--- settings are of any type, with their own limits.
+-- Whatever a builder does (create, open, or either) is a call of the theorems, with the verdict, the agreement and the node of the
+-- builder. Its settings are of any type, with their own limits.
 pub record BuildersMakeCalls {C : Type 0} (IsWithinLimits IsTooLong : C → Type 0) (V : ℕ → Type 0) (E : Type 0) : Type 0 where
   pub creates : (storage node : ℕ) (agreed : Agreement) (config : C) (error : CreateFailure → E)
       (lists : List (List ForeignStep)) (old : Contents) (new : Steps) (result : Result Membership E)

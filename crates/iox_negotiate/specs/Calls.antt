@@ -1,4 +1,4 @@
--- Calls of a table's own nodes, made one after another, with steps of foreign nodes before their accesses and between the calls.
+-- Calls of a table's own nodes, made one after another, with actions of other nodes before their storage operations and between the calls.
 use Rattle.std.specs.Prelude.{◌≡◌, ℕ, zero, suc, List, [], ◌∷◌, ◌++◌, Option, Result, Ok, Err}
 use Rattle.std.specs.declared.alloc.AllocError.{AllocError}
 use Rattle.iox_negotiate_table.specs.DescribeBase.declared.hash.ServiceHash.{ServiceHash}
@@ -28,8 +28,8 @@ abbrev pub opened_too : {E : Type 0} → ℕ → Result Opened E → List Factor
 opened_too node (Ok service) held = factory_of node service ∷ held
 opened_too node (Err failure) held = held
 
--- A call of an own node with its result, or a foreign node's step between calls. The errors of a verdict may differ by the kind of the
--- service; `V` has the type of the errors of each kind.
+-- A call of an own node with its result, or an action of a foreign node between calls. The errors of a verdict may differ by the kind
+-- of the service; `V` has the type of the errors of each kind.
 pub data Call (V : ℕ → Type 0) : Type 0 where
   Creates : (node : ℕ) (agreed : Agreement) (refusal : Option CreateFailure) (result : Result Opened CreateFailure) → Call V
   Opening : (kind : ℕ) (hash : ServiceHash) (node : ℕ) (verdict : Agreement
@@ -39,7 +39,7 @@ pub data Call (V : ℕ → Type 0) : Type 0 where
   Closing : (before : List Factory) (factory : Factory) (after : List Factory) (result : Result (Unit {0}) CloseError) → Call V
   Between : (hash : ServiceHash) (step : ForeignStep) → Call V
 
--- The accesses that the call makes.
+-- The storage operations that the call makes.
 abbrev pub Tells : {V : ℕ → Type 0} → Call V → List Access → Type 0
 Tells (Creates node agreed refusal result) made = CreatesIf agreed.service_hash node agreed refusal made result
 Tells (Opening kind hash node verdict result) made = Opens hash node verdict made result
@@ -65,7 +65,8 @@ open_after (Either kind node verdict agreed refusal result) held = opened_too no
 open_after (Closing before factory after result) held = before ++ after
 open_after (Between hash step) held = held
 
--- A call leads from one table to another, with these lists of foreign steps before its accesses; or a foreign step does.
+-- A call leads from one table to another, with these lists of actions of other nodes before its storage operations; or an action of another
+-- node does.
 abbrev pub Goes : {V : ℕ → Type 0} → Call V → Contents → Contents → Type 0
 Goes (Between hash step) old new = (result : Result (Unit {0}) AllocError) × Acts hash step old result new
 Goes call old new =
@@ -78,12 +79,13 @@ Called table held [] new after = (new ≡ table) × (after ≡ held)
 Called table held (call ∷ calls) new after =
     MayBegin call held × (mid : Contents) × Goes call table mid × Called mid (open_after call held) calls new after
 
--- After any calls in a new table, with any foreign steps before each access and between the calls, the service of each open factory exists.
+-- After any calls in a new table, with any actions of other nodes before each storage operation and between the calls, the service of each
+-- open factory exists.
 abbrev pub OpenFactoriesStand : (ℕ → Type 0) → Type 0
 OpenFactoriesStand V = (id : ℕ) (calls : List (Call V)) (table : Contents) (held : List Factory)
     → Called (empty_table id) [] calls table held → AllStand held table
 
--- After each access within a call, the service of each open factory that the call doesn't close exists.
+-- After each storage operation within a call, the service of each open factory that the call doesn't close exists.
 abbrev pub StandInsideCalls : (ℕ → Type 0) → Type 0
 StandInsideCalls V = (id : ℕ) (calls : List (Call V)) (table : Contents) (held : List Factory) (call : Call V)
     (lists : List (List ForeignStep)) (mid : Steps) (done rest : List Access)

@@ -17,7 +17,7 @@ use Rattle.iox_negotiate.specs.Histories.{IsReached}
 abbrev pub one_less : ℕ → Option ℕ
 one_less count = if nat_lt 1 count then Some (count - 1) else None
 
--- One factory of the node is taken off, with the last of which the node is removed; all other nodes are unchanged.
+-- The node has one factory fewer, and is removed if it was its last one; all other nodes are unchanged.
 pub record TakesOneOff (node : ℕ) (before after : Nodes) : Type 0 where
   pub off : (count : ℕ) → factories_of before node ≡ Some count → factories_of after node ≡ one_less count
   pub others : (other : ℕ) → other ≢ node → factories_of after other ≡ factories_of before other
@@ -35,8 +35,8 @@ pub record IsUntouched (other : ServiceHash) (old new : Contents) : Type 0 where
   pub entry : entry_at other new ≡ entry_at other old
   pub segments : (number : ℕ) → segment_at other number new ≡ segment_at other number old
 
--- Closing a factory in its storage succeeds: it takes one factory off its node, the last factory of the last node removes the description
--- and the segment, and nothing else changes.
+-- Closing a factory in its storage succeeds: its node has one factory fewer, the last factory of the last node removes the
+-- description and the segment, and nothing else changes.
 abbrev pub ClosesOne : Type 0
 ClosesOne = (hash : ServiceHash) (number node : ℕ) (bytes : List ℕ) (old new : Steps) (made : List Access)
     (result : Result (Unit {0}) CloseError)

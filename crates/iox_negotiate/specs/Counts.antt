@@ -23,13 +23,14 @@ AreCounted all table = (hash : ServiceHash) (number node : ℕ) (bytes : List �
     → entry_at hash table ≡ Some (Described number bytes) → segment_at hash number table ≡ Some (Open nodes)
     → factories_of nodes node ≡ any_of (times number node all)
 
--- After any calls in a new table, with any foreign steps before each access and between the calls, exactly the open factories are
--- registered.
+-- After any calls in a new table, with any actions of other nodes before each storage operation and between the calls, exactly the open
+-- factories are registered.
 abbrev pub FactoriesAreCounted : (ℕ → Type 0) → Type 0
 FactoriesAreCounted V = (id : ℕ) (calls : List (Call V)) (table : Contents) (held : List Factory)
     → Called (empty_table id) [] calls table held → AreCounted held table
 
--- After each access within a call, exactly the factories that were open before it are registered, or exactly those that are open after it.
+-- After each storage operation within a call, exactly the factories that were open before it are registered, or exactly those that are open
+-- after it.
 abbrev pub CountedInsideCalls : (ℕ → Type 0) → Type 0
 CountedInsideCalls V = (id : ℕ) (calls : List (Call V)) (table : Contents) (held : List Factory) (call : Call V)
     (lists : List (List ForeignStep)) (mid : Steps) (done rest : List Access)

@@ -20,18 +20,18 @@ abbrev pub segment_removed : RemoveAnswer → Result (Unit {0}) CloseError
 segment_removed removing.Removed = Ok tt
 segment_removed removing.Fault = Err UnableToRemoveSegment
 
--- The accesses remove the segment.
+-- The storage operations remove the segment.
 abbrev pub RemovesSegment : ServiceHash → ℕ → List Access → Result (Unit {0}) CloseError → Type 0
 RemovesSegment hash number (RemoveSegment under of answer ∷ rest) result = (under ≡ hash) × (of ≡ number) × (rest ≡ [])
     × (result ≡ segment_removed answer)
 RemovesSegment hash number made result = ⊥
 
--- After the removal of the description: if it succeeded, the accesses remove the segment; else the segment stays.
+-- After the removal of the description: if it succeeded, the storage operations remove the segment; else the segment stays.
 abbrev pub RemovalGoes : ServiceHash → ℕ → RemoveAnswer → List Access → Result (Unit {0}) CloseError → Type 0
 RemovalGoes hash number removing.Removed made result = RemovesSegment hash number made result
 RemovalGoes hash number removing.Fault made result = (made ≡ []) × (result ≡ Err UnableToRemoveDescription)
 
--- The accesses remove the description, and then the segment.
+-- The storage operations remove the description, and then the segment.
 abbrev pub Removes : ServiceHash → ℕ → List Access → Result (Unit {0}) CloseError → Type 0
 Removes hash number (RemoveDescription under of answer ∷ rest) result = (under ≡ hash) × (of ≡ number)
     × RemovalGoes hash number answer rest result
@@ -42,7 +42,7 @@ abbrev pub LeaveGoes : ServiceHash → ℕ → LeaveAnswer → List Access → R
 LeaveGoes hash number leaving.Stays made result = (made ≡ []) × (result ≡ Ok tt)
 LeaveGoes hash number leaving.Emptied made result = Removes hash number made result
 
--- The accesses take one factory of the node off the segment, and remove the service if it was the last factory of the last node.
+-- The storage operations remove one factory of the node from the segment, and the service too if it was the last factory of the last node.
 abbrev pub Closes : ServiceHash → ℕ → ℕ → List Access → Result (Unit {0}) CloseError → Type 0
 Closes hash number node (Leave under of by answer ∷ rest) result = (under ≡ hash) × (of ≡ number) × (by ≡ node)
     × LeaveGoes hash number answer rest result

@@ -8,7 +8,7 @@ use Rattle.iox_negotiate_table.specs.Contents.{Contents, empty_table}
 use Rattle.iox_negotiate_table.specs.Foreign.{Acts}
 use Rattle.iox_negotiate_table.specs.Sights.{Sight}
 
--- An event: an access of one of the table's own nodes, or a step of a foreign node under a hash.
+-- An event: a storage operation of one of the table's own nodes, or an action of a foreign node under a hash.
 pub data Event : Type 0 where
   Accesses : (access : Access) → Event
   Steps : (hash : ServiceHash) (step : ForeignStep) → Event

@@ -15,8 +15,8 @@ use Rattle.iox_negotiate.specs.Asked.{IsRefusal}
 use Rattle.iox_negotiate.specs.Factory.{membership}
 use Rattle.iox_negotiate.specs.declared.factory.Membership.{Membership}
 
--- The accesses are those of the rounds, with their result; on success the node is a member of the service in this storage, and a failure is
--- returned as the error of the pattern.
+-- The storage operations are those of the rounds, with their result; on success the node is a member of the service in this storage, and a
+-- failure is returned as the error of the pattern.
 pub record Negotiates {S F E : Type 0} (gives : S → Access → S → Type 0) (storage node : ℕ) (error : F → E) (rounds : List Access
     → Result Opened F → Type 0)
     (old : S) (result : Result Membership E) (new : S) : Type 0 where

@@ -21,7 +21,7 @@ IsRefused (Opening kind hash node verdict (Err failure)) = Unit {0}
 IsRefused (Either kind node verdict agreed refusal (Err failure)) = Unit {0}
 IsRefused call = ⊥
 
--- A refused call leaves every table that can be reached unchanged, provided that no foreign steps are made between its accesses.
+-- A refused call leaves every table that can be reached unchanged, provided that other nodes do nothing between its storage operations.
 abbrev pub RefusedLeavesAll : (ℕ → Type 0) → Type 0
 RefusedLeavesAll V = (call : Call V) (made : List Access) (old new : Contents) → IsReached old → IsRefused call → Tells call made
     → Went Sight old made new → IsAsBefore old new

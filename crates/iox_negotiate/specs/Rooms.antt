@@ -34,7 +34,7 @@ RoomsAreAgreed V = (id : ℕ) (calls : List (Call V)) (table : Contents) (held :
     → Spells bytes agreed → IsWithinLimits agreed
     → segment_at hash number table ≡ Some (Open nodes) → nodes.max_nodes ≡ max_nodes_of agreed.settings
 
--- The same holds after each access within a call.
+-- The same holds after each storage operation within a call.
 abbrev pub RoomsInsideCalls : (ℕ → Type 0) → Type 0
 RoomsInsideCalls V = (id : ℕ) (calls : List (Call V)) (table : Contents) (held : List Factory) (call : Call V)
     (lists : List (List ForeignStep)) (mid : Steps) (done rest : List Access)

@@ -6,7 +6,7 @@ ghost use Rattle.iox_negotiate_base.specs.Describe.Within.{IsWithinLimits};
 ghost use Rattle.iox_negotiate.specs.Asked.{IsRefusal};
 
 use crate::laws::parts_have_form;
-use iox_describe::pattern::{Pattern, describe};
+use iox_describe::pattern::Pattern;
 use iox_describe::{AttributeSpecifier, Description, ServiceHash, ServiceName, service_hash};
 use iox_negotiate_base::{CreateFailure, Request};
 use std::alloc::{AllocError, Global};
@@ -23,6 +23,7 @@ pub struct Asked<'a, P: Pattern> {
     config: P::StaticConfig,
     attributes: &'a AttributeSpecifier,
     refusal: Option<CreateFailure>,
+    ghost hashed: { hash ≡ service_hash_of P.pattern name },
 }
 
 impl<'a, P: Pattern> Asked<'a, P> {
@@ -121,6 +122,6 @@ impl<'a, P: Pattern> Request for Asked<'a, P> {
 
     fn describe(&self, alloc: Global) -> Result<Description, AllocError> {
         let attributes = self.attributes.try_clone(alloc)?;
-        Ok(describe::<P>(self.name, self.config, attributes))
+        Ok(Description::of_parts(self.name, self.hash, P::settings(self.config), attributes))
     }
 }

@@ -153,7 +153,37 @@ impl<P: Negotiated> ServiceBuilder<P> {
         self.hub
     }
 
-    /// A copy of the builder in memory of its own. It fails only where an allocation fails, and never if the builder asks for no
+    /// The number of the node that creates or opens the service.
+    ///
+    /// Not in `iceoryx2`.
+    /// Example: `builder.node()`
+    pub fn node(&self) -> u64
+        ensures { result ≡ self.now.node }
+    {
+        self.node
+    }
+
+    /// The name of the service.
+    ///
+    /// Not in `iceoryx2`.
+    /// Example: `builder.name()`
+    pub fn name(&self) -> &ServiceName
+        ensures { result.now ≡ self.now.name }
+    {
+        &self.name
+    }
+
+    /// What the builder asks of the service.
+    ///
+    /// Not in `iceoryx2`.
+    /// Example: `let requirement = builder.into_requirement();`
+    pub fn into_requirement(self) -> P::Requirement
+        ensures { result ≡ self.requirement }
+    {
+        self.requirement
+    }
+
+    /// A copy of the builder in memory of its own. It fails only if an allocation fails, and never if the builder asks for no
     /// attributes.
     /// Example: `let second = builder.try_clone(alloc)?;`
     pub fn try_clone(&self, alloc: Global) -> Result<Self, AllocError>
@@ -188,10 +218,10 @@ impl<P: Negotiated> ServiceBuilder<P> {
         )
     }
 
-    /// Creates the service with these attributes, in at most six accesses.
+    /// Creates the service with these attributes, in at most six storage operations.
     ///
     /// Refused as `iox_negotiate_base::create` refuses it, with the pattern's error of the same name. A number beyond its limits gives
-    /// `InternalFailure` without an access.
+    /// `InternalFailure` without a storage operation.
     /// Example: `let factory = builder.create_with_attributes(alloc, &attributes, &mut table)?;`
     pub fn create_with_attributes<S: Storage>(
         self,
@@ -222,7 +252,7 @@ impl<P: Negotiated> ServiceBuilder<P> {
         self.opened(alloc, storage)
     }
 
-    /// Opens the service if it meets the builder's requirement, whose attributes are replaced by these, in at most ten accesses.
+    /// Opens the service if it meets the builder's requirement, whose attributes are replaced by these, in at most ten storage operations.
     ///
     /// Refused as `iox_negotiate_base::open` refuses it, with the pattern's error of the same name.
     /// Example: `let factory = builder.open_with_attributes(alloc, attributes, &mut table)?;`
@@ -265,7 +295,7 @@ impl<P: Negotiated> ServiceBuilder<P> {
     }
 
     /// Opens the service if it meets the builder's requirement, whose attributes are replaced by these, or creates it with the required
-    /// pairs if it doesn't exist, in at most fourteen accesses.
+    /// pairs if it doesn't exist, in at most fourteen storage operations.
     ///
     /// Refused as `iox_negotiate_base::open_or_create` refuses it, with the pattern's error of the same name.
     /// Example: `let factory = builder.open_or_create_with_attributes(alloc, attributes, &mut table)?;`

@@ -20,7 +20,7 @@ pub struct Membership {
 }
 
 impl Membership {
-    /// Takes one factory of the node off the service, and removes the service if this was the last one.
+    /// Removes one factory of the node from the segment of the service, and removes the service if this was the last one.
     fn leave<S: Storage>(&self, storage: &mut S) -> Result<(), CloseError>
         ensures { Does S.gives storage.old (λ made. Closes self.now.service.description.service_hash self.now.service.number
             self.now.node made result) storage.new }
@@ -174,12 +174,12 @@ impl<P: Pattern> PortFactory<P> {
         self.membership.node
     }
 
-    /// Closes the factory: takes it off the segment of the service, and removes the description and the segment if it was the last factory
-    /// of the last node.
+    /// Closes the factory: its node has one factory fewer in the segment of the service. The last factory of the last node also
+    /// removes the description and the segment.
     ///
-    /// Refused with `NotThisStorage` if the storage has another id than the one in which the factory was opened; then nothing is accessed,
-    /// and the factory is returned to the caller. Refused with `UnableToRemoveDescription` or `UnableToRemoveSegment` as the storage
-    /// reports; the factory is then consumed.
+    /// Refused with `NotThisStorage` if the storage has another id than the one in which the factory was opened; then nothing is
+    /// accessed, and the factory is returned to the caller. Refused with `UnableToRemoveDescription` or `UnableToRemoveSegment` as
+    /// the storage reports; the factory is then consumed.
     /// Example: `let closed = factory.close(&mut table);`
     pub fn close<S: Storage>(self, storage: &mut S) -> Result<(), NotClosed<P>>
         ensures other_storage { S.id storage.old ≢ self.membership.storage → (storage.new ≡ storage.old)

@@ -23,8 +23,8 @@ pub fn asks_the_larger()
     ensures { AsksTheLarger }
 {}
 
-/// The parts of a description have the form of one: the name and the attributes are within their limits, the hash has 20 bytes, and numbers
-/// have 64 bits.
+/// A description with these parts has valid ones: its name and its attributes are within their limits, its hash has 20 bytes, and its
+/// numbers have 64 bits.
 pub fn parts_have_form(
     name: ServiceName,
     hash: ServiceHash,

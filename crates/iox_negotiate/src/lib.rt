@@ -11,7 +11,7 @@
 //! | `laws` | theorems about every open service |
 //! | `whole_calls` | theorems about every table of services, whatever is done to it |
 //!
-//! The storage trait, the table in memory with its foreign steps, and the errors of all calls are re-exported.
+//! The storage trait, the table in memory with its actions of other nodes, and the errors of all calls are re-exported.
 //!
 //! First calls:
 //!

@@ -44,40 +44,42 @@ pub fn opened_stands()
     ensures { OpenedStands }
 {}
 
-/// After any calls in a new table, with any foreign steps before each access and between the calls, the service of each open factory
-/// exists: what the factory states is published under its number, its segment exists, its node is registered, no more nodes are registered
-/// than the maximum, and the node has at least as many registered factories as are open. The calls may be on services of three patterns.
+/// After any calls in a new table, with any actions of other nodes before each storage operation and between the calls, the service of each
+/// open factory exists: what the factory states is published under its number, its segment exists, its node is registered, no more nodes
+/// are registered than the maximum, and the node has at least as many registered factories as are open. The calls may be on services of
+/// three patterns.
 pub fn open_factories_stand<P: Request, Q: Request, R: Request>()
     ensures { OpenFactoriesStand (of_three P.ClauseError Q.ClauseError R.ClauseError) }
 {}
 
-/// The same holds after each access within a call, for each open factory that the call doesn't close.
+/// What [`open_factories_stand`] says also holds after each storage operation within a call, for each open factory that the call doesn't
+/// close.
 pub fn stand_inside_calls<P: Request, Q: Request, R: Request>()
     ensures { StandInsideCalls (of_three P.ClauseError Q.ClauseError R.ClauseError) }
 {}
 
-/// Exactly the open factories are registered: after any calls in a new table, with any foreign steps before each access and between the
-/// calls, the segment of each published service has exactly those own nodes that have open factories of it, and counts as many factories of
-/// each node as are open.
+/// Exactly the open factories are registered: after any calls in a new table, with any actions of other nodes before each storage operation
+/// and between the calls, the segment of each published service has exactly those own nodes that have open factories of it, and counts as
+/// many factories of each node as are open.
 pub fn factories_are_counted<P: Request, Q: Request, R: Request>()
     ensures { FactoriesAreCounted (of_three P.ClauseError Q.ClauseError R.ClauseError) }
 {}
 
-/// The same holds after each access within a call: exactly the factories that were open before the call are registered, or exactly those
-/// that are open after it.
+/// What [`factories_are_counted`] says also holds after each storage operation within a call: exactly the factories that were open before
+/// the call are registered, or exactly those that are open after it.
 pub fn counted_inside_calls<P: Request, Q: Request, R: Request>()
     ensures { CountedInsideCalls (of_three P.ClauseError Q.ClauseError R.ClauseError) }
 {}
 
-/// Closing a factory in its table succeeds: it takes one factory off its node, with the last of which the node is removed; and with the
-/// last factory of the last node the description and the segment are removed. What is under any other hash is unchanged.
+/// Closing a factory in its table succeeds: the node then has one factory fewer, and is removed if it was its last one. If it was the
+/// last factory of the last node, the description and the segment are removed. What is under any other hash is unchanged.
 pub fn closes_one()
     ensures { ClosesOne }
 {}
 
-/// Whatever a builder does in a table (create, open, or either), with any foreign steps before its accesses, is a call to which these
-/// theorems apply, and what it agrees on is within the limits. So `rooms_are_agreed` holds for the calls of builders. The builder is of the
-/// pattern `B`, and its error is of any type.
+/// Whatever a builder does in a table (create, open, or either), with any actions of other nodes before its storage operations, is a call
+/// to which these theorems apply, and what it agrees on is within the limits. So `rooms_are_agreed` holds for the calls of builders. The
+/// builder is of the pattern `B`, and its error is of any type.
 pub fn builders_make_calls<B: Pattern, P: Request, Q: Request, R: Request, E>()
     ensures { BuildersMakeCalls (λ (config : B.StaticConfig). AreWithinLimits (B.settings config))
         (λ (config : B.StaticConfig). HasNoRoomForHistory (B.settings config)) (of_three P.ClauseError Q.ClauseError R.ClauseError) E }
@@ -88,7 +90,7 @@ pub fn rooms_are_agreed<P: Request, Q: Request, R: Request>()
     ensures { RoomsAreAgreed (of_three P.ClauseError Q.ClauseError R.ClauseError) }
 {}
 
-/// The same holds after each access within a call.
+/// What [`rooms_are_agreed`] says also holds after each storage operation within a call.
 pub fn rooms_inside_calls<P: Request, Q: Request, R: Request>()
     ensures { RoomsInsideCalls (of_three P.ClauseError Q.ClauseError R.ClauseError) }
 {}
@@ -99,8 +101,8 @@ pub fn agrees_as_before<P: Request, Q: Request, R: Request>()
     ensures { AgreesAsBefore (of_three P.ClauseError Q.ClauseError R.ClauseError) }
 {}
 
-/// A refused call leaves the contents of the table unchanged, provided that no foreign steps are made between its accesses; only the next
-/// number may have risen. The calls may be on services of three patterns.
+/// A refused call leaves the contents of the table unchanged, provided that other nodes do nothing between its storage operations; only the
+/// next number may have risen. The calls may be on services of three patterns.
 pub fn refused_leaves_all<P: Request, Q: Request, R: Request>()
     ensures { RefusedLeavesAll (of_three P.ClauseError Q.ClauseError R.ClauseError) }
 {}

@@ -1,4 +1,4 @@
--- How many accesses there are, stage by stage, and what is taken, made and given back in them.
+-- The number of storage operations, stage by stage, and what they acquire, create and release.
 use Rattle.std.proofs.Common.{◌≡◌, Bool, true, false, ℕ, suc, ◌+◌, ◌≤◌, List, [], ◌∷◌, ◌++◌, Option, None, Some, Result, Ok, Err, length}
 use Rattle.std.proofs.Common.{refl, sym, ap, ◌∙◌, arith}
 use Rattle.iox_describe.specs.DescribeBase.declared.hash.ServiceHash.{ServiceHash}
@@ -76,8 +76,8 @@ creates-length hash node agreed None (Look under answer ∷ rest) result h =
     omega (arith, creates-seen-length hash node agreed (refusal_seen h.0) rest h.1 h.4)
 creates-length hash node agreed None made result h = absurd h
 
--- Of the accesses after a lock: one lock ends, and none is taken; and what was made of segments is removed, unless the
--- service is made.
+-- Of the storage operations after a lock: one lock is given up, and none is acquired; and the segments that were made are removed, unless
+-- the service is made.
 record Ends (made : List Access) (failed : Bool) (segments : ℕ) : Type 0 where
   taken : locks_taken made ≡ 0
   ended : locks_ended made ≡ 1
@@ -125,7 +125,7 @@ publishes-ends hash number agreed (RemoveSegment under of answer ∷ rest) came 
     = undoes-ends hash number (RemoveSegment under of answer ∷ rest) (has_failed came) h.0
 publishes-ends hash number agreed made came h = absurd h
 
--- of the accesses of a lock and what follows
+-- of the storage operations of a lock and what follows
 pub record Balanced (made : List Access) (failed : Bool) : Type 0 where
   pub locks : locks_taken made ≡ locks_ended made
   pub segments : failed ≡ true → segments_made made ≡ segments_removed made
@@ -248,7 +248,7 @@ makes-service hash node number agreed (MakeSegment under of by room making.OutOf
     = absurd (no-service came service _ h m.4.1)
 makes-service hash node number agreed made came service m h = absurd m
 
--- the accesses of a creation that went well end so
+-- the storage operations of a creation that went well end so
 record IsPublished (hash : ServiceHash) (node : ℕ) (agreed : Agreement) (made : List Access) (service : Opened) : Type 0 where
   front : List Access
   agrees : service.description ≡ agreed

@@ -1,10 +1,10 @@
--- Lists of accesses, made of the accesses of callees.
+-- Lists of storage operations, made of the storage operations of callees.
 use Rattle.std.proofs.Common.{◌≡◌, ℕ, suc, ◌<◌, List, [], ◌∷◌, ◌++◌, Option, None, Some, refl, sym, inl, inr}
 use Rattle.std.proofs.lemmas.List.{append-nil}
 use Rattle.iox_negotiate_base.specs.Access.{Access}
 use Rattle.iox_negotiate_base.specs.Runs.{Went, Does, Led, Rounds}
 
--- one list of accesses after another
+-- one list of storage operations after another
 pub went-append : {S : Type 0} (gives : S → Access → S → Type 0) (old mid new : S) (first second : List Access)
     → Went gives old first mid → Went gives mid second new
     → Went gives old (first ++ second) new
@@ -17,12 +17,12 @@ module _ {S : Type 0} {gives : S → Access → S → Type 0} where
   pub idle : (old : S) (telling : List Access → Type 0) → telling [] → Does gives old telling old
   idle old telling told = record { made = []; went = refl; told = told }
 
-  -- one access alone
+  -- one storage operation alone
   pub alone : (old new : S) (access : Access) (telling : List Access → Type 0) → gives old access new → telling (access ∷ [])
       → Does gives old telling new
   alone old new access telling given told = record { made = access ∷ []; went = (new, given, refl); told = told }
 
-  -- an access, and then those of a callee
+  -- a storage operation, and then those of a callee
   pub more : (old mid new : S) (access : Access) (rest telling : List Access → Type 0) → gives old access mid → Does gives mid rest new
       → ((made : List Access) → rest made → telling (access ∷ made)) → Does gives old telling new
   more old mid new access rest telling given does say =

@@ -1,4 +1,4 @@
--- What is taken, made and given back in the rounds of openings and creations.
+-- What the rounds of openings and creations acquire, create and release.
 use Rattle.std.proofs.Common.{◌≡◌, Bool, true, false, ℕ, zero, suc, ◌+◌, List, [], ◌∷◌, ◌++◌, Option, None, Some, Result, Ok, Err, refl}
 use Rattle.std.proofs.Common.{sym, ap, ◌∙◌, subst, arith}
 use Rattle.std.proofs.Math.Logic.{⊎_elim}
@@ -24,7 +24,7 @@ use Rattle.iox_negotiate_base.specs.declared.sight.Sight.{Sight}
 use Rattle.iox_negotiate_base.specs.declared.sight.Sight.TheVariants as sight
 use Rattle.iox_negotiate_base.proofs.Counting.{Balanced, has_failed, locks-balanced, nothing-more}
 
--- what an access counts for
+-- what a storage operation counts for
 weight-taken : (access : Access) → (n : ℕ) × ((rest : List Access) → locks_taken (access ∷ rest) ≡ n + locks_taken rest)
 weight-taken (Lock hash node (lock.Taken number)) = (1, λ rest. refl)
 weight-taken (Lock hash node lock.IsLocked) = (0, λ rest. omega arith)
@@ -78,7 +78,7 @@ weight-removed (OpenSegment hash number node answer) = (0, λ rest. omega arith)
 weight-removed (Leave hash number node answer) = (0, λ rest. omega arith)
 weight-removed (RemoveDescription hash number answer) = (0, λ rest. omega arith)
 
--- a count of accesses is that of both parts
+-- a count of storage operations is that of both parts
 module _ (count : List Access → ℕ) (none : count [] ≡ 0)
     (weight : (access : Access) → (n : ℕ) × ((rest : List Access) → count (access ∷ rest) ≡ n + count rest)) where
   counted : (first second : List Access) → count (first ++ second) ≡ count first + count second

@@ -1,4 +1,4 @@
--- How many accesses openings make.
+-- How many storage operations openings make.
 use Rattle.std.proofs.Common.{◌≡◌, Bool, true, false, ℕ, zero, suc, ◌+◌, ◌*◌, ◌≤◌, List, ◌∷◌, Option, None, Some, Result, Ok, Err, length}
 use Rattle.std.proofs.Common.{length-append, ap, arith}
 use Rattle.std.proofs.Math.Logic.{⊎_elim}
@@ -54,7 +54,7 @@ makes-done hash node number agreed (MakeSegment under of by room making.Fault �
 makes-done hash node number agreed (MakeSegment under of by room making.OutOfMemory ∷ rest) came m = ap (λ a. is_done a) m.4.1
 makes-done hash node number agreed made came m = absurd m
 
--- a lock that leads to the next round is one access
+-- a lock that leads to the next round is one storage operation
 again-locks : {V : Type 0} (hash : ServiceHash) (node : ℕ) (agreed : Agreement) (made : List Access) (came : Attempt)
     → Locks hash node agreed made came
     → None ≡ created_or_again {V = V} came → length made ≤ 1
@@ -73,7 +73,7 @@ module _ {R : Type 0} (round : List Access → Option R → Type 0) (leads : (ma
   led-length (suc count) made (before, last, all, led, leading) =
       omega (arith, ap (λ r. length r) all, length-append before last, led-length count before led, leads last leading)
 
-  -- five rounds of two accesses at most, the last of which may make more
+  -- five rounds of two storage operations at most, the last of which may make more
   pub rounds-length : (most : ℕ) → 2 ≤ most → ((made : List Access) (result : R) → round made (Some result) → length made ≤ most)
       → (exhausted : R) (made : List Access) (result : R) → Rounds round exhausted made result → length made ≤ 8 + most
   rounds-length most wide ends exhausted made result r =

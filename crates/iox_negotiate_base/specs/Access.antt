@@ -1,4 +1,4 @@
--- The accesses to a storage, with their arguments and their results.
+-- The operations of a storage, with their arguments and their results.
 use Rattle.std.specs.Prelude.{ℕ, List}
 use Rattle.iox_describe.specs.DescribeBase.declared.hash.ServiceHash.{ServiceHash}
 use Rattle.iox_negotiate_base.specs.declared.answer.LookAnswer.{LookAnswer}
@@ -9,7 +9,8 @@ use Rattle.iox_negotiate_base.specs.declared.answer.OpenSegmentAnswer.{OpenSegme
 use Rattle.iox_negotiate_base.specs.declared.answer.LeaveAnswer.{LeaveAnswer}
 use Rattle.iox_negotiate_base.specs.declared.answer.RemoveAnswer.{RemoveAnswer}
 
--- One access: the hash, the number of the service if the access has one, the node, its other arguments, and the result.
+-- One storage operation: the hash, the number of the service if the storage operation has one, the node, its other arguments, and the
+-- result.
 pub data Access : Type 0 where
   Look : (hash : ServiceHash) (answer : LookAnswer) → Access
   Lock : (hash : ServiceHash) (node : ℕ) (answer : LockAnswer) → Access

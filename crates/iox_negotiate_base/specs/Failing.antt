@@ -1,4 +1,4 @@
--- What the results of accesses mean to a node that creates or opens a service.
+-- What the results of storage operations mean to a node that creates or opens a service.
 use Rattle.std.specs.Prelude.{ℕ, true, false, Option, None, Some, Result, Ok, Err}
 use Rattle.iox_describe.specs.DescribeSettings.Agreement.{Agreement}
 use Rattle.iox_negotiate_base.specs.declared.answer.LockAnswer.{LockAnswer}
@@ -31,7 +31,7 @@ opened number agreed = record { number = number; description = agreed; is_new = 
 abbrev pub brought_about : ℕ → Agreement → Opened
 brought_about number agreed = record { number = number; description = agreed; is_new = true }
 
--- Why the service isn't created after this look; nothing prevents the creation if the service doesn't exist.
+-- Why the service isn't created after this lookup; nothing prevents the creation if the service doesn't exist.
 abbrev pub refusal_seen : Sight → Option CreateFailure
 refusal_seen seen.Absent = None
 refusal_seen (seen.Standing number agreed) = Some uncreated.AlreadyExists

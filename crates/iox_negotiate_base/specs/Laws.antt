@@ -15,19 +15,19 @@ use Rattle.iox_negotiate_base.specs.declared.failure.CreateFailure.{CreateFailur
 use Rattle.iox_negotiate_base.specs.declared.failure.OpenFailure.{OpenFailure}
 use Rattle.iox_negotiate_base.specs.declared.failure.OpenOrCreateFailure.{OpenOrCreateFailure}
 
--- A creation makes at most six accesses.
+-- A creation makes at most six storage operations.
 abbrev pub CreatesInSix : Type 0
 CreatesInSix = (hash : ServiceHash) (node : ℕ) (agreed : Agreement) (refusal : Option CreateFailure) (made : List Access)
     (result : Result Opened CreateFailure)
     → CreatesIf hash node agreed refusal made result → length made ≤ 6
 
--- How many locks these accesses took.
+-- How many locks these storage operations took.
 abbrev pub locks_taken : List Access → ℕ
 locks_taken [] = 0
 locks_taken (Lock hash node (Taken number) ∷ rest) = 1 + locks_taken rest
 locks_taken (access ∷ rest) = locks_taken rest
 
--- How many locks these accesses ended, by releasing them or by publishing a description.
+-- How many locks these storage operations ended, by releasing them or by publishing a description.
 abbrev pub locks_ended : List Access → ℕ
 locks_ended [] = 0
 locks_ended (Unlock hash number ∷ rest) = 1 + locks_ended rest
@@ -40,13 +40,13 @@ LeavesNoLock = (hash : ServiceHash) (node : ℕ) (agreed : Agreement) (refusal :
     (result : Result Opened CreateFailure)
     → CreatesIf hash node agreed refusal made result → locks_taken made ≡ locks_ended made
 
--- How many segments these accesses made.
+-- How many segments these storage operations made.
 abbrev pub segments_made : List Access → ℕ
 segments_made [] = 0
 segments_made (MakeSegment hash number node max_nodes Made ∷ rest) = 1 + segments_made rest
 segments_made (access ∷ rest) = segments_made rest
 
--- How many segments these accesses tried to remove.
+-- How many segments these storage operations tried to remove.
 abbrev pub segments_removed : List Access → ℕ
 segments_removed [] = 0
 segments_removed (RemoveSegment hash number answer ∷ rest) = 1 + segments_removed rest
@@ -58,8 +58,8 @@ RefusedLeavesNoSegment = (hash : ServiceHash) (node : ℕ) (agreed : Agreement) 
     (failure : CreateFailure)
     → CreatesIf hash node agreed refusal made (Err failure) → segments_made made ≡ segments_removed made
 
--- A successful creation returns what was to be agreed, and its last two accesses made the segment for the agreed number of nodes and
--- published the line of the agreement, both under the number that it returns.
+-- A successful creation returns what was to be agreed, and its last two storage operations made the segment for the agreed number of nodes
+-- and published the line of the agreement, both under the number that it returns.
 abbrev pub CreatedIsPublished : Type 0
 CreatedIsPublished = (hash : ServiceHash) (node : ℕ) (agreed : Agreement) (refusal : Option CreateFailure) (made : List Access)
     (service : Opened)
@@ -68,13 +68,13 @@ CreatedIsPublished = (hash : ServiceHash) (node : ℕ) (agreed : Agreement) (ref
     × (made ≡ front ++ (MakeSegment hash service.number node (max_nodes_of agreed.settings) Made
     ∷ Publish hash service.number (line Two agreed) Published ∷ []))
 
--- An opening makes at most ten accesses.
+-- An opening makes at most ten storage operations.
 abbrev pub OpensInTen : Type 0 → Type 0
 OpensInTen V = (hash : ServiceHash) (node : ℕ) (verdict : Agreement
     → Result (Unit {0}) V) (made : List Access) (result : Result Opened (OpenFailure V))
     → Opens hash node verdict made result → length made ≤ 10
 
--- An opening or creation makes at most fourteen accesses.
+-- An opening or creation makes at most fourteen storage operations.
 abbrev pub OpensOrCreatesInFourteen : Type 0 → Type 0
 OpensOrCreatesInFourteen V = (hash : ServiceHash) (node : ℕ) (verdict : Agreement
     → Result (Unit {0}) V) (agreed : Agreement) (refusal : Option CreateFailure)

@@ -1,5 +1,6 @@
 pub mod Access
 pub mod Creating
+pub mod Describing
 pub mod Failing
 pub mod Laws
 pub mod Opening

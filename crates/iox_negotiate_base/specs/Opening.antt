@@ -1,4 +1,4 @@
--- The accesses that open a service: a lookup, and the opening of its segment if it meets the request.
+-- The storage operations that open a service: a lookup, and the opening of its segment if it meets the request.
 use Rattle.std.specs.Prelude.{◌≡◌, ℕ, List, [], ◌∷◌, Option, None, Some, Result, Ok, Err}
 use Rattle.iox_describe.specs.DescribeBase.declared.hash.ServiceHash.{ServiceHash}
 use Rattle.iox_describe.specs.DescribeSettings.Agreement.{Agreement}
@@ -18,18 +18,18 @@ use Rattle.iox_negotiate_base.specs.declared.failure.OpenOrCreateFailure.{OpenOr
 use Rattle.iox_negotiate_base.specs.declared.failure.OpenOrCreateFailure.TheVariants as either
 
 module _ {V : Type 0} (hash : ServiceHash) (node : ℕ) (verdict : Agreement → Result (Unit {0}) V) where
-  -- The accesses register the node in the segment of the service that was read.
+  -- The storage operations register the node in the segment of the service that was read.
   abbrev pub Registers : ℕ → Agreement → List Access → Option (Result Opened (OpenFailure V)) → Type 0
   Registers number agreed (OpenSegment under of by answer ∷ rest) result =
       (under ≡ hash) × (of ≡ number) × (by ≡ node) × (rest ≡ []) × (result ≡ entered number agreed answer)
   Registers number agreed made result = ⊥
 
-  -- After the compatibility check: the accesses register the node if the service meets the request; else there are none.
+  -- After the compatibility check: the storage operations register the node if the service meets the request; else there are none.
   abbrev pub OpensJudged : ℕ → Agreement → Result (Unit {0}) V → List Access → Option (Result Opened (OpenFailure V)) → Type 0
   OpensJudged number agreed (Ok met) made result = Registers number agreed made result
   OpensJudged number agreed (Err unmet) made result = (made ≡ []) × (result ≡ Some (Err (Clause unmet)))
 
-  -- After the lookup: if the service exists, it is checked; else there are no more accesses.
+  -- After the lookup: if the service exists, it is checked; else there are no more storage operations.
   abbrev pub OpensSeen : Sight → List Access → Option (Result Opened (OpenFailure V)) → Type 0
   OpensSeen sight.Absent made result = (made ≡ []) × (result ≡ Some (Err DoesNotExist))
   OpensSeen (sight.Standing number agreed) made result = OpensJudged number agreed (verdict agreed) made result
@@ -41,13 +41,13 @@ module _ {V : Type 0} (hash : ServiceHash) (node : ℕ) (verdict : Agreement →
       (shown : Sight) × (under ≡ hash) × IsSight hash answer shown × OpensSeen shown rest result
   OpenRound made result = ⊥
 
-  -- The accesses open a service, in at most five rounds.
+  -- The storage operations open a service, in at most five rounds.
   abbrev pub Opens : List Access → Result Opened (OpenFailure V) → Type 0
   Opens made result = Rounds OpenRound (Err ServiceInCorruptedState) made result
 
   module _ (agreed : Agreement) (refusal : Option CreateFailure) where
-    -- If no service exists, the accesses create it, unless its settings are refused. Another node's lock or an existing service lead to the
-    -- next round.
+    -- If no service exists, the storage operations create it, unless its settings are refused. Another node's lock or an existing service
+    -- lead to the next round.
     abbrev pub EitherCreates : Option CreateFailure → List Access → Option (Result Opened (OpenOrCreateFailure V)) → Type 0
     EitherCreates (Some failure) made result = (made ≡ []) × (result ≡ Some (Err (either.Create failure)))
     EitherCreates None made result = (attempt : Attempt) × Locks hash node agreed made attempt × (result ≡ created_or_again attempt)
@@ -66,6 +66,6 @@ module _ {V : Type 0} (hash : ServiceHash) (node : ℕ) (verdict : Agreement →
         (shown : Sight) × (under ≡ hash) × IsSight hash answer shown × EitherSeen shown rest result
     EitherRound made result = ⊥
 
-    -- The accesses open or create a service, in at most five rounds.
+    -- The storage operations open or create a service, in at most five rounds.
     abbrev pub OpensOrCreates : List Access → Result Opened (OpenOrCreateFailure V) → Type 0
     OpensOrCreates made result = Rounds EitherRound (Err either.SystemInFlux) made result

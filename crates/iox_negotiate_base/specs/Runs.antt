@@ -1,19 +1,19 @@
--- Lists of accesses, made one after another.
+-- Lists of storage operations, made one after another.
 use Rattle.std.specs.Prelude.{◌≡◌, ℕ, zero, suc, ◌<◌, List, [], ◌∷◌, ◌++◌, Option, None, Some, ◌⊎◌}
 use Rattle.iox_negotiate_base.specs.Access.{Access}
 
--- These accesses, one after another, lead from one storage to the other.
+-- These storage operations, one after another, lead from one storage to the other.
 abbrev pub Went : {S : Type 0} → (S → Access → S → Type 0) → S → List Access → S → Type 0
 Went gives old [] new = new ≡ old
 Went {S} gives old (access ∷ accesses) new = (mid : S) × gives old access mid × Went gives mid accesses new
 
--- Some accesses were made, for which `telling` holds.
+-- Some storage operations were made, for which `telling` holds.
 pub record Does {S : Type 0} (gives : S → Access → S → Type 0) (old : S) (telling : List Access → Type 0) (new : S) : Type 0 where
   pub made : List Access
   pub went : Went gives old made new
   pub told : telling made
 
--- So many rounds were made one after another, each of them without a result.
+-- This number of rounds were made one after another, each of them without a result.
 abbrev pub Led : {R : Type 0} → (List Access → Option R → Type 0) → ℕ → List Access → Type 0
 Led round zero made = made ≡ []
 Led round (suc count) made = (before : List Access) × (last : List Access) × (made ≡ before ++ last) × Led round count before

@@ -2,20 +2,13 @@
 use Rattle.std.specs.Prelude.{◌≡◌, ℕ, List}
 use Rattle.iox_describe.specs.DescribeBase.declared.hash.ServiceHash.{ServiceHash}
 use Rattle.iox_describe.specs.DescribeSettings.Agreement.{Agreement}
-use Rattle.iox_describe.specs.Line.{Spells}
-use Rattle.iox_describe.specs.Within.{IsWithinLimits}
+use Rattle.iox_negotiate_base.specs.Describing.{Describes}
 use Rattle.iox_negotiate_base.specs.declared.answer.LookAnswer.{LookAnswer}
 use Rattle.iox_negotiate_base.specs.declared.answer.LookAnswer.TheVariants as look
 use Rattle.iox_negotiate_base.specs.declared.sight.Sight.{Sight}
 use Rattle.iox_negotiate_base.specs.declared.sight.Sight.TheVariants as sight
 use Rattle.iox_negotiate_base.specs.declared.sight.SightFailure.TheVariants.{HangsInCreation, InsufficientPermissions}
 use Rattle.iox_negotiate_base.specs.declared.sight.SightFailure.TheVariants.{ServiceInCorruptedState, OutOfMemory}
-
--- The bytes encode an agreement within the limits that has this hash.
-pub record Describes (hash : ServiceHash) (bytes : List ℕ) (agreed : Agreement) : Type 0 where
-  pub within : IsWithinLimits agreed
-  pub spelled : Spells bytes agreed
-  pub own : agreed.service_hash ≡ hash
 
 -- What bytes show: the service that they describe; or that they describe none; or nothing, if memory to read them runs out.
 abbrev pub IsRead : ServiceHash → ℕ → List ℕ → Sight → Type 0

@@ -1,20 +1,32 @@
-//! The results of the accesses to a storage.
-ghost use Rattle.std.specs.Prelude.{◌≡◌};
+//! The results of storage operations.
+ghost use Rattle.std.specs.Prelude.{◌≡◌, IfOk, IfSome};
+ghost use Rattle.iox_describe.specs.DescribeSettings.Versions.{HasAll};
+ghost use Rattle.iox_describe.specs.Line.{line};
+ghost use Rattle.iox_negotiate_base.specs.Describing.{Describes};
 
+use iox_describe::{Description, ServiceHash, Version, encode_as, is_within_limits};
+use std::alloc::{AllocError, Global};
 use std::marker::Model;
 
 /// The bytes of a stored description. Contracts see the list of bytes.
+///
+/// If the bytes were encoded here, the description is kept beside them, so that nobody has to decode them.
 #[derive(Drop)]
 pub struct StoredDescription {
     bytes: Vec<u8>,
+    // In memory of its own, since it is large and bytes that came from elsewhere have none.
+    decoded: Option<Box<Description>>,
 }
 
 impl Model for StoredDescription {
-    ghost use Rattle.std.specs.Prelude.{ℕ, List};
+    ghost use Rattle.std.specs.Prelude.{ℕ, List, IfSome};
+    ghost use Rattle.iox_negotiate_base.specs.Describing.{Describes};
 
     ghost Value = { List ℕ };
 
     ghost view = { λ d. d.bytes.items };
+
+    ghost invariant = { λ d. IfSome d.decoded (λ kept. Describes kept.value.service_hash d.bytes.items kept.value) };
 }
 
 impl StoredDescription {
@@ -22,7 +34,43 @@ impl StoredDescription {
     pub fn new(bytes: Vec<u8>) -> Self
         ensures { result ≡ bytes.items }
     {
-        StoredDescription { bytes }
+        StoredDescription {
+            bytes,
+            decoded: None,
+        }
+    }
+
+    /// The line of this version that encodes a description. It fails only where an allocation fails.
+    ///
+    /// Example: `let stored = StoredDescription::encode(alloc, Version::Two, &description)?;`
+    pub fn encode(
+        alloc: Global,
+        version: Version,
+        description: &Description,
+    ) -> Result<Self, AllocError>
+        requires { HasAll version description.now.settings }
+        ensures { IfOk result (λ stored. stored ≡ line version description.now) }
+    {
+        let bytes = encode_as(alloc, version, description)?;
+        let mut decoded = None;
+        if is_within_limits(description) {
+            decoded = Some(boxed(alloc, description)?);
+        }
+        Ok(StoredDescription { bytes, decoded })
+    }
+
+    /// A copy in memory of its own. It fails only where an allocation fails.
+    ///
+    /// Example: `let copy = stored.try_clone(alloc)?;`
+    pub fn try_clone(&self, alloc: Global) -> Result<Self, AllocError>
+        ensures { IfOk result (λ copy. copy ≡ self.now) }
+    {
+        let bytes = Vec::from_slice(alloc, self.bytes.as_slice())?;
+        let mut decoded = None;
+        if let Some(description) = &self.decoded {
+            decoded = Some(boxed(alloc, description)?);
+        }
+        Ok(StoredDescription { bytes, decoded })
     }
 
     /// The bytes.
@@ -31,6 +79,25 @@ impl StoredDescription {
     {
         self.bytes.as_slice()
     }
+
+    // The description that is kept beside the bytes, if it is of the service with this hash.
+    pub(crate) fn decoded_under(&self, hash: &ServiceHash) -> Option<&Description>
+        ensures { IfSome result (λ description. Describes hash.now self.now description.now) }
+    {
+        let description = self.decoded.as_ref()?;
+        if *description.service_hash() == *hash {
+            Some(description)
+        } else {
+            None
+        }
+    }
+}
+
+// A copy of a description in memory of its own. It fails only where an allocation fails.
+fn boxed(alloc: Global, description: &Description) -> Result<Box<Description>, AllocError>
+    ensures { IfOk result (λ copy. copy.value ≡ description.now) }
+{
+    Ok(Box::new(alloc, description.try_clone(alloc)?)?)
 }
 
 /// The result of looking up the description under a hash.
@@ -64,7 +131,7 @@ pub enum LockAnswer {
     Exists,
     /// The caller may not lock the hash.
     Denied,
-    /// The access failed.
+    /// The storage operation failed.
     Fault,
     /// Memory ran out.
     OutOfMemory,
@@ -75,7 +142,7 @@ pub enum LockAnswer {
 pub enum MakeSegmentAnswer {
     /// The segment exists now, and the caller is registered in it.
     Made,
-    /// The access failed.
+    /// The storage operation failed.
     Fault,
     /// Memory ran out.
     OutOfMemory,
@@ -86,7 +153,7 @@ pub enum MakeSegmentAnswer {
 pub enum PublishAnswer {
     /// The description exists now, and the lock has ended.
     Published,
-    /// The access failed.
+    /// The storage operation failed.
     Fault,
     /// Memory ran out.
     OutOfMemory,
@@ -105,13 +172,13 @@ pub enum OpenSegmentAnswer {
     Full,
     /// The caller may not open the segment.
     Denied,
-    /// The access failed.
+    /// The storage operation failed.
     Fault,
     /// Memory ran out.
     OutOfMemory,
 }
 
-/// The result of taking one factory of a node off a segment.
+/// The result of removing one factory of a node from a segment.
 #[derive(Clone, Copy, PartialEq, Eq)]
 pub enum LeaveAnswer {
     /// A node is still registered.
@@ -125,6 +192,6 @@ pub enum LeaveAnswer {
 pub enum RemoveAnswer {
     /// The description or the segment is removed.
     Removed,
-    /// The access failed.
+    /// The storage operation failed.
     Fault,
 }

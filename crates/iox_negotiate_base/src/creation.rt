@@ -7,12 +7,12 @@ ghost use Rattle.iox_negotiate_base.specs.Creating.{Unlocks, Undoes, PublishGoes
 ghost use Rattle.iox_negotiate_base.specs.Failing.{refusal_seen, lock_gives, making_failure, publishing_failure, created};
 ghost use Rattle.iox_negotiate_base.specs.declared.failure.CreateFailure.TheVariants.{OutOfMemory};
 
-use crate::answer::{LockAnswer, MakeSegmentAnswer, PublishAnswer};
+use crate::answer::{LockAnswer, MakeSegmentAnswer, PublishAnswer, StoredDescription};
 use crate::failure::CreateFailure;
 use crate::request::{Opened, Request};
 use crate::sight::{Sight, SightFailure};
 use crate::storage::Storage;
-use iox_describe::{Description, ServiceHash, encode};
+use iox_describe::{Description, ServiceHash, Version};
 use std::alloc::{AllocError, Global};
 
 /// The result of an attempt to create a service.
@@ -69,7 +69,7 @@ fn publish<R: Request, S: Storage>(
     let Ok(written) = write(alloc, request) else {
         return undo(request.hash(), number, CreateFailure::OutOfMemory, storage);
     };
-    let answer = storage.publish(request.hash(), number, &written.1);
+    let answer = storage.publish(request.hash(), number, written.1);
     if let Some(failure) = publishing_failure(answer) {
         return undo(request.hash(), number, failure, storage);
     }
@@ -81,11 +81,14 @@ fn publish<R: Request, S: Storage>(
 }
 
 // The description of the service to be created, and its line.
-fn write<R: Request>(alloc: Global, request: &R) -> Result<(Description, Vec<u8>), AllocError>
-    ensures { IfOk result (λ written. (written.0 ≡ R.created request.now) × (written.1.items ≡ line Two (R.created request.now))) }
+fn write<R: Request>(
+    alloc: Global,
+    request: &R,
+) -> Result<(Description, StoredDescription), AllocError>
+    ensures { IfOk result (λ written. (written.0 ≡ R.created request.now) × (written.1 ≡ line Two (R.created request.now))) }
 {
     let description = request.describe(alloc)?;
-    let bytes = encode(alloc, &description)?;
+    let bytes = StoredDescription::encode(alloc, Version::Two, &description)?;
     Ok((description, bytes))
 }
 
@@ -150,7 +153,7 @@ fn publishing_failure(answer: PublishAnswer) -> Option<CreateFailure>
     }
 }
 
-/// Why the service isn't created after this look; `None` if no service exists.
+/// Why the service isn't created after this lookup; `None` if no service exists.
 pub(crate) fn refusal_seen(seen: &Sight) -> Option<CreateFailure>
     ensures { result ≡ refusal_seen seen.now }
 {

@@ -7,7 +7,7 @@ pub enum CreateFailure {
     AlreadyExists,
     /// The node lacks the permission.
     InsufficientPermissions,
-    /// A setting is beyond its limits, or an access failed.
+    /// A setting is beyond its limits, or a storage operation failed.
     InternalFailure,
     /// Another node is creating the service.
     IsBeingCreatedByAnotherInstance,
@@ -32,7 +32,7 @@ pub enum OpenFailure<V> {
     InsufficientPermissions,
     /// The stored data isn't a description of this service, or its segment was absent in each round.
     ServiceInCorruptedState,
-    /// An access failed.
+    /// A storage operation failed.
     InternalFailure,
     /// When the service was looked up, another node had its lock.
     HangsInCreation,

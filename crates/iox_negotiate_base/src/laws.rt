@@ -4,7 +4,7 @@ ghost use Rattle.iox_negotiate_base.specs.Laws.{OpensOrCreatesInFourteen, Either
 
 use crate::request::Request;
 
-/// A creation makes at most six accesses.
+/// A creation makes at most six storage operations.
 pub fn creates_in_six()
     ensures { CreatesInSix }
 {}
@@ -24,12 +24,12 @@ pub fn created_is_published()
     ensures { CreatedIsPublished }
 {}
 
-/// An opening makes at most ten accesses.
+/// An opening makes at most ten storage operations.
 pub fn opens_in_ten<R: Request>()
     ensures { OpensInTen R.ClauseError }
 {}
 
-/// An opening or creation makes at most fourteen accesses.
+/// An opening or creation makes at most fourteen storage operations.
 pub fn opens_or_creates_in_fourteen<R: Request>()
     ensures { OpensOrCreatesInFourteen R.ClauseError }
 {}

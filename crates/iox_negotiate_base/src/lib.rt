@@ -1,8 +1,8 @@
-//! How nodes agree on a service: rounds of accesses to a storage, whatever the results of the accesses are.
+//! How nodes agree on a service: rounds of storage operations, whatever their results are.
 //!
 //! | Module | What it has (lower modules first) |
 //! |---|---|
-//! | `answer` | the results of the accesses to a storage |
+//! | `answer` | the results of storage operations |
 //! | `storage` | the trait of a storage |
 //! | `request` | what a node asks of a service, for any pattern |
 //! | `failure` | why a service isn't created or opened |

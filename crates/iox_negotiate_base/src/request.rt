@@ -59,7 +59,7 @@ pub trait Request {
     fn max_nodes(&self) -> u64
         ensures { result ≡ max_nodes_of (created self.now).settings };
 
-    /// The description of the service if it is created. It fails only where an allocation fails.
+    /// The description of the service if it is created. It fails only if an allocation fails.
     fn describe(&self, alloc: Global) -> Result<Description, AllocError>
         ensures { IfOk result (λ description. description ≡ created self.now) };
 }

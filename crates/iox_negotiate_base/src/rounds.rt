@@ -1,4 +1,4 @@
-//! Creating a service, opening it, or either: rounds of accesses to a storage.
+//! Creating a service, opening it, or either: rounds of storage operations.
 ghost use Rattle.std.specs.Prelude.{◌≡◌};
 ghost use Rattle.iox_negotiate_base.specs.Runs.{Does};
 ghost use Rattle.iox_negotiate_base.specs.Creating.{CreatesSeen, CreatesIf};
@@ -18,7 +18,7 @@ pub const ROUNDS: u32 = 5;
 
 /// Creates the service of the request.
 ///
-/// Refused without an access to the storage if its settings aren't possible. Refused with `AlreadyExists` if the service exists, with
+/// Refused without a storage operation if its settings aren't possible. Refused with `AlreadyExists` if the service exists, with
 /// `IsBeingCreatedByAnotherInstance` if another node has the lock, with `HangsInCreation` if another node had the lock at the lookup, with
 /// `ServiceInCorruptedState` if the stored data can't be read, and with `InsufficientPermissions`, `InternalFailure` or `OutOfMemory` as
 /// the storage reports. A refused call undoes what it made.

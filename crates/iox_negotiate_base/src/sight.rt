@@ -51,6 +51,15 @@ pub fn shown(alloc: Global, hash: &ServiceHash, answer: &LookAnswer) -> Sight
 fn standing(alloc: Global, hash: &ServiceHash, number: u64, bytes: &StoredDescription) -> Sight
     ensures { IsRead hash.now number bytes.now result }
 {
+    if let Some(description) = bytes.decoded_under(hash) {
+        return match description.try_clone(alloc) {
+            Ok(description) => Sight::Standing {
+                number,
+                description,
+            },
+            Err(_) => Sight::Failed(SightFailure::OutOfMemory),
+        };
+    }
     match decode(alloc, bytes.as_bytes()) {
         Ok(description) => {
             if *description.service_hash() == *hash {

@@ -5,21 +5,21 @@ ghost use Rattle.iox_negotiate_base.specs.Access.{RemoveDescription, RemoveSegme
 
 use crate::answer::{
     LeaveAnswer, LockAnswer, LookAnswer, MakeSegmentAnswer, OpenSegmentAnswer, PublishAnswer,
-    RemoveAnswer,
+    RemoveAnswer, StoredDescription,
 };
 use iox_describe::ServiceHash;
 
 /// A storage of services. A description and its lock are stored under the hash of the service; a segment, in which nodes are registered, is
 /// stored under the hash and the number of the service.
 ///
-/// A storage may return any result for any access. What an implementation guarantees of its results is its `gives`.
+/// A storage may return any result for any storage operation. What an implementation guarantees of its results is its `gives`.
 ///
 /// Ported from `iceoryx2::service::{static_storage, dynamic_config}`, as one interface.
 pub trait Storage {
     // the id that distinguishes storages
     ghost id: { Self → ℕ };
 
-    // what an access with this result may have made of the storage
+    // what a storage operation with this result may have made of the storage
     ghost gives: { Self → Access → Self → Type 0 };
 
     /// The id that distinguishes storages.
@@ -45,8 +45,13 @@ pub trait Storage {
         ensures { gives self.old (MakeSegment hash.now number node max_nodes result) self.new };
 
     /// Publishes the description of a service, which ends its lock.
-    fn publish(&mut self, hash: &ServiceHash, number: u64, bytes: &[u8]) -> PublishAnswer
-        ensures { gives self.old (Publish hash.now number bytes.now result) self.new };
+    fn publish(
+        &mut self,
+        hash: &ServiceHash,
+        number: u64,
+        bytes: StoredDescription,
+    ) -> PublishAnswer
+        ensures { gives self.old (Publish hash.now number bytes result) self.new };
 
     /// Releases a lock.
     fn unlock(&mut self, hash: &ServiceHash, number: u64)
@@ -56,7 +61,7 @@ pub trait Storage {
     fn open_segment(&mut self, hash: &ServiceHash, number: u64, node: u64) -> OpenSegmentAnswer
         ensures { gives self.old (OpenSegment hash.now number node result) self.new };
 
-    /// Takes one factory of a node off a segment.
+    /// Removes one factory of a node from a segment.
     fn leave(&mut self, hash: &ServiceHash, number: u64, node: u64) -> LeaveAnswer
         ensures { gives self.old (Leave hash.now number node result) self.new };
 

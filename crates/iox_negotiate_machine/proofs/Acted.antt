@@ -110,7 +110,7 @@ pub joined : (one other rest : List ℕ) → one ++ (other ++ rest) ≡ (one ++ 
 joined [] other rest = refl
 joined (x ∷ one) other rest = ap (λ (l : List ℕ). x ∷ l) (joined one other rest)
 
--- What steps under a hash leave elsewhere, and what is true of each table.
+-- What steps under one hash don't change under other hashes, and what is true of each table.
 pub record Leaves (hash : ServiceHash) (old new : Contents) : Type 0 where
   pub reached : IsReached new
   pub less : old.next ≤ new.next

@@ -64,7 +64,7 @@ module _ (types : MessageTypeDetails) (pattern : MessagingPattern) (name : List 
   IsCome left locks end after more attempt.Exists = Under left locks end after × HasFewFactories node after.phase
   IsCome left locks end after more (attempt.Failed failure) = failure ≡ uncreated.OutOfMemory
 
-  -- An attempt is an access of the machine that locks.
+  -- An attempt is a storage operation of the machine that locks.
   pub record Attempted (left locks : ℕ) (call : Call) (came : Attempt) (end : Steps) : Type 0 where
     pub after : Call
     pub access : machine.Access types pattern steps (Own node) uncreated.OutOfMemory

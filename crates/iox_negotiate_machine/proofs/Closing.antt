@@ -93,7 +93,7 @@ module _ (pattern : MessagingPattern) (name : List ℕ) (taken : List ℕ) (node
       to-number So [] at so = absurd so
       to-number So (one ∷ before) at so = subst So at so
 
-  -- What a closing leaves: the phase of the machine, and elsewhere nothing changed.
+  -- The effect of a closing: the phase of the machine, and no change under other hashes.
   abbrev pub IsClosed : Result (Unit {0}) CloseError → Contents → Type 0
   IsClosed result new =
       (result ≡ Ok tt) × Leaves hash old new × PhaseStands pattern name new taken (closed_by node (Published life agreed nodes))

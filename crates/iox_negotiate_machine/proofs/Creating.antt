@@ -1,4 +1,4 @@
--- A service is created: the look, and the attempt where nothing stands.
+-- A service is created: the lookup, and the attempt if the service doesn't exist.
 use Rattle.std.proofs.Common.{◌≡◌, ℕ, ◌+◌, List, [], ◌∷◌, ◌++◌, Option, None, Some, Result, Err, IfOk, MatchOption, refl, sym, subst, inl}
 use Rattle.std.proofs.Common.{inr, arith}
 use Rattle.iox_command.specs.NegotiateBase.Describe.Within.{IsWithinLimits}
@@ -51,7 +51,7 @@ module _ (types : MessageTypeDetails) (pattern : MessagingPattern) (name : List 
   abbrev pub IsOpened : Phase → List ℕ → Result Opened CreateFailure → Type 0
   IsOpened phase numbers result = IfOk result (λ service. IsServiceIn node pattern name phase numbers service)
 
-  -- What a creation came to is what the machine's came to, and a service that was created is that of the phase then.
+  -- The result of a creation is the machine's result, and a created service is that of the phase then.
   pub record Created (call : Call) (result : Result Opened CreateFailure) (end : Steps) : Type 0 where
     pub after : Call
     pub creates : machine.Creates types pattern steps (Own node) agreed call (Some (newness_of result)) after

@@ -88,7 +88,7 @@ module _ (hash : ServiceHash) (node number : ℕ) where
       subst (λ (r : Result (Unit {0}) AllocError). GoesOn r (ActsAll hash steps mid result new) ((result ≡ r) × (new ≡ mid))) one.0 rest in
       quiet-steps steps old new result lies (subst (λ (t : Contents). ActsAll hash steps t result new) one.1 went)
 
-  -- so an access sees the table that the one before it left
+  -- so a storage operation sees the table that the one before it left
   quiet-access : (access : Access) (lacking : Type 0) (before after : Steps)
       → entry_at hash before.table ≡ Some (Locked (table_node.Own node) number) → Preceded hash access lacking before after
       → Sight before.table access after.table
@@ -103,7 +103,8 @@ module _ (pattern : MessagingPattern) (name : List ℕ) (old : Contents) (taken 
   abbrev hash : ServiceHash
   hash = service_hash_of pattern name
 
-  -- The node has the lock of this number, after so many lives; this is its segment, and no other lies under the hash.
+  -- The node has the lock with this number, after `lives` earlier lives of the service; this is its segment, and the hash has no
+  -- other.
   pub record HasLock (made : Option Segment) (table : Contents) : Type 0 where
     pub leaves : Leaves hash old table
     pub more : List ℕ
@@ -116,7 +117,7 @@ module _ (pattern : MessagingPattern) (name : List ℕ) (old : Contents) (taken 
   itself : nat_eq number number ≡ true
   itself = eq-eqb number number refl
 
-  -- an access of the node under its lock
+  -- a storage operation of the node under its lock
   then-leaves : (access : Access) (made : Option Segment) (table after : Contents) → HasLock made table → Sight table access after
       → Leaves (hash_of (Accesses access)) table after
   then-leaves access made table after lock sight = left-by (Accesses access) table after lock.leaves.reached sight
@@ -208,7 +209,7 @@ module _ (pattern : MessagingPattern) (name : List ℕ) (old : Contents) (taken 
         (ends : Ends pattern name old taken table (Published (lives + 1) agreed ((Own node, 1) ∷ [])))
         × IsLast (λ last. number ≡ last) (ends.more ++ taken)
 
-    -- The service is made; or no memory is found, and the lock is given back.
+    -- The service is made; or memory runs out, and the lock is given up.
     abbrev pub Makes : Attempt → Contents → Type 0
     Makes attempt table =
         ((attempt ≡ Made (brought_about number description)) × IsPublished table)

@@ -38,7 +38,7 @@ by-left P life agreed node nodes same none some =
 -- ---- what is agreed on
 
 module _ (types : MessageTypeDetails) (pattern : MessagingPattern) (life : ℕ) (agreed : Agreement) where
-  -- The phase is of a later life, or just this is agreed on in it still.
+  -- The phase is of a later life, or the service of this life still has exactly this agreement.
   abbrev pub IsSince : Phase → Type 0
   IsSince (Absent lives) = life ≤ lives
   IsSince (BeingMade now by) = life < now

@@ -1,4 +1,4 @@
--- What a builder does that opens a service, or creates it where none stands, for all names of a machine.
+-- What a builder does that opens a service, or creates it if it doesn't exist, for all names of a machine.
 use Rattle.std.proofs.Common.{ℕ, List, IfOk, sym, subst, arith}
 use Rattle.iox_command.specs.NegotiateBase.declared.failure.OpenFailure.{OpenFailure}
 use Rattle.iox_command.specs.NegotiateBase.declared.failure.OpenFailure.TheVariants as unopened

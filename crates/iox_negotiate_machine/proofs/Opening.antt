@@ -1,4 +1,4 @@
--- A service is opened, or created where none stands: what follows a look, and whole rounds.
+-- A service is opened, or created if it doesn't exist: what follows a lookup, and whole rounds.
 use Rattle.std.proofs.Common.{◌≡◌, ℕ, ◌+◌, List, [], ◌∷◌, ◌++◌, append_assoc, Option, Some, Result, Ok, Err, MatchResult, length, refl}
 use Rattle.std.proofs.Common.{sym, ap, subst, ◌∙◌, inl, inr, arith}
 use Rattle.iox_command.specs.NegotiateBase.DescribeBase.Hash.{service_hash_of}

@@ -230,7 +230,7 @@ module _ (node : Node) (m : Node) where
   again c (entry ∷ nodes) one =
       again-there c entry nodes (same_node node m) (same_node entry.0 node) refl refl one (λ later. again c nodes later)
 
-  -- what is left of so many
+  -- what is left of n
   abbrev less : ℕ → List ℕ
   less c = cond (nat_le c 1) [] ((c - 1) ∷ [])
 
@@ -337,7 +337,7 @@ module _ (node : ℕ) (seated : Nodes) (nodes : List Entry) (stands : NodesStand
   pub counts-none : factories_of seated node ≡ None → counts_of (Own node) nodes ≡ []
   counts-none none = none-of (counts_of (Own node) nodes) (sym found-head ∙ none)
 
-  -- a node that has so many is there once, with as many
+  -- a node that has n is there once, with as many
   pub counts-some : (c : ℕ) → factories_of seated node ≡ Some c → counts_of (Own node) nodes ≡ c ∷ []
   counts-some c some = one-of c (counts_of (Own node) nodes) (stands.once (Own node)) (sym found-head ∙ some)
 

@@ -1,4 +1,4 @@
--- An access of a call, with the steps of nodes outside the hub that come before it.
+-- A storage operation of a call, with the steps of nodes outside the hub that come before it.
 use Rattle.std.proofs.Common.{◌≡◌, ℕ, ◌+◌, ◌^◌, ◌≤◌, ◌<◌, Bool, true, false, cond, Some, List, [], ◌∷◌, ◌++◌, Result, Ok, Err, length}
 use Rattle.std.proofs.Common.{map, fold, take, drop, drop-drop, take_all, nat_lt, refl, sym, ap, subst, ◌∙◌, ◌⊎◌, inl, inr, arith}
 use Rattle.std.proofs.lemmas.Bool.Decides.{nat_tests}
@@ -30,7 +30,7 @@ use Rattle.iox_negotiate_table.specs.declared.step.ForeignStep.{ForeignStep as T
 
 -- ---- how many steps are to come
 
--- how many steps are named before accesses after these
+-- how many steps are named before storage operations after these
 abbrev pub to_come : ℕ → List StepBefore → ℕ
 to_come accesses [] = 0
 to_come accesses (before ∷ more) = cond (nat_lt accesses before.access) 1 0 + to_come accesses more
@@ -43,7 +43,7 @@ one-more : (before : StepBefore) (some : List StepBefore) (b : Bool)
 one-more before some true = omega arith
 one-more before some false = omega arith
 
--- those before the next access are some of them
+-- those before the next storage operation are some of them
 spent : (accesses : ℕ) (steps : List StepBefore)
     → to_come accesses steps ≡ length (steps_at steps (accesses + 1)) + to_come (accesses + 1) steps
 spent accesses [] = refl
@@ -77,7 +77,7 @@ grown hash (step ∷ steps) old new result (mid, first, acts, rest) = there firs
     there (Ok done) less rest later = omega (arith, less, later rest)
     there (Err lacking) less rest later = rw rest.1 (omega (arith, less))
 
--- The table after some of a call: it has this phase under the hash, and elsewhere nothing changed.
+-- The table after a part of a call: it has this phase under the hash, and other hashes don't change.
 pub record Ends (pattern : MessagingPattern) (name : List ℕ) (old : Contents) (taken : List ℕ) (table : Contents) (phase : Phase) : Type
     0 where
   pub leaves : Leaves (service_hash_of pattern name) old table
@@ -86,7 +86,7 @@ pub record Ends (pattern : MessagingPattern) (name : List ℕ) (old : Contents) 
 
 module _ (types : MessageTypeDetails) (pattern : MessagingPattern) (name : List ℕ) (own : OwnHash pattern name) (steps : List StepBefore)
     (form : HaveStepForms types name steps) (old : Contents) (taken : List ℕ) where
-  -- the steps before the next access
+  -- the steps before the next storage operation
   abbrev pub meanwhile : Call → List ForeignStep
   meanwhile call = steps_at steps (call.accesses + 1)
 
@@ -102,8 +102,8 @@ module _ (types : MessageTypeDetails) (pattern : MessagingPattern) (name : List 
   abbrev pub stopped : ℕ → Call → Call
   stopped done call = record call { phase = fold (acted types pattern) call.phase (take done (meanwhile call)) }
 
-  -- A call under way: the phase of the machine stands in the table, the lists are those of so many accesses to come, and numbers are left
-  -- for the steps to come and for so many locks. It makes sixteen accesses at most.
+  -- A call in progress: the table contains what the machine's phase says, the lists are those of the next `left` storage operations, and
+  -- enough numbers are left for the remaining steps and for `locks` locks. It makes at most sixteen storage operations.
   pub record UnderWay (left locks : ℕ) (table : Contents) (lists : List (List TableStep)) (call : Call) : Type 0 where
     pub ends : Ends pattern name old taken table call.phase
     pub listed : (made : ℕ) → made < left
@@ -111,8 +111,8 @@ module _ (types : MessageTypeDetails) (pattern : MessagingPattern) (name : List 
     pub room : table.next + to_come call.accesses steps + locks < 2 ^ 64
     pub early : call.accesses + left ≤ 16
 
-  -- What comes of the steps before an access: they are done, numbers may be taken after those before, and it is made; or one finds no
-  -- memory, and it isn't made.
+  -- The effect of the steps before a storage operation: they are made, numbers may have been taken, and the storage operation is made; or
+  -- memory runs out in one of them, and it isn't made.
   abbrev pub Comes : ℕ → ℕ → Call → List ℕ → TableAccess → Type 0 → Steps → Type 0
   Comes left locks call before access lacking after =
       ((mid : Contents) × (now : UnderWay left locks mid after.lists (next_call call)) × Sight mid access after.table
@@ -185,7 +185,7 @@ module _ (types : MessageTypeDetails) (pattern : MessagingPattern) (name : List 
         goes.0,
       )
 
-  -- a machine's access that finds no memory of its own, after all steps before it
+  -- a machine's storage operation that finds no memory of its own, after all steps before it
   pub lacks-itself : {F : Type 0} (node : Node) (lacking : F) (Found : Phase → Call → Answer F → Call → Type 0) (call : Call)
       → Access types pattern steps node lacking Found call (Some (Err lacking)) (record call { phase = next_phase call })
   lacks-itself node lacking Found call = inr (
@@ -213,7 +213,7 @@ module _ (types : MessageTypeDetails) (pattern : MessagingPattern) (name : List 
     early = omega (arith, few);
   }
 
-  -- what ends with all steps before an access ends with the first of them that are as many
+  -- what ends with all steps before a storage operation ends with the first of them that are as many
   pub ends-with-all : (call : Call) (table : Contents) → Ends pattern name old taken table (next_phase call)
       → Ends pattern name old taken table (fold (acted types pattern) call.phase (take (length (meanwhile call)) (meanwhile call)))
   ends-with-all call table ends =

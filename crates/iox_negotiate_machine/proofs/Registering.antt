@@ -71,7 +71,7 @@ module _ (types : MessageTypeDetails) (pattern : MessagingPattern) (name : List 
   Means opening.Absent phase numbers = HasFewFactories node phase
   Means other phase numbers = Unit {0}
 
-  -- An answer is that of the machine, whose phase the table has then.
+  -- The answer is that of the machine, whose phase the table has then.
   abbrev pub By : OpenSegmentAnswer → Contents → Contents → List ℕ → Answer (OpenFailure V) × Phase → Type 0
   By answer old new numbers found =
       (round_answer {F = OpenFailure V} (entered number description answer) ≡ found.0) × PhaseStands pattern name new numbers found.1

@@ -37,20 +37,20 @@ module _ (types : MessageTypeDetails) (pattern : MessagingPattern) (name : List 
   Next left locks end after more None = Under left locks end after × HasFewFactories node after.phase
   Next left locks end after more (Some result) = IfOk result (λ service. IsServiceIn node pattern name after.phase (more ++ taken) service)
 
-  -- A round is one of the machine.
+  -- A round represents a round of the machine.
   abbrev pub Round : (Call → Answer F → Call → Type 0) → ℕ → ℕ → Call → Option (Result Opened F) → Steps → Type 0
   Round Goes left locks call came end =
       (after : Call) × Goes call (round_answer came) after × (ends : Ends pattern name old taken end.table after.phase)
       × Next left locks end after ends.more came
 
-  -- numbers are left for so many locks
+  -- numbers are left for n locks
   module _ (Makes : List Access → Option (Result Opened F) → Type 0) (Goes : Call → Answer F → Call → Type 0) (exhausted : F)
       (locks : ℕ)
       (one : (left : ℕ) (made : List Access) (came : Option (Result Opened F)) (call : Call) (start end : Steps)
       → Under (1 + (1 + left)) locks start call → HasFewFactories node call.phase → Makes made came
       → Went SteppedSight start made end
       → Round Goes left locks call came end) where
-    -- Rounds that led on lead the machine on.
+    -- Rounds that continue represent rounds of the machine.
     abbrev LedOn : ℕ → ℕ → Call → Steps → Type 0
     LedOn total left call mid =
         (after : Call) × Under (twice left) locks mid after × HasFewFactories node after.phase
@@ -79,7 +79,7 @@ module _ (types : MessageTypeDetails) (pattern : MessagingPattern) (name : List 
         one (twice left) last None first.0 split.0 mid first.1 first.2 leads split.2 in
         (next.0, next.3.0, next.3.1, (λ answer end goes. first.3 answer end (next.0, None, next.1, goes)))
 
-    -- What the rounds come to is what those of the machine come to.
+    -- The result of the rounds is that of the machine's rounds.
     abbrev pub AllRounds : ℕ → Call → Result Opened F → Steps → Type 0
     AllRounds count call result end =
         (after : Call) × machine.Rounds Goes exhausted count call (Some (newness_of result)) after

@@ -50,7 +50,7 @@ module _ (types : MessageTypeDetails) (pattern : MessagingPattern) (name : List 
   with-memory (Published life agreed nodes) numbers sight so = so
   with-memory (Emptied life agreed by) numbers sight so = so
 
-  -- What comes of a look: it shows the phase that the machine has then; or no memory is found.
+  -- The effect of a lookup: it shows the phase that the machine has then; or memory runs out.
   abbrev pub SightComes : ℕ → ℕ → Call → Shown → Steps → Type 0
   SightComes left locks call sight after =
       ((under : Under left locks after.table after (next call)) × Sees (next call).phase (under.ends.more ++ taken) sight)

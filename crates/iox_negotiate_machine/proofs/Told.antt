@@ -1,4 +1,4 @@
--- Calls of the machine whose clauses are told in other words, and that builders tell failures as the machine does.
+-- Calls of the machine whose clauses are stated in other words, and builders that report failures as the machine does.
 use Rattle.std.proofs.Common.{◌≡◌, ℕ, zero, suc, ◌&&◌, Bool, true, false, cond, List, Option, None, Some, Result, Ok, Err, refl, ap, subst}
 use Rattle.std.proofs.Common.{◌⊎◌, ◌∙◌, inl, inr}
 use Rattle.std.specs.Prelude.{◌==◌, ◌||◌, length, nat_le, nat_lt, option_map, MatchBool, MatchOption, MatchResult}

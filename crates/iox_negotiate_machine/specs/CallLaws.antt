@@ -32,13 +32,14 @@ use Rattle.iox_negotiate_table.specs.NegotiateBase.Opening as rounds
 use Rattle.iox_negotiate_table.specs.Stepped.{Steps, SteppedSight, next_list}
 use Rattle.iox_negotiate_table.specs.declared.step.ForeignStep.{ForeignStep as TableStep}
 
--- Before each of the first sixteen accesses come the actions that are named before it, in the table's form; no call makes more accesses.
+-- Before each of the first sixteen storage operations come the actions that are named before it, as actions on the table; no call makes
+-- more storage operations.
 abbrev pub AreListed : MessageTypeDetails → List ℕ → List StepBefore → List (List TableStep) → Type 0
 AreListed types name steps lists =
     (made : ℕ) → made < 16 → next_list (drop made lists) ≡ map (table_step_of types name) (steps_at steps (made + 1))
 
--- What is published before each of the first sixteen accesses has the form of a description. Whatever the code makes of the named options
--- has it.
+-- What is published before each of the first sixteen storage operations has the form of a description. Whatever the code makes of the named
+-- options has this form.
 abbrev pub HaveStepForms : MessageTypeDetails → List ℕ → List StepBefore → Type 0
 HaveStepForms types name steps = (made : ℕ) → made < 16 → AllByRecursion (HasStepForm types name) (steps_at steps (made + 1))
 
@@ -47,8 +48,8 @@ abbrev pub newness_of : {F : Type 0} → Result Opened F → Result Bool F
 newness_of (Ok opened) = Ok opened.is_new
 newness_of (Err failure) = Err failure
 
--- The service that a node opened is that of the phase: the node is in it, it is published under the number that was taken last, and its
--- description is that of the phase's agreement.
+-- The service that a node opened is that of the phase: the node is registered in it, it is published under the number that was taken
+-- last, and its description is that of the phase's agreement.
 abbrev pub IsServiceIn : ℕ → MessagingPattern → List ℕ → Phase → List ℕ → Opened → Type 0
 IsServiceIn node pattern name (Published life agreed nodes) taken opened =
     (is_in (Own node) nodes ≡ true) × IsLast (λ number. opened.number ≡ number) taken
@@ -75,8 +76,9 @@ pub record CallMatches {T F E : Type 0} (names : List (List ℕ)) (pattern : Mes
   pub stands : TableStands names later end (with_phase pattern name after.phase state)
 
 module _ (T E : Type 0) where
-  -- A builder that creates a service over a table, as options ask and with these attributes, does what the machine does, each refusal in
-  -- its turn, with the actions of other nodes between its accesses. There are numbers left for as many locks.
+  -- A builder that creates a service over a table, as options ask and with these attributes, does what the machine does, each refusal
+  -- in its order, with the actions of other nodes between its storage operations. Premise: a number is left for each lock that it or those
+  -- nodes take.
   abbrev pub CreateMatches : Type 0
   CreateMatches = (names : List (List ℕ)) (types : MessageTypeDetails) (name : List ℕ) (node storage : ℕ)
       (named : ServiceOptions) (attributes : List Attribute) (steps : List StepBefore) (lists : List (List TableStep))
@@ -94,9 +96,10 @@ module _ (T E : Type 0) where
       result end.table
 
 module _ (T V E : Type 0) where
-  -- A builder that opens a service over a table, if the service meets what is asked, does what the machine does: at most five rounds, each
-  -- of them a look and what follows from it, with the actions of other nodes between its accesses. The description is judged as the
-  -- agreement that it describes. There are numbers left for as many locks as those nodes may take, and the node may get one factory more.
+  -- A builder that opens a service over a table, if the service meets what is asked, does what the machine does: at most five rounds,
+  -- each of them a lookup and what follows from it, with the actions of other nodes between its storage operations. Premises: the
+  -- description is judged as the agreement that it describes, a number is left for each lock that those nodes take, and the node may get
+  -- one factory more.
   abbrev pub OpenMatches : Type 0
   OpenMatches = (names : List (List ℕ)) (types : MessageTypeDetails) (pattern : MessagingPattern) (name : List ℕ) (node storage : ℕ)
       (judge : Description → Result (Unit {0}) V) (verdict : Agreement → Result (Unit {0}) V) (steps : List StepBefore)
@@ -114,8 +117,8 @@ module _ (T V E : Type 0) where
       unopened.ServiceInCorruptedState 5)
       result end.table
 
-  -- The same holds for a builder that opens a service, or creates it as options ask and with these attributes if it doesn't exist. There is
-  -- a number left for its own lock, too.
+  -- The same holds for a builder that opens a service, or creates it as options ask and with these attributes if it doesn't exist. A
+  -- further premise: a number is left for its own lock, too.
   abbrev pub OpenOrCreateMatches : Type 0
   OpenOrCreateMatches = (names : List (List ℕ)) (types : MessageTypeDetails) (name : List ℕ) (node storage : ℕ)
       (judge : Description → Result (Unit {0}) V) (verdict : Agreement → Result (Unit {0}) V) (named : ServiceOptions)

@@ -15,8 +15,9 @@ use Rattle.iox_negotiate_table.specs.NegotiateBase.Runs.{Does}
 use Rattle.iox_negotiate_table.specs.Sights.{Sight}
 
 module _ (T : Type 0) where
-  -- A factory of a node that is in a published service is closed over a table. The close succeeds, and the phase is what the machine says:
-  -- the last factory of the last node removes description and segment; otherwise the node has one factory fewer, and leaves with its last.
+  -- A factory of a node that is registered in a published service is closed over a table. The close succeeds, and the phase is what
+  -- the machine says: the last factory of the last node removes description and segment; otherwise the node has one factory fewer,
+  -- and is no longer registered after its last one.
   abbrev pub CloseMatches : Type 0
   CloseMatches = (names : List (List ℕ)) (pattern : MessagingPattern) (name : List ℕ) (node number life : ℕ) (agreed : Agreement)
       (nodes : List (Node × ℕ)) (taken : MessagingPattern → List ℕ → List ℕ) (old new : Contents) (result : Result (Unit {0}) CloseError)

@@ -15,8 +15,8 @@ use Rattle.iox_negotiate_table.specs.Contents.{Contents}
 use Rattle.iox_negotiate_table.specs.Laws.{IsOpenIn}
 
 module _ (T : Type 0) where
-  -- A service that is open for a node in a table is published in the machine: the node is in it, its number is the one that was taken last,
-  -- and its description is that of the agreement.
+  -- A service that is open for a node in a table is published in the machine: the node is registered in it, its number is the one
+  -- that was taken last, and its description is that of the agreement.
   abbrev pub OpenIsPublished : Type 0
   OpenIsPublished = (names : List (List ℕ)) (pattern : MessagingPattern) (name : List ℕ) (node number : ℕ) (bytes : List ℕ)
       (taken : MessagingPattern → List ℕ → List ℕ) (table : Contents) (state : State T)

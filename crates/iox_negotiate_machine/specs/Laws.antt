@@ -32,7 +32,7 @@ abbrev pub HaveOwnHashes : List (List ℕ) → Type 0
 HaveOwnHashes names = (one other : MessagingPattern) (name another : List ℕ) → IsAmong names name → IsAmong names another
     → service_hash_of one name ≡ service_hash_of other another → (one ≡ other) × (name ≡ another)
 
--- Numbers were taken after those before, which stay as they were.
+-- Further numbers may have been taken; those that were taken before stay as they were.
 abbrev pub GoOn : (MessagingPattern → List ℕ → List ℕ) → (MessagingPattern → List ℕ → List ℕ) → Type 0
 GoOn taken later = (pattern : MessagingPattern) (name : List ℕ) → (more : List ℕ) × (later pattern name ≡ more ++ taken pattern name)
 
@@ -41,7 +41,7 @@ module _ (types : MessageTypeDetails) (name : List ℕ) where
   abbrev pub published_with : ServiceOptions → Agreement
   published_with options = record { settings = settings_of types options; attributes = [] }
 
-  -- The action on a table that is the named action.
+  -- The action of the machine as an action on a table.
   abbrev pub table_step_of : ForeignStep → TableStep
   table_step_of (step.Lock node) = table_step.Lock node
   table_step_of (step.GiveUp node) = table_step.GiveUp node
@@ -70,8 +70,8 @@ module _ (T : Type 0) where
   NewTableStands = (names : List (List ℕ)) (id : ℕ)
       → TableStands {T = T} names (λ pattern name. []) (empty_table id) new_state
 
-  -- Actions of other nodes on a table do to the phase of their pattern and name what the machine says, one after the other; if one runs out
-  -- of memory, those before it stay done. All other phases stay. There are numbers left for as many locks.
+  -- Actions of other nodes on a table change the phase of their pattern and name as the machine says, one after the other; if one
+  -- runs out of memory, those before it stay done. All other phases stay. Premise: a number is left for each lock that they take.
   abbrev pub ForeignStepsMatch : Type 0
   ForeignStepsMatch = (names : List (List ℕ)) (types : MessageTypeDetails) (pattern : MessagingPattern) (name : List ℕ)
       (steps : List ForeignStep) (taken : MessagingPattern → List ℕ → List ℕ) (old new : Contents) (result : Result (Unit {0}) AllocError)

@@ -1,4 +1,4 @@
--- A theorem: what a look finds in a table is the phase of the machine.
+-- A theorem: what a lookup finds in a table is the phase of the machine.
 use Rattle.std.specs.Prelude.{ℕ, ◌≡◌, ◌⊎◌, List}
 use Rattle.std.specs.List.{IsAmong}
 use Rattle.iox_command.specs.NegotiateBase.DescribeBase.Hash.{service_hash_of}
@@ -16,8 +16,8 @@ use Rattle.iox_negotiate_table.specs.NegotiateBase.declared.sight.SightFailure.T
 use Rattle.iox_negotiate_table.specs.Sights.{Sight}
 
 module _ (pattern : MessagingPattern) (name : List ℕ) where
-  -- What a look finds in a phase, after these numbers were taken: nothing; that a service is being made; or the agreement, under the number
-  -- that was taken last, unless memory runs out to copy or read it. A look never finds a corrupted description.
+  -- What a lookup finds in a phase, after these numbers were taken: nothing; that a service is being made; or the agreement, under
+  -- the number that was taken last, unless memory runs out to copy or read it. A lookup never finds a corrupted description.
   abbrev pub ShowsPhase : Phase → List ℕ → Shown → Type 0
   ShowsPhase (Absent lives) taken sight = sight ≡ shown.Absent
   ShowsPhase (BeingMade life by) taken sight = sight ≡ shown.Failed HangsInCreation
@@ -27,7 +27,7 @@ module _ (pattern : MessagingPattern) (name : List ℕ) where
       IsLast (λ number. sight ≡ shown.Standing number (description_of pattern name agreed)) taken ⊎ (sight ≡ shown.Failed OutOfMemory)
 
 module _ (T : Type 0) where
-  -- A look under a pattern and name finds the phase that the machine has there, and changes nothing.
+  -- A lookup under a pattern and name finds the phase that the machine has there, and changes nothing.
   abbrev pub LookMatches : Type 0
   LookMatches = (names : List (List ℕ)) (pattern : MessagingPattern) (name : List ℕ) (taken : MessagingPattern → List ℕ → List ℕ)
       (old new : Contents) (answer : LookAnswer) (sight : Shown) (state : State T)

@@ -20,7 +20,7 @@ use Rattle.iox_negotiate_table.specs.declared.node.Node.{Node as TableNode}
 use Rattle.iox_negotiate_table.specs.declared.node.Node.TheVariants as table_node
 use Rattle.iox_negotiate_table.specs.declared.segment.Segment.TheVariants as segment
 
--- The node of a table that is this node of the machine.
+-- This node of the machine as a node of a table.
 abbrev pub table_node_of : Node → TableNode
 table_node_of (Own number) = table_node.Own number
 table_node_of (Foreign number) = table_node.Foreign number
@@ -55,8 +55,8 @@ module _ (pattern : MessagingPattern) (name : List ℕ) where
   description_of agreed = agreement name (service_hash_of pattern name) agreed.settings agreed.attributes
 
   module _ (table : Contents) where
-    -- The agreement is published under a number: its line lies under the hash, in a version that can express all of it; it is within the
-    -- limits, and has the pattern.
+    -- The agreement is published under a number: its line is stored under the hash, in a version that can express all of it; it is
+    -- within the limits, and has the pattern.
     pub record IsDescribed (agreed : Agreement) (number : ℕ) : Type 0 where
       pub version : Version
       pub said : HasAll version agreed.settings
@@ -64,15 +64,15 @@ module _ (pattern : MessagingPattern) (name : List ℕ) where
       pub kind : pattern_of agreed.settings ≡ pattern
       pub within : IsWithinLimits (description_of agreed)
 
-    -- The segment of a number is open, and has capacity for as many nodes as the agreement says; these nodes are in it.
+    -- The segment of a number is open, and has capacity for as many nodes as the agreement says; these nodes are registered in it.
     pub record IsOpenTo (agreed : Agreement) (nodes : List (Node × ℕ)) (number : ℕ) : Type 0 where
       pub seated : Nodes
       pub stands : segment_at (service_hash_of pattern name) number table ≡ Some (segment.Open seated)
       pub nodes_stand : NodesStand seated nodes
       pub room : seated.max_nodes ≡ max_nodes_of agreed.settings
 
-    -- What lies under the hash after these numbers were taken: nothing; a lock of the last number; or the description of the last number,
-    -- with its segment open, or emptied by the node that left last.
+    -- What is stored under the hash after these numbers were taken: nothing; a lock with the last number; or the description with the
+    -- last number, whose segment is open, or emptied by the node that left last.
     abbrev pub Lies : Phase → List ℕ → Type 0
     Lies (Absent lives) taken = entry_at (service_hash_of pattern name) table ≡ None
     Lies (BeingMade life by) taken =

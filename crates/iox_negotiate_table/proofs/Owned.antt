@@ -1,4 +1,4 @@
--- What a foreign node gives back or removes is its own.
+-- What a foreign node gives up or removes is its own.
 use Rattle.std.proofs.Common.{◌≡◌, ℕ, Bool, true, false, cond, List, Option, None, Some, is_some, Result, Ok, nat_eq, refl, arith}
 use Rattle.std.specs.declared.alloc.AllocError.{AllocError}
 use Rattle.iox_negotiate_base.specs.DescribeBase.declared.hash.ServiceHash.{ServiceHash}

@@ -1,4 +1,4 @@
--- A service that is is_open stays is_open through foreign steps.
+-- An open service stays open through actions of other nodes.
 use Rattle.std.proofs.Common.{◌≡◌, ℕ, ◌+◌, ◌≤◌, Bool, true, false, cond, not, ◌&&◌, List, [], ◌∷◌, Option, Some, IsSome, is_some, Result}
 use Rattle.std.proofs.Common.{Ok, Err, length, nat_eq, nat_lt, refl, subst, arith}
 use Rattle.std.specs.declared.alloc.AllocError.{AllocError}
@@ -24,8 +24,8 @@ use Rattle.iox_negotiate_table.specs.Stepped.{ActsAll, GoesOn}
 use Rattle.iox_negotiate_table.specs.Laws.{IsOpenIn}
 use Rattle.iox_negotiate_table.proofs.Entries.{lookup-set, length-insert_key, length-removed, found-length}
 
--- The service of this number is open: these bytes are published under its hash, its segment stands, this holds of its nodes, and no
--- more are in than there is room for.
+-- The service with this number is open: these bytes are published under its hash, its segment exists, `Q` is true of its nodes, and
+-- it has no more nodes than its capacity.
 pub record IsSeated (Q : Nodes → Type 0) (hash : ServiceHash) (number : ℕ) (bytes : List ℕ) (table : Contents) : Type 0 where
   pub nodes : Nodes
   pub published : entry_at hash table ≡ Some (Described number bytes)
@@ -33,7 +33,7 @@ pub record IsSeated (Q : Nodes → Type 0) (hash : ServiceHash) (number : ℕ) (
   pub seated : Q nodes
   pub few : count_in nodes ≤ nodes.max_nodes
 
--- What holds of the own nodes alone, and only where there are some, goes on holding whatever a foreign node does.
+-- What is true of the own nodes alone, and only if there are own nodes, stays true whatever a foreign node does.
 module _ (Q : Nodes → Type 0) (of_own : (nodes : Nodes) (foreign : List ℕ) → Q nodes → Q (record nodes { foreign = foreign }))
     (own_in : (nodes : Nodes) → Q nodes → 1 ≤ length nodes.own) (hash : ServiceHash) (number : ℕ) (bytes : List ℕ) where
   -- nothing changed

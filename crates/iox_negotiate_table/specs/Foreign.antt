@@ -1,4 +1,4 @@
--- What the steps of foreign nodes find in a table, and what they leave.
+-- What the actions of foreign nodes find in a table, and what they leave.
 use Rattle.std.specs.Prelude.{ℕ, ◌≡◌, ◌-◌, ◌^◌, ◌↔◌, Bool, true, false, not, ◌&&◌, Option, None, Some, is_some, Result, Ok, Err, nat_eq}
 use Rattle.std.specs.Prelude.{IsTrue, if◌then◌else◌}
 use Rattle.std.specs.declared.alloc.AllocError.{AllocError}
@@ -22,14 +22,14 @@ use Rattle.iox_negotiate_table.specs.Segments.{RegistersIn, after_foreign_leave,
 use Rattle.iox_negotiate_table.specs.Contents.{Contents, entry_at, segment_at, with_entry, without_entry, with_new_segment, with_segment}
 use Rattle.iox_negotiate_table.specs.Contents.{without_segment, with_lock}
 
--- If the step is possible, it is made or memory runs out; if it isn't possible, nothing changes and memory doesn't run out.
+-- If the action is possible, it is made or memory runs out; if it isn't possible, nothing changes and memory doesn't run out.
 abbrev pub DoneOrLacking : Bool → Contents → Contents → Result (Unit {0}) AllocError → Contents → Type 0
 DoneOrLacking true done old (Ok happened) new = new ≡ done
 DoneOrLacking true done old (Err lacking) new = new ≡ old
 DoneOrLacking false done old (Ok happened) new = new ≡ old
 DoneOrLacking false done old (Err lacking) new = ⊥
 
--- If the step is possible, it is made; it needs no memory.
+-- If the action is possible, it is made; it needs no memory.
 abbrev pub Done : Bool → Contents → Contents → Result (Unit {0}) AllocError → Contents → Type 0
 Done true done old result new = (result ≡ Ok tt) × (new ≡ done)
 Done false done old result new = (result ≡ Ok tt) × (new ≡ old)
@@ -96,7 +96,7 @@ after_removal (Some number) hash node old =
     if is_left_by node (segment_at hash number old) then without_segment hash number (without_entry hash old) else old
 after_removal None hash node old = old
 
--- The result of a foreign node's step under a hash, and the table after it.
+-- The result of a foreign node's action under a hash, and the table after it.
 abbrev pub Acts : ServiceHash → ForeignStep → Contents → Result (Unit {0}) AllocError → Contents → Type 0
 Acts hash (Lock node) old result new =
     DoneOrLacking (not (is_some (entry_at hash old)) && not (nat_eq old.next (2 ^ 64 - 1))) (with_lock hash (Foreign node) old) old

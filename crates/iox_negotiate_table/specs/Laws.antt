@@ -24,13 +24,13 @@ pub record IsOpenIn (hash : ServiceHash) (number node : ℕ) (bytes : List ℕ) 
   pub is_in : IsSome (factories_of nodes node)
   pub few : count_in nodes ≤ nodes.max_nodes
 
--- A service that is open for an own node stays open for it, whatever step one foreign node makes.
+-- A service that is open for an own node stays open for it, whatever action one foreign node makes.
 abbrev pub StaysOpen : Type 0
 StaysOpen = (hash : ServiceHash) (number node : ℕ) (bytes : List ℕ) (step : ForeignStep) (old new : Contents)
     (result : Result (Unit {0}) AllocError)
     → IsOpenIn hash number node bytes old → Acts hash step old result new → IsOpenIn hash number node bytes new
 
--- A service that is open for an own node stays open for it, whatever steps foreign nodes make.
+-- A service that is open for an own node stays open for it, whatever actions foreign nodes make.
 abbrev pub StaysOpenThrough : Type 0
 StaysOpenThrough = (hash : ServiceHash) (number node : ℕ) (bytes : List ℕ) (steps : List ForeignStep) (old new : Contents)
     (result : Result (Unit {0}) AllocError)

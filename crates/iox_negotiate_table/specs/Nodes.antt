@@ -49,12 +49,12 @@ with_factories node count nodes = record nodes { own = set_value (is_at (nat_cmp
 abbrev pub without_node : ℕ → Nodes → Nodes
 without_node node nodes = record nodes { own = remove_entry (is_at (nat_cmp node)) nodes.own }
 
--- The nodes after a node lost one of its factories, with the last of which it is removed.
+-- The nodes after a node lost one of its factories; the last one removes the node.
 abbrev pub less_one : Nodes → ℕ → Option ℕ → Nodes
 less_one nodes node None = nodes
 less_one nodes node (Some count) = if nat_lt 1 count then with_factories node (count - 1) nodes else without_node node nodes
 
--- The nodes after a node takes one factory off.
+-- The nodes after one factory of a node is removed.
 abbrev pub left : ℕ → Nodes → Nodes
 left node nodes = less_one nodes node (factories_of nodes node)
 

@@ -1,4 +1,4 @@
--- The phase of a service under a hash, and what a lookup and the steps of foreign nodes make of it.
+-- The phase of a service under a hash, and what a lookup and the actions of foreign nodes make of it.
 use Rattle.std.specs.Prelude.{ℕ, ◌≡◌, Option, None, Some, List, Result, Ok, ◌⊎◌}
 use Rattle.std.specs.declared.alloc.AllocError.{AllocError}
 use Rattle.iox_negotiate_base.specs.DescribeBase.declared.hash.ServiceHash.{ServiceHash}

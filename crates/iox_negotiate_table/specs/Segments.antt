@@ -26,7 +26,7 @@ closed_if false node nodes = Open nodes
 abbrev pub settled : Node → Nodes → Segment
 settled node nodes = closed_if (nat_eq (count_in nodes) 0) node nodes
 
--- The segment after an own node takes one factory off.
+-- The segment after one factory of an own node is removed.
 abbrev pub after_leave : ℕ → Segment → Segment
 after_leave node (Open nodes) = settled (Own node) (left node nodes)
 after_leave node (Emptied by) = Emptied by

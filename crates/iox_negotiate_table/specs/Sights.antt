@@ -1,4 +1,4 @@
--- What each access finds in a table, and what it leaves.
+-- What each storage operation finds in a table, and what it leaves.
 use Rattle.std.specs.Prelude.{ℕ, ◌≡◌, ◌-◌, ◌^◌, Bool, true, false, List, Option, None, Some, nat_eq, ◌⊎◌}
 use Rattle.iox_negotiate_base.specs.DescribeBase.declared.hash.ServiceHash.{ServiceHash}
 use Rattle.iox_negotiate_base.specs.Access.{Access, Look, Lock, MakeSegment, Publish, Unlock, OpenSegment, Leave, RemoveDescription}
@@ -102,7 +102,7 @@ abbrev pub Removes : Bool → Contents → Contents → RemoveAnswer → Content
 Removes true without old answer new = (answer ≡ removing.Removed) × (new ≡ without)
 Removes false without old answer new = (answer ≡ removing.Fault) × (new ≡ old)
 
--- What an access finds in the table, and the table after it.
+-- What a storage operation finds in the table, and the table after it.
 abbrev pub Sight : Contents → Access → Contents → Type 0
 Sight old (Look hash answer) new = Looks (entry_at hash old) answer × (new ≡ old)
 Sight old (Lock hash node answer) new = Locks hash (Own node) old answer new

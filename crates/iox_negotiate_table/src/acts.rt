@@ -1,4 +1,4 @@
-//! The steps of foreign nodes.
+//! The actions of other nodes on a table.
 ghost use Rattle.std.specs.Prelude.{Ok, ◌≡◌, ◌↔◌, ◌-◌, ◌^◌, ◌&&◌, IsTrue, OnOk, OnErr, IsSome, OnSome, nat_eq, not, is_some};
 ghost use Rattle.iox_negotiate_table.specs.declared.node.Node.TheVariants.{Foreign};
 ghost use Rattle.iox_negotiate_table.specs.Contents.{entry_at, segment_at, with_lock, without_entry};
@@ -13,15 +13,13 @@ use crate::registry::Registry;
 use crate::segment::Segment;
 use crate::step::ForeignStep;
 use crate::table::Table;
-use iox_describe::{
-    Description, ServiceHash, Version, encode_as, has_all, is_within_limits, service_hash,
-};
+use iox_describe::{Description, ServiceHash, Version, has_all, is_within_limits, service_hash};
 use iox_negotiate_base::{LockAnswer, StoredDescription};
 use std::alloc::AllocError;
 
 impl Table {
-    /// Makes a foreign node's step under a hash. If the step isn't possible, nothing changes. If an allocation fails, nothing changes, and
-    /// the call returns the error.
+    /// Makes a foreign node's action under a hash. If the action isn't possible, nothing changes. If an allocation fails, nothing
+    /// changes, and the call returns the error.
     pub fn act(&mut self, hash: &ServiceHash, step: &ForeignStep) -> Result<(), AllocError>
         ensures { Acts hash.now step.now self.old result self.new }
     {
@@ -117,10 +115,10 @@ impl Table {
         ensures ok { OnOk result (self.new ≡ with_service version hash.now number node description.now self.old) }
         ensures err { OnErr result (self.new ≡ self.old) }
     {
-        let bytes = encode_as(self.alloc, version, description)?;
+        let bytes = StoredDescription::encode(self.alloc, version, description)?;
         let registry = Registry::of_foreign(self.alloc, node, description.max_nodes())?;
         self.insert_segment(hash, number, Segment::Open(registry))?;
-        self.set_description(hash, number, StoredDescription::new(bytes));
+        self.set_description(hash, number, bytes);
         Ok(())
     }
 

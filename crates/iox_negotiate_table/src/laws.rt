@@ -2,12 +2,12 @@
 ghost use Rattle.iox_negotiate_table.specs.Laws.{StaysOpen, StaysOpenThrough, OpenedIsOpen, CreatedIsOpen};
 ghost use Rattle.iox_negotiate_table.specs.Phases.{GivesUpItsOwn, LookShowsThePhase, RemovesItsOwn};
 
-/// A service that is open for an own node stays open for it, whatever step one foreign node makes.
+/// A service that is open for an own node stays open for it, whatever action one foreign node makes.
 pub fn stays_open()
     ensures { StaysOpen }
 {}
 
-/// A service that is open for an own node stays open for it, whatever steps foreign nodes make.
+/// A service that is open for an own node stays open for it, whatever actions foreign nodes make.
 pub fn stays_open_through()
     ensures { StaysOpenThrough }
 {}

@@ -14,7 +14,7 @@
 //! ```
 //! let mut table = Table::new(alloc, id);
 //! let factory = builder.open_or_create(alloc, &mut table)?;
-//! // a node of others acts
+//! // a foreign node acts
 //! table.act(&hash, &step)?;
 //! ```
 #![tactic(auto)]
@@ -30,6 +30,7 @@ pub mod steps;
 pub mod storage;
 pub mod table;
 
+pub use entry::Entry;
 pub use node::Node;
 pub use step::ForeignStep;
 pub use steps::{StepList, Stepped};

@@ -5,6 +5,6 @@
 pub enum Node {
     /// An own node, which calls the table.
     Own(u64),
-    /// A foreign node, which acts between these calls.
+    /// A foreign node, which belongs to another process; it acts between these calls.
     Foreign(u64),
 }

@@ -36,7 +36,7 @@ impl Registry {
         }
     }
 
-    /// A registry for at most `max_nodes` nodes, with one own node that has one factory. It fails only where an allocation fails.
+    /// A registry for at most `max_nodes` nodes, with one own node that has one factory. It fails only if an allocation fails.
     pub fn of_node(alloc: Global, node: u64, max_nodes: u64) -> Result<Self, AllocError>
         ensures { IfOk result (λ registry. registry ≡ first_node node max_nodes) }
     {
@@ -45,7 +45,7 @@ impl Registry {
         Ok(registry)
     }
 
-    /// A registry for at most `max_nodes` nodes, with one foreign node. It fails only where an allocation fails.
+    /// A registry for at most `max_nodes` nodes, with one foreign node. It fails only if an allocation fails.
     pub fn of_foreign(alloc: Global, node: u64, max_nodes: u64) -> Result<Self, AllocError>
         ensures { IfOk result (λ registry. registry ≡ first_foreign node max_nodes) }
     {
@@ -82,7 +82,7 @@ impl Registry {
         self.own.get(&node).copied()
     }
 
-    /// Registers an own node, with one factory. It fails only where an allocation fails.
+    /// Registers an own node, with one factory. It fails only if an allocation fails.
     pub fn add(&mut self, node: u64) -> Result<(), AllocError>
         ensures ok { OnOk result (self.new ≡ with_node node self.old) }
         ensures err { OnErr result (self.new ≡ self.old) }
@@ -102,7 +102,7 @@ impl Registry {
         *factories = count;
     }
 
-    /// Takes one factory off an own node; with its last factory the node is removed. A node that isn't registered changes nothing.
+    /// Removes one factory of an own node; the last one removes the node. If the node isn't registered, nothing changes.
     pub fn leave(&mut self, node: u64)
         ensures { self.new ≡ left node self.old }
     {
@@ -146,7 +146,7 @@ impl Registry {
         self.foreign.contains(&node)
     }
 
-    /// Registers a foreign node, unless it is registered already or the maximum number of nodes is. It fails only where an allocation
+    /// Registers a foreign node, unless it is registered already or the maximum number of nodes is. It fails only if an allocation
     /// fails.
     pub fn register(&mut self, node: u64) -> Result<(), AllocError>
         ensures { Registers node self.old result self.new }

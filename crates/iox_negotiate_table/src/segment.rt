@@ -29,7 +29,7 @@ impl Segment {
         }
     }
 
-    /// Takes one factory off an own node, and reports whether this was the last factory of the last node.
+    /// Removes one factory of an own node, and reports whether this was the last factory of the last node.
     pub fn leave(&mut self, node: u64) -> LeaveAnswer
         ensures after { self.new ≡ after_leave node self.old }
         ensures answer { result ≡ leave_answer self.old self.new }
@@ -45,7 +45,7 @@ impl Segment {
         LeaveAnswer::Stays
     }
 
-    /// Registers a foreign node, unless it is registered already or the maximum number of nodes is. It fails only where an allocation
+    /// Registers a foreign node, unless it is registered already or the maximum number of nodes is. It fails only if an allocation
     /// fails.
     pub fn register(&mut self, node: u64) -> Result<(), AllocError>
         ensures { RegistersIn node self.old result self.new }

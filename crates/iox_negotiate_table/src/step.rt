@@ -1,8 +1,8 @@
-//! The steps of foreign nodes.
+//! The actions of other nodes.
 
 use iox_describe::Description;
 
-/// What a foreign node does under a hash. If the step isn't possible, nothing changes.
+/// An action of a foreign node under a hash. If the action isn't possible, nothing changes.
 #[derive(Drop)]
 pub enum ForeignStep {
     /// If there is no entry under the hash, the node locks it.
@@ -12,7 +12,8 @@ pub enum ForeignStep {
     /// If the node has the lock, and the description is within the limits and is of the service under this hash (by its pattern and its
     /// name, and as it states itself), the description is published and the node is registered.
     Publish { node: u64, description: Description },
-    /// The same with a line of version 1. It isn't possible if the service numbers its messages, which such a line can't state.
+    /// As `Publish`, with a line of version 1. The action isn't possible if the service numbers its messages, which such a line can't
+    /// state.
     PublishV1 { node: u64, description: Description },
     /// If the service exists, and the node isn't registered and may be, it is registered.
     Register { node: u64 },

@@ -1,4 +1,4 @@
-//! A table with foreign steps before each access.
+//! A table with actions of other nodes before each storage operation.
 ghost use Rattle.std.specs.Prelude.{◌≡◌, drop};
 ghost use Rattle.iox_negotiate_table.specs.Stepped.{ActsAll, next_list};
 
@@ -7,12 +7,12 @@ use crate::table::Table;
 use iox_describe::ServiceHash;
 use iox_negotiate_base::{
     LeaveAnswer, LockAnswer, LookAnswer, MakeSegmentAnswer, OpenSegmentAnswer, PublishAnswer,
-    RemoveAnswer, Storage,
+    RemoveAnswer, Storage, StoredDescription,
 };
 use std::alloc::AllocError;
 use std::marker::Model;
 
-/// Foreign steps that are made one after another. Contracts see their list.
+/// Actions of foreign nodes that are made one after another. Contracts see their list.
 pub struct StepList {
     steps: Vec<ForeignStep>,
 }
@@ -34,14 +34,14 @@ impl Model for StepList {
 }
 
 impl StepList {
-    /// A list of these steps.
+    /// A list of these actions.
     pub fn new(steps: Vec<ForeignStep>) -> Self
         ensures { result ≡ steps.items }
     {
         StepList { steps }
     }
 
-    /// The steps.
+    /// The actions.
     pub fn as_slice(&self) -> &[ForeignStep]
         ensures { result.now ≡ self.now }
     {
@@ -49,9 +49,9 @@ impl StepList {
     }
 }
 
-/// A table on which foreign nodes act: the first list of steps comes before the first access that looks up, locks, makes, publishes or
-/// opens something, the second list before the second such access, and so on. If memory for a step runs out, the access returns
-/// `OutOfMemory`, and the steps before remain.
+/// A table on which foreign nodes act: the first list of actions comes before the first storage operation that looks up, locks, makes,
+/// publishes or opens something, the second list before the second storage operation of these kinds, and so on. If memory for an action
+/// runs out, the storage operation returns `OutOfMemory`, and the actions before remain.
 #[derive(Drop)]
 pub struct Stepped {
     table: Table,
@@ -71,7 +71,7 @@ impl Model for Stepped {
 impl Stepped {
     ghost use Rattle.iox_negotiate_table.specs.Stepped.{Steps};
 
-    /// The table, with these lists of steps to be made.
+    /// The table, with these lists of actions to be made.
     pub fn new(table: Table, lists: Vec<StepList>) -> Self
         ensures { result ≡ record { table = table; lists = lists.items } }
     {
@@ -82,14 +82,14 @@ impl Stepped {
         }
     }
 
-    /// The table as it is now; the steps in the remaining lists are not made.
+    /// The table as it is now; the actions in the remaining lists are not made.
     pub fn into_table(self) -> Table
         ensures { result ≡ self.table }
     {
         self.table
     }
 
-    // Makes the steps of the next list.
+    // Makes the actions of the next list.
     fn run_list(&mut self, hash: &ServiceHash) -> Result<(), AllocError>
         ensures acts { ActsAll hash.now (next_list self.old.lists) self.old.table result self.new.table }
         ensures lists { self.new.lists ≡ drop 1 self.old.lists }
@@ -102,7 +102,7 @@ impl Stepped {
     }
 }
 
-// Makes the steps one after another.
+// Makes the actions one after another.
 fn act_all(table: &mut Table, hash: &ServiceHash, steps: &[ForeignStep]) -> Result<(), AllocError>
     ensures { ActsAll hash.now steps.now table.old result table.new }
 {
@@ -152,7 +152,12 @@ impl Storage for Stepped {
         }
     }
 
-    fn publish(&mut self, hash: &ServiceHash, number: u64, bytes: &[u8]) -> PublishAnswer {
+    fn publish(
+        &mut self,
+        hash: &ServiceHash,
+        number: u64,
+        bytes: StoredDescription,
+    ) -> PublishAnswer {
         match self.run_list(hash) {
             Ok(()) => self.table.publish(hash, number, bytes),
             Err(_) => PublishAnswer::OutOfMemory,

@@ -29,10 +29,10 @@ impl Storage for Table {
         let Entry::Described { number, bytes } = entry else {
             return LookAnswer::Locked;
         };
-        match Vec::from_slice(self.alloc, bytes.as_bytes()) {
-            Ok(copy) => LookAnswer::Found {
+        match bytes.try_clone(self.alloc) {
+            Ok(bytes) => LookAnswer::Found {
                 number: *number,
-                bytes: StoredDescription::new(copy),
+                bytes,
             },
             Err(_) => LookAnswer::OutOfMemory,
         }
@@ -61,14 +61,16 @@ impl Storage for Table {
         }
     }
 
-    fn publish(&mut self, hash: &ServiceHash, number: u64, bytes: &[u8]) -> PublishAnswer {
+    fn publish(
+        &mut self,
+        hash: &ServiceHash,
+        number: u64,
+        bytes: StoredDescription,
+    ) -> PublishAnswer {
         if !self.may_publish(hash, number) {
             return PublishAnswer::Fault;
         }
-        let Ok(copy) = Vec::from_slice(self.alloc, bytes) else {
-            return PublishAnswer::OutOfMemory;
-        };
-        self.set_description(hash, number, StoredDescription::new(copy));
+        self.set_description(hash, number, bytes);
         PublishAnswer::Published
     }
 

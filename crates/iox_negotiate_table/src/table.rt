@@ -1,5 +1,5 @@
 //! The table of services.
-ghost use Rattle.std.specs.Prelude.{◌≡◌, ◌-◌, ◌^◌, is_some, IsSome, OnOk, OnErr, nat_eq};
+ghost use Rattle.std.specs.Prelude.{◌≡◌, ◌-◌, ◌^◌, is_some, option_copied, IsSome, OnOk, OnErr, nat_eq};
 ghost use Rattle.iox_negotiate_table.specs.Contents.{entry_at, with_entry, with_new_segment, segment_at, may_make, may_publish};
 ghost use Rattle.iox_negotiate_table.specs.Contents.{may_unlock, is_published, is_own_lock, is_lock_of, is_left};
 ghost use Rattle.iox_negotiate_table.specs.declared.entry.Entry.TheVariants.{Described};
@@ -60,6 +60,15 @@ impl Table {
             entries: BTreeMap::new(alloc),
             segments: BTreeMap::new(alloc),
         }
+    }
+
+    /// The lock or the description under a hash, if there is one.
+    ///
+    /// Example: `let is_free = table.entry(&hash).is_none();`
+    pub fn entry(&self, hash: &ServiceHash) -> Option<&Entry>
+        ensures { option_copied result ≡ entry_at hash.now self.now }
+    {
+        self.entries.get(&hash.digest)
     }
 
     // Whether an own node may make the segment.
@@ -222,7 +231,7 @@ impl Table {
         segment.open(node)
     }
 
-    // Takes a factory off the segment of a service whose description exists.
+    // Removes a factory of a node from the segment of a service whose description exists.
     pub(crate) fn leave_published(
         &mut self,
         hash: &ServiceHash,

@@ -64,7 +64,7 @@ below place capacity n false e same some = omega arith
 above : (left n : ℕ) → left ≤ n → (left ≡ 0 → ⊥) → 0 < n
 above left n few differs = omega (arith, few, differs)
 
--- to the next place if one is left; else each place is behind
+-- to the next place if one is left; else each place has been passed
 goes_on : (max n : ℕ) (events : List Event) (place left capacity : ℕ) (all : Bool) → capacity ≡ n → left ≤ n → AddNone n events
     → (all ≡ false → TakeNone n events)
     → (b b2 : Bool) → (left == 0) ≡ b → nat_lt place capacity ≡ b2
@@ -90,7 +90,7 @@ goes_on max n events place left capacity all same few adds takes false false e e
     let some : 0 < n = above left n few (eqb-false left 0 e) in
     record { whole = same; there = some; few = few; adds = adds; takes = takes; passed = passed }
 
--- behind the next place: behind this one, or this one
+-- passed before the next place: passed before this one, or this one
 behind_next : (n place left i : ℕ) (b : Bool) → n < 2 ^ 64 → place < n → i < n → (place ≡ i → ⊥) → nat_lt (successor place) n ≡ b
     → IsBehind n (if b then successor place else 0) (left - 1) i → IsBehind n place left i
 behind_next n place left i true few there within differs e h =

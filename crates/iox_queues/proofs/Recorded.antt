@@ -1,4 +1,4 @@
--- One more step goes on with what the steps say, for calls of any kind.
+-- One more step extends what the steps say, for calls of any kind.
 use Rattle.std.proofs.Common.{◌≡◌, ℕ, List, [], ◌∷◌, ◌++◌, refl, ap, subst}
 use Rattle.iox_queues_steps.specs.Access.{RingWords, answer_of, after_access}
 use Rattle.iox_queues_steps.specs.declared.access.Access.{Access}

@@ -56,7 +56,7 @@ module _ {M : Type 0} (answers : M → Access → ℕ → M → Type 0) where
         from-seen write value found given runs.1.0 after end (found == write) refl runs.1.2
         (λ again. from-write found given runs.1.0 after end again over)
 
-  -- a load that is over saw the same position before and behind its last look at the cell
+  -- a load that is over saw the same position before and after its last look at the cell
   pub load-ends : (given : List ℕ) (memory after : M) (end : Loading) → Loads given memory loading.Begun after end
       → load_is_over end ≡ true → EndsUnmoved given
   load-ends [] memory after end runs over = absurd (let bad : load_is_over end ≡ false = ap load_is_over runs.1 in cc)

@@ -12,7 +12,7 @@ use Rattle.iox_queues.specs.declared.bits.machine.Event.{Event}
 use Rattle.iox_queues.proofs.Knowing.{eqb_differs, eqb_same}
 use Rattle.iox_queues.proofs.OwnSteps.{own_else, own_else_since, own_more, own_more_since}
 
--- the calls that ended keep their steps, and others come behind them
+-- the calls that ended keep their steps, and others come after them
 spans_on : (p : ℕ) (events : List Event) (e : Event) (ended : List Span) → AreWithin events ended
     → spans p (events ++ e ∷ []) ended ≡ spans p events ended
 spans_on p events e [] h = refl

@@ -1,4 +1,4 @@
--- What a step of a machine of parties tells of its calls, and what a list of steps is, for machines of any kind.
+-- What a step of a machine of parties says of its calls, and what a list of steps is, for machines of any kind.
 use Rattle.std.proofs.Common.{◌≡◌, ℕ, ◌+◌, ◌≤◌, inl, inr, Bool, true, false, Option, None, List, [], ◌∷◌, length, sym, subst, arith, refl}
 use Rattle.iox_queues_steps.specs.Schedule.{count_of, is_stopped_of}
 use Rattle.iox_queues_steps.specs.declared.schedule.Stepped.{Stepped}

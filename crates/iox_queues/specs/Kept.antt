@@ -13,7 +13,8 @@ use Rattle.iox_queues.specs.declared.bits.machine.Event.{Event}
 abbrev pub IsBehind : ℕ → ℕ → ℕ → ℕ → Type 0
 IsBehind n place left i = (place ≤ i → place + left ≤ i) × (i < place → place + left ≤ i + n)
 
--- A scan with `left` places left raised no count, found each place behind it at 0 or reset it, and reset none if it looks for one.
+-- A scan with `left` places left raised no count. It found each place that it has passed at 0, or reset it; and it reset none if it
+-- is to reset only one.
 pub record Sweeps (n : ℕ) (events : List Event) (place : ℕ) (left : ℕ) (capacity : ℕ) (all : Bool) : Type 0 where
   pub whole : capacity ≡ n
   pub there : place < n

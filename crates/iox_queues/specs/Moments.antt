@@ -14,7 +14,8 @@ abbrev pub words_after : RingWords → List Event → RingWords
 words_after words [] = words
 words_after words (event ∷ events) = words_after (after_access words event.access) events
 
--- Among the steps, at or behind the step `first`, is one of the party that found such a count at the place and left such a count.
+-- Among the steps from the step `first` on is one of the party for which `IsSo` holds of the count that it found at the place and the
+-- count that it left there.
 pub record HasMoment (words : RingWords) (party first place : ℕ) (IsSo : ℕ → ℕ → Type 0) (events : List Event) : Type 0 where
   pub earlier : List Event
   pub event : Event
@@ -45,9 +46,9 @@ IsAtZero before after = before ≡ 0
 abbrev pub IsAtZeroOrTakenOut : ℕ → ℕ → Type 0
 IsAtZeroOrTakenOut before after = IsAtZero before after ⊎ IsTakenOut before after
 
--- The moments of a call with this result, in a set of `n` places whose largest count is `max`. A set has one at which the count of its
--- place rises by one or is the largest. A reset of the next place has one at which that place is reset; if it found none, it has one for
--- each place, at which its count is 0. A reset of all has one for each place, at which its count is 0 or is reset.
+-- The moments of a call with this result, in a set of `n` places whose largest count is `max`. A `Set` has one at which the count of
+-- its place rises by one or is the largest. A reset of the next place has one at which that place is reset; if it found none, it has
+-- one for each place, at which its count is 0. A reset of all has one for each place, at which its count is 0 or is reset.
 abbrev pub MomentsOf : ℕ → ℕ → ℕ → ℕ → Call → Answer → List Event → Type 0
 MomentsOf max n party first (call.Set place) (Added true) events =
     HasMoment (start_words n) party first place IsOneMore events

@@ -49,9 +49,9 @@ TakeNone n events = (i : ℕ) → taken_out n i events ≡ 0
 abbrev pub FindEachNone : ℕ → List Event → Type 0
 FindEachNone n events = (i : ℕ) → i < n → list_any (finds_none n i) events ≡ true
 
--- What a call's result says of its steps, in a set of `n` places whose largest count is `max`. A set raised the count of its place by one
--- and changed nothing else, or found its place full. A reset of the next place reset that place once and no other, or found each place at
--- 0. A reset of all found each place at 0 or reset it, and raised none.
+-- What a call's result says of its steps, in a set of `n` places whose largest count is `max`. A `Set` raised the count of its place by one
+-- and changed nothing else, or found its place full. A reset of the next place reset that place once and no other, or found that each place
+-- has count 0. A reset of all places reset each place or found that its count is 0, and raised none.
 abbrev pub Tells : ℕ → ℕ → Call → Answer → List Event → Type 0
 Tells max n (call.Set place) (Added true) events =
     (place < n) × ((i : ℕ) → increments n i events ≡ (if place == i then 1 else 0)) × TakeNone n events

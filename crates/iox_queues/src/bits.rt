@@ -9,7 +9,7 @@
 //! A first call:
 //!
 //! ```
-//! /// `iox_queues`: a new set of eight places on which the parties made these steps; what each call that ended answered is
+//! /// `iox_queues`: a new set of eight places on which the parties made these steps; the result of each finished call is
 //! /// what its own steps did.
 //! fn ran(
 //!     alloc: Global,

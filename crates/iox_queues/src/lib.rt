@@ -9,8 +9,8 @@
 //! A first call:
 //!
 //! ```
-//! /// `iox_queues`: shares a queue and pushes a number; as many may wait there as before. The queue comes back where no memory is
-//! /// found.
+//! /// `iox_queues`: shares a queue and pushes a number; its capacity stays the same. If memory runs out, the queue is
+//! /// returned.
 //! fn shared_with(
 //!     alloc: Global,
 //!     queue: IndexQueue,

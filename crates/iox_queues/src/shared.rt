@@ -22,7 +22,7 @@ use std::marker::PhantomData;
 use std::sync::atomic::{AtomicU64, Ordering};
 use words::SharedWords;
 
-/// After how many lost exchanges a pop gives up, and after how many moves of the position a load does.
+/// A pop gives up after it lost this many exchanges. A load gives up after the position moved this many times meanwhile.
 pub const LOST_TURNS: u32 = 1 << 20;
 
 /// A structure that can be shared: its values are stored in cells of words.

@@ -7,7 +7,7 @@ use Rattle.std.proofs.lemmas.List.Kept.{AllPairs-cons}
 use Rattle.iox_queues_base.specs.declared.bits.BitState.{BitState}
 use Rattle.iox_queues_base.specs.Bits.{ListsMembers, ListsCounts, members_from, members, counted_from, counted}
 
--- what stands in a list is its first item, or stands behind it
+-- what stands in a list is its first item, or stands after it
 Contains-cases : {X : Type 0} (x : X) (xs : List X) (y : X) → Contains (x ∷ xs) y → (x ≡ y) ⊎ Contains xs y
 Contains-cases x xs y (zero, within, is) = inl is
 Contains-cases x xs y (suc k, within, is) = inr (k, omega (arith, within), is)

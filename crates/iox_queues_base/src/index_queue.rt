@@ -44,7 +44,7 @@ impl<K> Model for NumberQueue<K> {
 }
 
 impl<K> NumberQueue<K> {
-    /// An empty queue, which allocates memory for `capacity` numbers. It fails only where an allocation fails.
+    /// An empty queue, which allocates memory for `capacity` numbers. It fails only if an allocation fails.
     pub fn new(alloc: Global, capacity: usize) -> Result<NumberQueue<K>, AllocError>
         ensures { IfOk result (λ q. q ≡ record { waiting = []; capacity = capacity }) }
     {
@@ -155,7 +155,7 @@ impl<K, const CAPACITY: usize> Model for FixedSizeNumberQueue<K, CAPACITY> {
 }
 
 impl<K, const CAPACITY: usize> FixedSizeNumberQueue<K, CAPACITY> {
-    /// An empty queue, which allocates all its memory. It fails only where an allocation fails.
+    /// An empty queue, which allocates all its memory. It fails only if an allocation fails.
     pub fn new(alloc: Global) -> Result<FixedSizeNumberQueue<K, CAPACITY>, AllocError>
         ensures { IfOk result (λ q. q ≡ []) }
     {

@@ -9,7 +9,7 @@
 //! A first call:
 //!
 //! ```
-//! /// `iox_queues_base`: a number that goes through an empty queue.
+//! /// `iox_queues_base`: puts a number into an empty queue, and takes it out again.
 //! fn passed(queue: &mut IndexQueue, number: u64) -> Option<u64>
 //!     requires empty { queue.old.waiting ≡ [] }
 //!     requires room { 0 < queue.old.capacity }

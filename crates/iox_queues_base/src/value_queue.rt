@@ -27,7 +27,7 @@ impl<T: Words, const CAPACITY: usize> Model for Queue<T, CAPACITY> {
 }
 
 impl<T: Words, const CAPACITY: usize> Queue<T, CAPACITY> {
-    /// An empty queue, which allocates all its memory. It fails only where an allocation fails.
+    /// An empty queue, which allocates all its memory. It fails only if an allocation fails.
     pub fn new(alloc: Global) -> Result<Queue<T, CAPACITY>, AllocError>
         ensures { IfOk result (λ q. q ≡ []) }
     {

@@ -1,4 +1,4 @@
--- One more step of an end goes on with its call in hand, or ends it.
+-- One more step of an end continues its call in progress, or ends it.
 use Rattle.std.proofs.Common.{◌≡◌, ℕ, ◌-◌, Bool, true, false, if◌then◌else◌, ◌==◌, ◌%◌, nat_lt, Some, None, slice_index, List, [], ◌∷◌}
 use Rattle.std.proofs.Common.{◌++◌, map, length, refl, sym, ◌∙◌, ap, subst, arith, append-nil}
 use Rattle.iox_queues_steps.specs.Access.{RingWords, answer_of, successor}

@@ -1,4 +1,4 @@
--- Each step on a ring of either kind keeps the shape, and stands in the order as it should.
+-- Each step on a ring of either kind preserves the shape, and its acts are in the order as required.
 use Rattle.std.proofs.Common.{◌≡◌, ℕ, ◌+◌, ◌-◌, ◌^◌, ◌%◌, ◌<◌, ◌≤◌, Bool, true, false, if◌then◌else◌, nat_lt, List, [], ◌++◌, length}
 use Rattle.std.proofs.Common.{replicate, slice_index, refl, sym, ◌∙◌, ap, subst, arith, append-nil, length-append, mod-eq_of_lt}
 use Rattle.std.proofs.Math.ListN.{get_or-append}
@@ -137,7 +137,7 @@ pub pop_grows : (words : RingWords) (pop : Pop) → (after_access words (pop_nex
 pop_grows words (pop.Overflowing c) = overflowing_pops.pop_grows words c
 pop_grows words (pop.Refusing c) = refusing_steps.pop_grows words c
 
--- a push that begins has nothing in hand, and fits where none was under way
+-- a push that begins has nothing in hand, and fits where none was in progress
 pub record PushBegins (kind : RingKind) (limit : ℕ) (words : RingWords) (q : List ℕ) (push : Push) (pop : Pop) (value : ℕ) : Type 0 where
   pub shape : Shape kind limit words q (push_begun kind limit value) pop
   pub before : put_in_hand words.read push ≡ []
@@ -165,7 +165,7 @@ push_begins_shape kind.Refusing limit words q (push.Refusing p) (pop.Refusing c)
   hand = refl;
 }
 
--- a pop or a look that begins has nothing in hand, and fits where none was under way
+-- a pop or a look that begins has nothing in hand, and fits where none was in progress
 pub record PopBegins (kind : RingKind) (limit : ℕ) (words : RingWords) (q : List ℕ) (push : Push) (pop : Pop) (looks : Bool) : Type 0 where
   pub shape : Shape kind limit words q push (pop_first kind looks)
   pub before : pop_ended pop ≡ []

@@ -1,4 +1,4 @@
--- The cells from a position on hold a list, one behind the other, going round.
+-- The cells from a position on hold a list, one after the other, going round.
 use Rattle.std.proofs.Common.{◌≡◌, ℕ, suc, ◌+◌, ◌*◌, ◌/◌, ◌%◌, ◌^◌, ◌<◌, ◌≤◌, List, [], ◌∷◌, ◌++◌, length, set, drop, slice_index, sym}
 use Rattle.std.proofs.Common.{◌∙◌, subst, inl, inr, arith, length-append, mul-le-mul_left}
 use Rattle.std.proofs.Math.Seq.{get_or-set_same, get_or-set_other, get_or-append_seam}
@@ -27,7 +27,7 @@ held-push n cells read q value h last = record {
   ];
 }
 
--- a store behind the list leaves it
+-- a store after the list leaves it
 pub held-set : (n : ℕ) (cells : List ℕ) (read : ℕ) (q : List ℕ) (value : ℕ) → length q < n → Held n cells read q
     → Held n (set cells ((read + length q) % n) value) read q
 held-set n cells read q value room h = record {
@@ -41,7 +41,7 @@ held-drop n cells read (x ∷ q) h = record {
   each = λ k below. let e : read + 1 + k ≡ read + suc k = omega arith in rw e (h.each (suc k) (omega arith));
 }
 
--- a store of a value behind the list, and what its cell holds then
+-- a store of a value after the list, and what its cell holds then
 pub store_cell : (n : ℕ) (cells : List ℕ) (read : ℕ) (q : List ℕ) (write value : ℕ) → length cells ≡ n → write ≡ read + length q
     → length q < n → Held n cells read q → Held n (set cells (write % length cells) value) read q
     × (slice_index (set cells (write % length cells) value) (write % n) ≡ value)

@@ -1,4 +1,4 @@
--- An order that grows by what stands at one moment, and the calls beside it.
+-- An order to which the acts of one moment are appended, and the calls in progress meanwhile.
 use Rattle.std.proofs.Common.{◌≡◌, ℕ, ◌+◌, ◌≤◌, Bool, List, [], ◌∷◌, ◌++◌, map, refl, sym, ◌∙◌, ap, subst, arith, append_assoc, append-nil}
 use Rattle.std.specs.List.{AllZip}
 use Rattle.iox_queues_steps.specs.Order.{Acts, after_acts, after_act, acts_of, at, Rises, puts, takes, put_of, take_of, put_values}

@@ -1,4 +1,4 @@
--- Each step of a pop on the overflowing ring keeps the shape, and stands in the order as it should.
+-- Each step of a pop on the overflowing ring preserves the shape, and its acts are in the order as required.
 use Rattle.std.proofs.Common.{◌≡◌, ℕ, ◌+◌, ◌^◌, ◌%◌, ◌<◌, ◌≤◌, ◌⊎◌, Bool, true, false, if◌then◌else◌, ◌==◌, nat_lt, List, [], ◌∷◌, ◌++◌}
 use Rattle.std.proofs.Common.{length, drop, slice_get, slice_index, not, Some, None, refl, sym, ◌∙◌, ap, subst, inl, inr, arith}
 use Rattle.std.proofs.Common.{length-append, append-nil}
@@ -130,7 +130,7 @@ looked : (q : List ℕ) (read write seen : ℕ) (b : Bool) → (write == seen) �
 looked q read write seen true e none some = ap not e ∙ sym (le-ltb 0 (length q) (let h : length q ≡ 0 = none refl in omega arith))
 looked q read write seen false e none some = ap not e ∙ sym (lt-ltb 0 (length q) (some refl))
 
--- the put that waited goes behind what is left, when the pop has taken the oldest
+-- the put that waited goes after what is left, when the pop has taken the oldest
 pub record LateGoes (limit : ℕ) (rest : List ℕ) (write read next : ℕ) (cells : List ℕ) (push : Push) : Type 0 where
   pub list : List ℕ
   pub acts : Acts true limit rest (late_put read push)

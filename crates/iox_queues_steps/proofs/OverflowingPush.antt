@@ -1,4 +1,4 @@
--- Each step of a push on the overflowing ring keeps the shape, and stands in the order as it should.
+-- Each step of a push on the overflowing ring preserves the shape, and its acts are in the order as required.
 use Rattle.std.proofs.Common.{◌≡◌, ℕ, ◌+◌, ◌-◌, ◌^◌, ◌%◌, ◌<◌, ◌≤◌, Bool, true, false, if◌then◌else◌, ◌==◌, nat_lt, List, [], ◌∷◌, ◌++◌}
 use Rattle.std.proofs.Common.{length, set, drop, slice_index, refl, sym, ◌∙◌, ap, subst, arith, length-append, length-set, append-nil}
 use Rattle.std.proofs.Math.ListN.{get_or-append}
@@ -27,7 +27,7 @@ pub record PushGoes (limit : ℕ) (q : List ℕ) (pop : Pop) (ended hand : List 
   pub in_hand : ended ++ put_in_hand words.read push ≡ hand ++ put_values new
   pub takes : take_values new ≡ []
 
--- a put with room goes behind the rest
+-- a put with room goes after the rest
 pub put_over-room : (limit : ℕ) (q : List ℕ) (value : ℕ) → length q < limit → put_over limit q value ≡ q ++ value ∷ []
 put_over-room limit q value h = cond-true (nat_lt (length q) limit) _ _ (lt-ltb (length q) limit h)
 

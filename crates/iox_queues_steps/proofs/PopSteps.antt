@@ -31,7 +31,7 @@ emptied : (o : Bool) (limit : ℕ) (q beside : List ℕ) (b : Bool) → (b ≡ t
 emptied o limit q beside true none = inl (nothing_left q (none refl), refl)
 emptied o limit q beside false none = inl (refl, refl)
 
--- when the head is out, what lay aside is behind the rest, and nothing lies aside
+-- when the head is out, what lay aside is after the rest, and nothing lies aside
 late : (limit : ℕ) (words : RingWords) (x : ℕ) (rest : List ℕ) (next value seen : ℕ) (b : Bool) → (words.read == seen) ≡ b
     → next ≡ words.read + 1 → length (x ∷ rest) ≤ limit → IsLate limit words (x ∷ rest) value seen
     → (after_acts true limit rest (if b then Put value Kept ∷ [] else []) ≡ rest ++ numbers (if b then Put value Kept ∷ [] else []))

@@ -1,4 +1,4 @@
--- Each step on the ring that refuses keeps the shape, and stands in the order as it should.
+-- Each step on the ring that refuses preserves the shape, and its acts are in the order as required.
 use Rattle.std.proofs.Common.{◌≡◌, ℕ, ◌+◌, ◌-◌, ◌^◌, ◌%◌, ◌<◌, ◌≤◌, Bool, true, false, not, if◌then◌else◌, ◌==◌, nat_lt, List, [], ◌∷◌}
 use Rattle.std.proofs.Common.{◌++◌, length, set, drop, slice_get, slice_index, Some, None, refl, sym, ◌∙◌, ap, subst, arith}
 use Rattle.std.proofs.Common.{length-append, length-set}

@@ -1,4 +1,4 @@
--- One more step goes on with the call in hand of its party, or ends it.
+-- One more step continues its party's call in progress, or ends it.
 use Rattle.std.proofs.Common.{◌≡◌, ℕ, suc, ◌+◌, Bool, true, false, List, [], ◌∷◌, ◌++◌, length, refl, sym, ◌∙◌, ap, subst, arith}
 use Rattle.std.proofs.Common.{append_assoc, append-nil}
 use Rattle.iox_queues_steps.specs.Access.{RingWords, answer_of, after_access}

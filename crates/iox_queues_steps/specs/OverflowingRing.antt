@@ -14,8 +14,8 @@ use Rattle.iox_queues_steps.specs.declared.rings.overflowing.push.Push.TheVarian
 use Rattle.iox_queues_steps.specs.declared.rings.overflowing.pop.Pop.{Pop}
 use Rattle.iox_queues_steps.specs.declared.rings.overflowing.pop.Pop.TheVariants as pop
 
--- The put that takes effect at the next step of a push, if one does: at the store of its write position, unless that leaves more than
--- `limit` numbers unread; such a put takes effect at the next move of the read position.
+-- The put that takes effect at the next step of a push, if one does. A put takes effect at the store of the write position, or, if
+-- this store leaves more than `limit` numbers unread, at the next move of the read position.
 abbrev pub placed_by_push : ℕ → ℕ → Push → List Act
 placed_by_push limit read push.Idle = []
 placed_by_push limit read (push.Begun l value) = []
@@ -110,8 +110,8 @@ pop_ended (pop.Looked waiting) = Saw waiting ∷ []
 abbrev pub IsLevel : RingWords → List ℕ → Type 0
 IsLevel words q = words.read + length q ≡ words.write
 
--- A push stored its write position and may have exceeded the limit by one: until the read position moves from where the push saw it, the
--- push's number is in the cell behind the list.
+-- A push stored its write position and may have exceeded the limit by one: until the read position moves from where the push saw it,
+-- the push's number is in the cell that follows those of the list.
 pub record IsLate (limit : ℕ) (words : RingWords) (q : List ℕ) (value : ℕ) (seen : ℕ) : Type 0 where
   pub written : words.write ≡ seen + limit + 1
   pub seen_before : seen ≤ words.read

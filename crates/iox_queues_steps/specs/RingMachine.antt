@@ -168,7 +168,7 @@ IsPushTold kind limit call steps =
     IsWhole Push push_next push_take Producer (push_begun kind limit call.value) (push_done kind call.value call.answer) call.first
     call.last steps
 
--- The steps of a finished pop or look are those of such a call, up to its result.
+-- The steps of a finished pop or look are those of a call of its kind, up to its result.
 abbrev pub IsPopTold : RingKind → PopCall → List Timed → Type 0
 IsPopTold kind call steps =
     IsWhole Pop pop_next pop_take Consumer (pop_asked kind call.answer) (pop_done kind call.answer) call.first call.last steps

@@ -7,7 +7,7 @@
 //! - [`end`]: a call that requests one access after another, and the memory that performs them.
 //! - [`rings`]: rings of either kind, their two ends, and a machine that runs them.
 //!
-//! First calls, through the trait `End`. A `RingMachine` makes such calls itself.
+//! First calls, through the trait `End`; a `RingMachine` makes these calls itself.
 //!
 //! ```
 //! let answer = ring.apply(push.next());

@@ -31,7 +31,7 @@ impl Record {
         }
     }
 
-    /// Reserves memory for one more step, at which `acts` puts, takes or looks take effect. It fails only where an allocation fails.
+    /// Reserves memory for one more step, at which `acts` puts, takes or looks take effect. It fails only if an allocation fails.
     pub fn reserve(&mut self, acts: usize) -> Result<(), AllocError>
         ensures same { log_of self.new ≡ log_of self.old }
         ensures room { OnOk result (HasRoom acts self.new) }

@@ -1,4 +1,4 @@
--- The member of an addition is in when the call ends, unless its owner is lost.
+-- The member of an addition is in the container when the call ends, unless a recovery of its owner began.
 use Rattle.std.proofs.Common.{◌≡◌, ℕ, ◌<◌, true, false, Ok, Err, Option, Some, None, List, [], ◌∷◌, ◌++◌, length, slice_index}
 use Rattle.std.proofs.Common.{take, sym, ◌∙◌, ap, subst, arith}
 use Rattle.std.specs.Global.{Vec}

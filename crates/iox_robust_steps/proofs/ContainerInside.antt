@@ -1,4 +1,4 @@
--- Where no count is exchanged, a member stays till its own party takes it out.
+-- If no count is exchanged, a member stays until its own party removes it.
 use Rattle.std.proofs.Common.{◌≡◌, ℕ, Option, List, [], ◌∷◌, ◌++◌}
 use Rattle.std.proofs.Common.{refl, ◌∙◌, ap, subst}
 use Rattle.iox_queues_steps.specs.declared.access.Word.TheVariants.{Write, Read, Cell}

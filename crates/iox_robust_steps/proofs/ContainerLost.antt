@@ -1,4 +1,4 @@
--- An index of an owner whose recovery began stays its own till a recovery frees it.
+-- An owner whose recovery began keeps its indices until a recovery frees them.
 use Rattle.std.proofs.Common.{◌≡◌, ℕ, ◌+◌, ◌%◌, ◌<◌, Bool, true, false, if◌then◌else◌, ◌==◌, List, length}
 use Rattle.std.proofs.Common.{set, slice_index, refl, sym, ◌∙◌, ap, subst, arith, mod-eq_of_lt}
 use Rattle.std.proofs.Math.Seq.{get_or-set_other}

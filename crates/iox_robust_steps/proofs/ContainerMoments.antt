@@ -1,4 +1,4 @@
--- What stays at a place while a party's member is in there, where no recovery began.
+-- What doesn't change at a place that contains a party's member, if no recovery began.
 use Rattle.std.proofs.Common.{◌≡◌, ℕ, zero, suc, ◌+◌, ◌*◌, ◌<◌, Bool, true, false, if◌then◌else◌, ◌==◌}
 use Rattle.std.proofs.Common.{Option, Some, None, List, [], ◌∷◌, ◌++◌, length, set, slice_index, take, refl, sym, ◌∙◌, ap, subst}
 use Rattle.std.proofs.Common.{arith, mod-eq_of_lt}

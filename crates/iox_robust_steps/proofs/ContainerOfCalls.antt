@@ -31,7 +31,7 @@ spans_more : (xs ys : List MemberFinished) → member_spans (xs ++ ys) ≡ membe
 spans_more [] ys = refl
 spans_more (x ∷ xs) ys = ap (λ (ss : List Span). record { party = x.party; first = x.first; last = x.last } ∷ ss) (spans_more xs ys)
 
--- a call in hand is under way
+-- a call in hand is in progress
 busy : (t : ContainerCall) (c : MemberCall) → member_in_hand t ≡ Some c → member_is_idle t ≡ false
 busy stage.Idle c h = absurd (cc)
 busy (stage.Enter number owner) c h = refl

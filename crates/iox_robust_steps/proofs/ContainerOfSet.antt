@@ -31,7 +31,7 @@ use Rattle.iox_robust_steps.specs.declared.container.MemberFinished.{MemberFinis
 use Rattle.iox_robust_steps.specs.declared.machine.Finished.{Finished}
 use Rattle.iox_robust_steps.proofs.ContainerSet.{never_acquired, never_settled, never_taken}
 
--- calls behind others
+-- calls after others
 pub answered_append : (q : ℕ) (xs ys : List Finished) → answered_to q (xs ++ ys) ≡ answered_to q xs ++ answered_to q ys
 answered_append q [] ys = refl
 answered_append q (x ∷ xs) ys =

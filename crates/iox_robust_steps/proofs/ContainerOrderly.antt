@@ -1,4 +1,4 @@
--- What a container's machine shows: a new one keeps what each keeps, and what is kept gives the laws.
+-- What a container's machine shows: a new one satisfies the invariant, and the invariant implies the laws.
 use Rattle.std.proofs.Common.{◌≡◌, ℕ, zero, suc, ◌+◌, ◌*◌, ◌^◌, ◌<◌, ◌≤◌, Bool, true, false, List, [], ◌∷◌, length}
 use Rattle.std.proofs.Common.{slice_index, take, drop, replicate, if◌then◌else◌, ◌==◌, Ok, Err, Option, Some, None, refl, sym, ◌∙◌, ap}
 use Rattle.std.proofs.Common.{subst, arith}

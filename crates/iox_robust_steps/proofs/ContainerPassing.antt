@@ -1,5 +1,5 @@
--- Each addition and each removal that ended has its moment, a step of its own, whoever is recovered: told by what calls let pass, and by
--- how long members stay.
+-- Each finished addition and each finished removal takes effect at a step of its own, whoever is recovered: stated by what calls
+-- permit, and by how long members stay.
 use Rattle.std.proofs.Common.{◌≡◌, ℕ, ◌+◌, ◌*◌, ◌^◌, ◌<◌, ◌≤◌, ◌⊎◌, inl, inr, ⊎_elim, Bool, true, false, if◌then◌else◌, ◌==◌, ◌&&◌}
 use Rattle.std.proofs.Common.{nat_lt, Ok, Err, Option, Some, None, List, [], ◌∷◌, ◌++◌, length, slice_index, take, drop, refl, sym, ◌∙◌}
 use Rattle.std.proofs.Common.{ap, subst, append_assoc}

@@ -1,4 +1,4 @@
--- Where each party stands at a container, after one of them went on.
+-- The stage of each party of a container, after a party made a step.
 use Rattle.std.proofs.Common.{◌≡◌, ℕ, ◌<◌, ⊎_elim, Bool, true, false, nat_lt, Option, Some, None, List, length, set, slice_get}
 use Rattle.std.proofs.Common.{slice_index_or, replicate, refl, sym, ◌∙◌, subst, arith}
 use Rattle.std.specs.Option.{unwrap_or}

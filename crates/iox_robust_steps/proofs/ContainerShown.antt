@@ -1,4 +1,4 @@
--- A recovery leaves its owner no index at which no member is in, but where a recovery took one out meanwhile.
+-- After a recovery its owner has no index without a member, unless a recovery removed the member meanwhile.
 use Rattle.std.proofs.Common.{◌≡◌, ℕ, ◌+◌, ◌-◌, ◌^◌, ◌<◌, ◌≤◌, ◌⊎◌, inl, inr, ⊎_elim, Bool, true, false, not, if◌then◌else◌, ◌==◌, ◌&&◌}
 use Rattle.std.proofs.Common.{◌%◌, Ok, Err, ◌||◌, nat_lt, Option, Some, None, List, [], ◌∷◌, ◌++◌, length, set, slice_index, drop, refl}
 use Rattle.std.proofs.Common.{sym, ◌∙◌, ap}
@@ -87,7 +87,7 @@ KnowsIn n (stage.Clear owner number mode i) = i < n
 KnowsIn n (stage.Close owner number mode) = Unit {0}
 KnowsIn n (stage.Done c answer) = Unit {0}
 
--- each of these calls began among so many steps
+-- each of these calls began among n steps
 abbrev pub AreBegun : ℕ → List MemberFinished → Type 0
 AreBegun many [] = Unit {0}
 AreBegun many (f ∷ finished) = (f.first ≤ many) × AreBegun many finished

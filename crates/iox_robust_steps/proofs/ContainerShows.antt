@@ -1,4 +1,4 @@
--- A copy shows each member that is in at each moment of it, with its value, whoever is recovered.
+-- A copy shows each member that is in the container at each moment of the copy, with its value, whoever is recovered.
 use Rattle.std.proofs.Common.{◌≡◌, ℕ, ◌+◌, ◌*◌, ◌%◌, ◌^◌, ◌<◌, ◌≤◌, Bool, true, false, if◌then◌else◌, ◌==◌, ◌&&◌, Option, Some}
 use Rattle.std.proofs.Common.{None}
 use Rattle.std.proofs.Common.{List, [], ◌∷◌, ◌++◌, length, set, slice_index, take, drop, refl, sym, ◌∙◌, ap, subst, arith, append_assoc}

@@ -1,4 +1,4 @@
--- A member stays in a container till it is taken out, after each step of a party, whoever is recovered.
+-- A member stays in a container until it is removed, after each step of a party, whoever is recovered.
 use Rattle.std.proofs.Common.{◌≡◌, ℕ, ◌+◌, ◌-◌, ◌^◌, ◌<◌, Bool, true, false, not, if◌then◌else◌, ◌==◌, ◌&&◌, nat_lt, Option}
 use Rattle.std.proofs.Common.{Some, None, List, length, slice_index, drop, refl, sym, ◌∙◌, ap, subst, arith}
 use Rattle.std.proofs.lemmas.Bool.{eqb-false, eqb-true, ltb-true}

@@ -1,4 +1,4 @@
--- A member stays in a container till it is taken out, after each step.
+-- A member stays in a container until it is removed, after each step.
 use Rattle.std.proofs.Common.{◌≡◌, ℕ, ◌+◌, ◌*◌, ◌-◌, ◌%◌, ◌^◌, ◌<◌, ⊎_elim, Bool, true, false, not, if◌then◌else◌, ◌==◌, nat_lt, Ok, Err}
 use Rattle.std.proofs.Common.{Option}
 use Rattle.std.proofs.Common.{Some, None, List, [], ◌∷◌, ◌++◌, length, set, slice_index, drop, refl, sym, ◌∙◌, ap, subst, arith}
@@ -407,7 +407,7 @@ module _ (m : ContainerParts) (party : ℕ) (k : MembersAreKept m) (few : length
     nobody : (owner : ℕ) → is_lost owner m.indices.lost ≡ false
     nobody owner = ap (is_lost owner) none
 
-    -- no recovery of the set is under way
+    -- no recovery of the set is in progress
     not_lost : (owner : ℕ) → IsLostOwner m.indices owner → ⊥
     not_lost owner lost = let wrong : true ≡ false = sym lost.1 ∙ nobody owner in cc
 

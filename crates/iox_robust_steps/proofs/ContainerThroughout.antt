@@ -1,4 +1,4 @@
--- A copy shows each member that is in at each moment of it, with its value.
+-- A copy shows each member that is in the container at each moment of the copy, with its value.
 use Rattle.std.proofs.Common.{◌≡◌, ℕ, ◌+◌, ◌*◌, ◌%◌, ◌<◌, ◌≤◌, Bool, true, false, if◌then◌else◌, ◌==◌, Option, Some, None, List, [], ◌∷◌}
 use Rattle.std.proofs.Common.{◌++◌, length, set, slice_index, take, drop, refl, sym, ◌∙◌, ap, subst, arith, append_assoc, length-append}
 use Rattle.std.proofs.Common.{mod-eq_of_lt, length-take-le, take-append-drop}

@@ -1,4 +1,4 @@
--- Where the counts of places and the words of values lie, and what a store changes of them.
+-- Where the counts of places and the words of values are, and which of them a store changes.
 use Rattle.std.proofs.Common.{◌≡◌, ℕ, ◌+◌, ◌*◌, ◌/◌, ◌%◌, ◌^◌, ◌<◌, ◌≤◌, Bool, true, false, not, ◌==◌, List, [], ◌∷◌, ◌++◌}
 use Rattle.std.proofs.Common.{length, set, slice_index, take, refl, sym, ◌∙◌, ap, subst, arith, mod-eq_of_lt}
 use Rattle.std.proofs.Math.Nat.{mul_comm}

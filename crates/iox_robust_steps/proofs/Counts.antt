@@ -1,4 +1,4 @@
--- What one more step adds to how often an index was taken and given back.
+-- How one more step changes the number of times that an index was acquired and released.
 use Rattle.std.proofs.Common.{◌≡◌, ℕ, ◌+◌, ◌<◌, ◌≤◌, ⊎_elim, List, [], ◌∷◌, ◌++◌, length, take, sym, subst, arith, length-append, take_all}
 use Rattle.std.proofs.lemmas.Bool.{cases_lt}
 use Rattle.std.proofs.lemmas.List.{take-append-le}

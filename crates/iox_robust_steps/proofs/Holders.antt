@@ -1,4 +1,4 @@
--- No index has two holders, since it is taken and given back by turns.
+-- No index has two holders, since its acquires and releases alternate.
 use Rattle.std.proofs.Common.{◌+◌}
 use Rattle.std.proofs.Common.{◌≡◌, ℕ, ◌<◌, ◌≤◌, ⊎_elim, List, [], ◌∷◌, ◌++◌, length, take, refl, sym, ◌∙◌, ap, subst}
 use Rattle.std.proofs.Common.{arith}

@@ -1,4 +1,4 @@
--- An index that is held stands under the owner of the acquire that took it last, after each step.
+-- The owner of a held index is the owner of the acquire that took it last, after each step.
 use Rattle.std.proofs.Common.{◌≡◌, ℕ, ◌<◌, ◌≤◌, ◌⊎◌, inl, inr, ⊎_elim, Bool, true, false, if◌then◌else◌, ◌==◌, ◌&&◌, nat_lt, Ok, List, []}
 use Rattle.std.proofs.Common.{◌∷◌, ◌++◌, ◌+◌, length, set, slice_index, refl, sym, ◌∙◌, ap, subst, arith, append_assoc, length-append}
 use Rattle.std.proofs.Common.{drop, mod-eq_of_lt}

@@ -31,7 +31,7 @@ ended_more : (xs ys : List Finished) → spans_ended (xs ++ ys) ≡ spans_ended 
 ended_more [] ys = refl
 ended_more (x ∷ xs) ys = ap (λ (ss : List Span). record { party = x.party; first = x.first; last = x.last } ∷ ss) (ended_more xs ys)
 
--- a call in hand is under way
+-- a call in hand is in progress
 busy : (s : RobustCall) (c : Call) → call_in_hand s ≡ Some c → call_is_idle s ≡ false
 busy stage.Idle c h = absurd (cc)
 busy (stage.Acquire owner) c h = refl

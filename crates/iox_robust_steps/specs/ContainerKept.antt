@@ -119,13 +119,14 @@ LeavesShown indices cells first events call.Update = Unit {0}
 LeavesShown indices cells first events (call.Recover owner number mode) =
     HaveShown indices cells first events owner indices.capacity
 
--- Each of these recoveries leaves the indices of its owner so.
+-- Each of these recoveries left the indices of its owner as `LeavesShown` says.
 abbrev pub LeaveShown : RobustSetState → List ℕ → List Event → List MemberFinished → Type 0
 LeaveShown indices cells events [] = Unit {0}
 LeaveShown indices cells events (f ∷ finished) =
     LeavesShown indices cells f.first events f.call × LeaveShown indices cells events finished
 
--- If the call in progress is a recovery, the indices that it has visited are left so, and also the one at whose place it read a member.
+-- If the call in progress is a recovery, each index that it has visited, and the one at whose place it read a member, either isn't
+-- its owner's any more, or has a member, or lost it to a recovery since the call began.
 abbrev pub ShownSoFar : RobustSetState → List ℕ → ℕ → List Event → ContainerCall → Type 0
 ShownSoFar indices cells first events stage.Idle = Unit {0}
 ShownSoFar indices cells first events (stage.Enter number owner) = Unit {0}

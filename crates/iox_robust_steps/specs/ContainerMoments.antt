@@ -34,7 +34,7 @@ pub record IsInWith (n width : ℕ) (start : RingWords) (party place : ℕ) (val
 abbrev pub IsNotIn : ℕ → ℕ → List Event → Type 0
 IsNotIn party place events = IsInside party place events → ⊥
 
--- The fact holds after the steps `earlier`, and at each moment of the steps behind them.
+-- The fact holds after the steps `earlier`, and at each moment of the steps that follow them.
 abbrev pub IsSoFrom : (List Event → Type 0) → List Event → List Event → Type 0
 IsSoFrom IsSo earlier later = (steps rest : List Event) → later ≡ steps ++ rest → IsSo (earlier ++ steps)
 
@@ -52,10 +52,10 @@ abbrev pub IsExpelledIn : ℕ → List Event → Type 0
 IsExpelledIn place [] = ⊥
 IsExpelledIn place (event ∷ events) = (expels place event.access event.answer ≡ true) ⊎ IsExpelledIn place events
 
--- An addition, which the party began with the step `first`, takes effect at one step of its party. Before this step nobody's member is at
--- the place, and at no moment of the call is one of the party there, except one that a recovery removes before this step. After this step
--- its member is there at each moment, with exactly this value, until a recovery removes it; and no recovery does until these steps end,
--- unless the owner's recovery began.
+-- An addition, which the party began with the step `first`, takes effect at one step of its party. Before this step nobody's member
+-- is at the place, and at no moment of the call is a member of the party there, except one that a recovery removes before this step.
+-- After this step the added member is there at each moment, with exactly this value, until a recovery removes it; and no recovery
+-- does until these steps end, unless the owner's recovery began.
 pub record AddsAt (n width : ℕ) (start : RingWords) (gone : Bool) (party first : ℕ) (events : List Event) (place : ℕ) (value : List ℕ)
     : Type 0 where
   pub earlier : List Event

@@ -112,7 +112,7 @@ HasReason set party (call.Recover owner number mode) (Removed state) =
     SetAnswered set party (set_call.Recover owner number mode) (Settled state)
 HasReason set party (call.Recover owner number mode) (Updated copied) = Unit {0}
 
--- Each of these calls has such a reason.
+-- Each of these calls has the reason of its result in its call on the set.
 abbrev pub HaveReasons : RobustSetState → List MemberFinished → Type 0
 HaveReasons set [] = Unit {0}
 HaveReasons set (f ∷ finished) = HasReason set f.party f.call f.answer × HaveReasons set finished

@@ -46,7 +46,7 @@ pub record RecoversMembersSo (n width : ℕ) (indices : RobustSetState) (cells c
   pub values : (i j : ℕ) → i < n → j < width
       → slice_index cells' (value_cell n width i j) ≡ slice_index cells (value_cell n width i j)
 
--- If the call is a recovery, its step does that; the steps of any other call exchange no count.
+-- If the call is a recovery, its step changes the members only as a recovery may; the steps of any other call exchange no count.
 abbrev pub IfRecoversMembers : ℕ → ℕ → RobustSetState → List ℕ → List ℕ → List Event → Option MemberCall → Type 0
 IfRecoversMembers n width indices cells cells' added None = IsCalm added
 IfRecoversMembers n width indices cells cells' added (Some (call.Add number owner)) = IsCalm added

@@ -27,8 +27,8 @@ is_shown count = count % 2 == 1
 abbrev pub bounded : ℕ → ℕ
 bounded number = min number (2 ^ 64 - 1)
 
--- The cell of word `j` of the value at a place, where `n` places have values of `width` words: behind the counts of all places are the
--- values, one after another.
+-- The cell of word `j` of the value at a place, where `n` places have values of `width` words. First come the counts of all places,
+-- then the values, one after another.
 abbrev pub value_cell : ℕ → ℕ → ℕ → ℕ → ℕ
 value_cell n width place j = bounded (n + bounded (bounded (place * width) + j))
 

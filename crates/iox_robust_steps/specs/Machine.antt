@@ -29,9 +29,9 @@ use Rattle.iox_robust_steps.specs.declared.state.Place.{Place}
 use Rattle.iox_robust_steps.specs.declared.state.Place.TheVariants as place
 use Rattle.iox_robust_steps.specs.declared.state.Seat.{Seat}
 
--- The state: how many indices there are, the decisions of recoveries, whether a step may insist against them, the words, the stage of each
--- party, the state of each index, the owners whose recovery began, the steps made, and the finished calls. The read position stores the
--- count; the cell of an index names its owner; behind the cells is a spare one.
+-- The state: how many indices there are, the decisions of recoveries, whether a step may insist against them, the words, the stage of
+-- each party, the state of each index, the owners whose recovery began, the steps made, and the finished calls. The read position
+-- stores the count; the cell of an index names its owner; the cells of the indices are followed by a spare one.
 pub record RobustSetState : Type 0 where
   pub capacity : ℕ
   pub decisions : List (Vec Bool)

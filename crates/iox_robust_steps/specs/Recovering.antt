@@ -34,7 +34,7 @@ pub record RecoversSo (n : ℕ) (decisions : List (Vec Bool)) (may : Bool) (word
       → IndexStays words words' places places' i ⊎ FreesIndex decisions may words words' places places' owner number i
   pub count : (words'.read ≡ words.read) ⊎ (words'.read ≡ lock_mark)
 
--- If the call is a recovery, its step does that.
+-- If the call is a recovery, its step changes the indices and the count only as a recovery may.
 abbrev pub IfRecovers : ℕ → List (Vec Bool) → Bool → RingWords → RingWords → List Place → List Place → Option Call → Type 0
 IfRecovers n decisions may words words' places places' None = Unit {0}
 IfRecovers n decisions may words words' places places' (Some (call.Acquire owner)) = Unit {0}

@@ -161,12 +161,12 @@ has_locked (call.Release owner index LockIfLastIndex) (Settled Locked) = true
 has_locked (call.Recover owner number LockIfLastIndex) (Settled Locked) = true
 has_locked other answer = false
 
--- Whether one of these calls is such a call.
+-- Whether one of these calls was to lock the set, and reports that it is locked.
 abbrev pub some_has_locked : List Finished → Bool
 some_has_locked [] = false
 some_has_locked (f ∷ finished) = has_locked f.call f.answer || some_has_locked finished
 
--- Whether a call in progress is such a call that has its result.
+-- Whether a call in progress was to lock the set, and has the result that it is locked.
 abbrev pub is_locking : RobustCall → Bool
 is_locking stage.Idle = false
 is_locking (stage.Acquire owner) = false

@@ -88,7 +88,7 @@ impl ContainerMachine {
 
     /// An empty container with this capacity and this many parties, to which these values may be added. If `values` is empty, each value
     /// has no words. A recovery names a list of decisions by its number; the list says for each place whether its member is to be removed,
-    /// and a member without a decision stays. It fails only where an allocation fails.
+    /// and a member without a decision stays. It fails only if an allocation fails.
     pub fn new(
         alloc: Global,
         capacity: usize,

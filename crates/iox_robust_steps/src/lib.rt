@@ -11,8 +11,8 @@
 //! A first call:
 //!
 //! ```
-//! /// `iox_robust_steps`: a new set of eight indices on which the parties made these steps; recoveries free what they find. Where
-//! /// fewer than 2^64 - 1 steps were made, no index has two holders, and an acquire took just the index that it answers.
+//! /// `iox_robust_steps`: a new set of eight indices on which the parties made these steps; recoveries free what they find. If
+//! /// fewer than 2^64 - 1 steps were made, no index has two holders, and an acquire took exactly the index that it returns.
 //! fn ran(
 //!     alloc: Global,
 //!     parties: usize,

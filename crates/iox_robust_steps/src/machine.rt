@@ -73,7 +73,7 @@ impl RobustSetMachine {
 
     /// A set of this many indices, none of which is held, with this many parties and the decisions of recoveries. A recovery names a list
     /// of decisions by its number; the list says for each index whether it is to be freed, and an index without a decision is kept. It
-    /// fails only where an allocation fails.
+    /// fails only if an allocation fails.
     pub fn new(
         alloc: Global,
         capacity: usize,

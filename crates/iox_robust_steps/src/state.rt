@@ -41,7 +41,7 @@ pub(crate) struct State {
     pub(crate) decisions: Vec<Vec<bool>>,
     // Whether a step may insist on freeing an index against the decisions.
     pub(crate) may_insist: bool,
-    // The read position of the ring stores the count; behind the cells of the indices is a spare one.
+    // The read position of the ring stores the count. The cells of the indices are followed by a spare one.
     pub(crate) ring: Ring,
     pub(crate) seats: Vec<Seat>,
     pub(crate) places: Vec<Place>,

@@ -8,7 +8,7 @@ use Rattle.iox_conversation.proofs.LineLemmas.{heard-whole, is_unbroken, lines_o
 use Rattle.iox_conversation.proofs.WholeLineLemmas.{heard_whole-done, heard_whole-more}
 use Rattle.iox_conversation.specs.Lines.{heard_whole}
 
--- bytes up to their first newline, and those behind it
+-- bytes up to their first newline, and those after it
 abbrev SplitsAtNewline : List ℕ → Type 0
 SplitsAtNewline bytes = (first : List ℕ) × (more : List ℕ) × (bytes ≡ first ++ (10 ∷ more)) × (is_unbroken first ≡ true)
 
@@ -73,7 +73,7 @@ due-longer ended bytes piece line done unbroken heards (inr (none, at_end, some)
       last,
     ))
 
--- the lines that the first bytes of a piece end come behind those before it, and others behind them
+-- the lines that the first bytes of a piece end come after those before it, and others after them
 pub whole-by : (ended : Bool) (bytes piece first more line then : List ℕ) (done lines : List (List ℕ)) → is_unbroken line ≡ true
     → is_unbroken then ≡ true → piece ≡ first ++ more → ((rest : List ℕ) → heard (bytes ++ rest) ≡ done ++ heard (line ++ rest))
     → ((rest : List ℕ) → heard (line ++ (first ++ rest)) ≡ lines ++ heard (then ++ rest))
@@ -90,7 +90,7 @@ whole-by ended bytes piece first more line then done lines unbroken unbroken_the
           ∙ append_assoc (heard_whole false bytes) lines others.0)),
     )
 
--- at the end of the input the last line comes behind those before it
+-- at the end of the input the last line comes after those before it
 pub whole-at_end : (ended : Bool) (bytes piece line : List ℕ) (done : List (List ℕ)) → is_unbroken line ≡ true → piece ≡ []
     → ended ≡ true → ((rest : List ℕ) → heard (bytes ++ rest) ≡ done ++ heard (line ++ rest))
     → heard_whole ended (bytes ++ piece) ≡ heard_whole false bytes ++ (heard (line ++ []) ++ [])

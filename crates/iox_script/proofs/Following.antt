@@ -138,14 +138,14 @@ conversation_as_new_machine law config script (Some bytes) held holds (Ok done) 
 conversation_as_new_machine law config script None held holds (Ok done) new said few = tt
 conversation_as_new_machine law config script left held holds (Err error) new said few = tt
 
--- A text is what a new machine may answer to lines, and one more is what it may go on to answer to the lines behind them.
+-- A text is what a new machine may answer to lines, and one more is what it may go on to answer to the lines after them.
 abbrev GoesOnAsNewMachine : ℕ → List (List ℕ) → List ℕ → List (List ℕ) → List ℕ → Type 0
 GoesOnAsNewMachine buffer lines text behind more =
     (reads : List (Result (Command ℕ) LineError)) × (later : List (Result (Command ℕ) LineError)) × (replies : List (Reply ℕ))
     × AllZip IsReadAs lines reads × AllZip IsReadAs behind later × (text ≡ reply_lines reads replies)
     × (text ++ more ≡ reply_lines (reads ++ later) replies) × NewMachineMayReply buffer (reads ++ later) replies
 
--- what lines and those behind them are read as, a run of the commands among them all, and the texts of its replies and of the faults
+-- what lines and those after them are read as, a run of the commands among them all, and the texts of its replies and of the faults
 abbrev IsRunOnward : List (List ℕ) → ScriptHub → List ℕ → List (List ℕ) → ScriptHub → List ℕ → Type 0
 IsRunOnward lines old text behind new more =
     (reads : List (Result (Command ℕ) LineError)) × (later : List (Result (Command ℕ) LineError)) × (replies : List (Reply ℕ))
@@ -198,7 +198,7 @@ onward_of_none behind old mid new text more same none run = (
   rw none run.4,
 )
 
--- lines and those behind them are answered by a run
+-- lines and those after them are answered by a run
 onward_of_lines : (old mid new : Script) (lines behind : List (List ℕ)) (text more : List ℕ) → Served AnswersLine old lines text mid
     → Served AnswersLine mid behind more new → IsRunOnward lines old.hub text behind new.hub more
 onward_of_lines old mid new [] behind text more served next =
@@ -215,7 +215,7 @@ are-append (line ∷ lines) behind (read ∷ reads) later are more = (are.0, are
 are-append [] behind (read ∷ reads) later are more = absurd are
 are-append (line ∷ lines) behind [] later are more = absurd are
 
--- what a new hub answered to lines, and to those behind them, is what a new machine may go on to answer
+-- what a new hub answered to lines, and to those after them, is what a new machine may go on to answer
 goes_on_as_new_machine : ScriptRunsAnswer → (config : HubConfig) (script mid final : Script) (lines behind : List (List ℕ))
     (text more : List ℕ) → IsNewScript config script → Served AnswersLine script lines text mid → Served AnswersLine mid behind more final
     → ((reads : List (Result (Command ℕ) LineError)) → AllZip IsReadAs (lines ++ behind) reads → all_asked (commands_among reads) < 2 ^ 56)
@@ -255,7 +255,7 @@ line-left ended mid bytes piece done lines others unbroken heards whole (inl due
 ))
 line-left ended mid bytes piece done lines others unbroken heards whole (inr none) = inr none
 
--- what a new hub wrote before it broke off is what a new machine may, and a beginning of what it may answer to the lines behind
+-- what a new hub wrote before it broke off is what a new machine may, and a beginning of what it may answer to the lines after
 begins_on_lines : ScriptRunsAnswer → (config : HubConfig) (script : Script) (error : ServeError) (ended : Bool)
     (left leaves held holds : Option (List ℕ)) → IsNewScript config script
     → (broken : Broken script error ended left leaves held holds) → (final : Script) (lines others : List (List ℕ)) (rest : List ℕ)

@@ -43,12 +43,12 @@ AnswersAsNewMachine buffer lines text =
     (reads : List (Result (Command ℕ) LineError)) × (replies : List (Reply ℕ)) × AllZip IsReadAs lines reads
     × (text ≡ reply_lines reads replies) × NewMachineMayReply buffer reads replies
 
--- If no two services of the names that are asked for share a hash, this is written of what a new machine may answer when a conversation
--- breaks off. All that was read before a last piece, of at most 65,536 bytes, is answered: each line that ended before that piece has its
--- whole reply line in what was written, and what follows there begins the answers to the first lines that were read whole by that piece.
--- After `ReadFault` there is no such piece. After `WriteFault`, and after no other error, a beginning of the answers to those lines is
--- written. After `OutOfMemory` that piece ends the first line that isn't answered, or at the end of the input the last line isn't answered,
--- or nothing was read yet.
+-- What is written when a conversation breaks off: if no two services of the names that are asked for share a hash, it is a beginning of
+-- what a new machine may answer. All that was read before a last piece, of at most 65,536 bytes, is answered: each line that ended before
+-- that piece has its whole reply line in what was written, and what follows there begins the answers to the first lines that were read
+-- whole by that piece. After `ReadFault` there is no such piece. After `WriteFault`, and after no other error, a beginning of the answers
+-- to those lines is written. After `OutOfMemory` that piece ends the first line that isn't answered, or at the end of the input the last
+-- line isn't answered, or nothing was read yet.
 pub record BeginsAsNewMachine (buffer : ℕ) (error : ServeError) (ended : Bool) (left leaves held holds : Option (List ℕ)) : Type 0 where
   pub read : List ℕ
   pub piece : List ℕ

@@ -48,7 +48,8 @@ impl AnswersLines for Script {
 }
 
 impl Script {
-    // Answers any line. Most lines are commands on existing ports, which are small values and handled before.
+    // Answers any line. `answer_line` tries commands on existing ports first, since most lines are such commands, and these are small
+    // values.
     fn answer_any(
         &mut self,
         alloc: Global,

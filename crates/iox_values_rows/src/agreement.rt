@@ -1,10 +1,11 @@
-//! What nodes agree on and what is said about it, held against rows from outside: what no contract of descriptions,
-//! negotiation and conversations can say, as that a call with ample memory goes well.
+//! What nodes agree on, and what a conversation says about it, compared with rows that were written independently. The tests check
+//! what no contract of descriptions, negotiation and conversations can say, for example that a call with ample memory succeeds.
 //!
-//! `lines` holds the one line of five services, hashes, and texts that are nearly such a line, `sizes` descriptions, attributes and
-//! their copies of all sizes, `services` a service in a table from its creation to its end, `tables` texts and foreign steps of all
-//! numbers, `streams` readers and writers that give or take little, or fail. What nodes answer each other, which clause refuses which
-//! opener, and which line is faulty, scripts say: `crates/iox/stdin`.
+//! `lines` checks the one line of each of five services, hashes, and texts that are nearly such a line; `sizes` checks descriptions
+//! and attributes of all sizes, and their copies; `services` checks a service in a table from its creation to its end; `setters`
+//! checks what each setter of a builder asks for; `tables` checks texts of all sizes, and any number of actions of other nodes;
+//! `streams` checks readers and writers that give or take little at a time, or fail. The scripts in `crates/iox/stdin` check what
+//! nodes answer each other, which clause refuses which opener, and which line is faulty.
 mod echo;
 mod lines;
 mod services;

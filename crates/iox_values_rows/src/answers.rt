@@ -1,9 +1,9 @@
-//! Answers of helpers, which a test holds.
+//! Results of helpers, which a test asserts.
 use std::alloc::{AllocError, Global};
 use std::fmt::Debug;
 use std::process::Abort;
 
-/// Each answer must be true. For another one the message distinguishes a wrong answer from a failed allocation.
+/// Asserts that each result is true. For any other result the message distinguishes a wrong answer from a failed allocation.
 pub(crate) fn hold(rt: &impl Abort, answers: &[Result<bool, AllocError>]) {
     for (place, answer) in answers.iter().enumerate() {
         assert!(rt; *answer == Ok(true), "answer {place}: {answer:?}");
@@ -20,10 +20,10 @@ pub(crate) fn all(answers: &[Result<bool, AllocError>]) -> Result<bool, AllocErr
     Ok(true)
 }
 
-/// What a call found no memory for; None where it found all.
+/// The error of a call for which memory ran out; None if there was enough memory.
 pub(crate) type Want = Option<AllocError>;
 
-/// Each must have found its memory.
+/// Fails if memory ran out for one of these calls.
 pub(crate) fn find_memory(wants: &[Want]) -> Result<(), AllocError> {
     for want in wants {
         if let Some(error) = *want {
@@ -33,14 +33,14 @@ pub(crate) fn find_memory(wants: &[Want]) -> Result<(), AllocError> {
     Ok(())
 }
 
-/// Each must be refused because memory runs out.
+/// Asserts that memory ran out for each of these calls.
 pub(crate) fn are_refused(rt: &impl Abort, wants: &[Want]) {
     for (place, want) in wants.iter().enumerate() {
         assert!(rt; want.is_some(), "call {place}");
     }
 }
 
-/// Whether the value is debugged so.
+/// Whether `Debug` shows the value as this text.
 pub(crate) fn is_shown<T: Debug>(alloc: Global, value: &T, text: &str) -> Result<bool, AllocError> {
     Ok(format!(in alloc; "{value:?}")?.as_str() == text)
 }

@@ -1,13 +1,14 @@
-//! What no contract can say of values alone: of containers, of queues and index sets, of descriptions, negotiation and
+//! Tests of what no contract can say of values alone: of containers, of queues and index sets, of descriptions, negotiation and
 //! conversations.
 //!
-//! It has no items of its own, only tests. Where a call takes memory, ample memory is enough.
+//! The crate has no items of its own, only tests. Among other things they check that ample memory is enough for each call that
+//! allocates.
 //!
 //! - `containers`: strings, vectors, queues, maps, cells and tables of numbers.
 //! - `queues`: rings, bit sets, sets of indices and containers of members.
-//! - `agreement`: what nodes agree on, and what is said about it, held against rows from outside.
+//! - `agreement`: what nodes agree on, and what is said about it, compared with rows that were written independently.
 //! - `texts`: what errors display as.
-//! - `answers`: answers of helpers, which a test holds.
+//! - `answers`: results of helpers, which a test asserts.
 #![tactic(auto)]
 
 #[cfg(test)]

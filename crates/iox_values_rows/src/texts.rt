@@ -12,7 +12,7 @@ use iox_index::{
 use std::alloc::{AllocError, Global};
 use std::fmt::{Debug, Display};
 
-/// Whether errors are told so, each with the name of its type: the variant is what a derived `Debug` writes.
+/// Whether `Display` shows each error as the name of its type, followed by what a derived `Debug` shows of the variant.
 fn are_told<E: Debug + Display>(
     alloc: Global,
     name: &str,
@@ -106,7 +106,7 @@ const OF_REQUEST_RESPONSE: [request_response::ClauseError; 14] = [
     request_response::ClauseError::DoesNotSupportRequestedAmountOfNodes,
 ];
 
-/// Whether an error displays as these words.
+/// Whether `Display` shows the error as these words.
 fn is_displayed<E: Display>(alloc: Global, error: &E, words: &str) -> Result<bool, AllocError> {
     Ok(format!(in alloc; "{error}")?.as_str() == words)
 }

@@ -6,7 +6,7 @@ use std::alloc::Global;
 use std::io;
 use std::io::ErrorKind;
 
-/// Gives a line at a time. After so many calls each fails.
+/// A reader that gives one line at a time. After this many calls, each call fails.
 #[derive(Drop)]
 struct LineByLine<'a> {
     rest: &'a [u8],
@@ -26,7 +26,7 @@ impl io::Read for LineByLine<'_> {
     }
 }
 
-/// Keeps what is written. After so many calls each fails.
+/// A writer that keeps what is written. After this many calls, each call fails.
 #[derive(Drop)]
 struct Kept {
     bytes: Vec<u8>,
@@ -59,7 +59,8 @@ fn line_length(bytes: &[u8]) -> usize
     line.min(bytes.len())
 }
 
-/// Whether a conversation on a new hub ends so where so many reads and writes go well, and just this was written.
+/// Whether a conversation on a new hub ends with this error and has written exactly these replies, if this many reads and this many writes
+/// succeed.
 fn ends_so(
     alloc: Global,
     config: HubConfig,

@@ -1,4 +1,4 @@
-//! Cases of lanes: a first line says which lanes they are about, and each further one is answered by these.
+//! Cases of lanes: the first line names the sizes of the lanes, and each further line is a question to these lanes, or a call.
 mod calling;
 mod making;
 mod parties;
@@ -35,7 +35,7 @@ fn serve_lanes(
     Ok(())
 }
 
-/// Prints the line that says which lanes they are, and each line behind it with its answer.
+/// Prints the first line, which names the sizes of the lanes, and each line after it with its answer.
 pub(crate) fn answer_lanes(rt: &HostRuntime, alloc: Global, lines: &str) -> io::Result<()> {
     let (head, rest) = lines.split_once('\n').unwrap_or((lines, ""));
     println!(rt; "{head}")?;

@@ -1,24 +1,28 @@
-//! Answers blocks of script lines, each block on a new hub, and prints each line with what it is replied beside it.
+//! Runs blocks of script lines, each block on a new hub, and prints each line with its reply beside it.
 //!
-//! Blocks stand in standard input with an empty line between them. The first line of a block is its title. A title
-//! `expired N: ..` says how many connections of publishers that left a subscriber keeps, which are 128 otherwise.
+//! Standard input has the blocks, with an empty line between two of them. The first line of a block is its title. With a title
+//! `expired N: ..`, a subscriber keeps at most N connections of closed publishers; otherwise at most 128.
 //!
-//! `N times LINES` stands for these lines N times, with `; ` between each two; a `#` in them is the number of the time, from
-//! 1. It is told the replies of the first time, and those of the last where any differ.
+//! `N times LINES` stands for these lines N times, where `; ` separates two lines. A `#` in them is the number of the repetition, counted
+//! from one. The answers are the replies of the first repetition, and those of the last one if any of them differ.
 //!
-//! A last line `faults` has the lines before it said again, once for each read that may fail, and once for each write: a line is
-//! read at a time, and its reply is written. It is told how many of both ended so and left just the replies before them.
+//! A last line `faults` repeats the lines before it in new conversations, once for each read that may fail and once for each write. Such a
+//! conversation reads one line at a time, and writes its reply. The answer is how many of the failing reads, and how many of the failing
+//! writes, ended the conversation with the status of that fault, and with exactly the replies to the lines before.
 //!
-//! A block whose title begins with `storage` has calls of builders in place of lines, each over a storage that gives the
-//! answers that follow it, whatever lies there: `create ps Absent Taken Made Published`. It is told what the call came to and
-//! in how many accesses, after `close` also what a close did; and `amiss` what answers were of no access, or lacking.
+//! A block whose title begins with `storage` has calls of builders instead of script lines: for example
+//! `create ps Absent Taken Made Published`. The storage of the call gives the answers that the line names, one for each storage operation.
+//! The reply has the result of the call, the number of storage operations, and after `close` also the result of a close; `amiss` counts the
+//! answers that fitted no operation, were missing, or were left over.
 //!
-//! A block whose second line begins with `lanes` has lines about lanes of those sizes in place of a script; one whose second line
-//! begins with `steps`, lines about a machine whose parties go a step at a time.
+//! A block whose second line begins with `lanes` has lines about lanes of the sizes that it names. A block whose second line begins with
+//! `steps` has lines about a machine whose parties make their calls one step at a time. A block whose second line is `hub` has script
+//! lines, and others that take a domain out of the hub.
 //!
-//! Standard output is typed by hand from the formats, and standard input is its lines without their replies.
+//! The expected standard output is typed manually from the formats, and standard input has its lines without their replies.
 #![tactic(auto)]
 
+mod domains;
 mod faults;
 mod lanes;
 mod said;
@@ -26,6 +30,7 @@ mod steps;
 mod storages;
 mod words;
 
+use domains::answer_hub;
 use faults::left_by_faults;
 use iox_script::{HubConfig, Input, Output, serve};
 use lanes::answer_lanes;
@@ -35,7 +40,7 @@ use std::str::Lines;
 use steps::answer_steps;
 use storages::answered;
 
-/// How many connections of publishers that left a subscriber keeps, where the title doesn't say.
+/// The maximum number of connections of closed publishers that a subscriber keeps, unless the title says another one.
 const EXPIRED_CONNECTION_BUFFER: u32 = 128;
 
 fn main(rt: HostRuntime) -> io::Result<()> {
@@ -46,7 +51,7 @@ fn main(rt: HostRuntime) -> io::Result<()> {
     Ok(())
 }
 
-// Prints a block with its answers, and the empty line behind it.
+// Prints a block with its answers, and the empty line after it.
 fn answer_block(rt: &HostRuntime, block: &str) -> io::Result<()> {
     let (title, lines) = block.split_once('\n').unwrap_or((block, ""));
     println!(rt; "{title}")?;
@@ -61,12 +66,14 @@ fn answer_lines(rt: &HostRuntime, title: &str, lines: &str) -> io::Result<()> {
         answer_lanes(rt, rt.alloc(), lines)
     } else if lines.starts_with("steps ") {
         answer_steps(rt, rt.alloc(), lines)
+    } else if lines.starts_with("hub\n") {
+        answer_hub(rt, rt.alloc(), config(title), lines)
     } else {
         answer(rt, config(title), lines)
     }
 }
 
-// Prints each call of a builder with what it comes to over a storage that answers so.
+// Prints each call of a builder with what it comes to over a storage that gives these answers.
 fn answer_builders(rt: &HostRuntime, lines: &str) -> io::Result<()> {
     for line in lines.lines() {
         answer_builder(rt, line)?;
@@ -79,7 +86,7 @@ fn answer_builder(rt: &HostRuntime, line: &str) -> io::Result<()> {
     println!(rt; "{line} -> {told}")
 }
 
-// How many connections of publishers that left a subscriber keeps.
+// How many connections of closed publishers a subscriber keeps.
 fn expired(title: &str) -> Option<u32> {
     let (_, rest) = title.split_once("expired ")?;
     let (number, _) = rest.split_once(':')?;
@@ -142,7 +149,7 @@ fn spell(alloc: Global, script: &mut String, line: &str) -> Result<(), AllocErro
     Ok(())
 }
 
-// Says lines once more, after so many times.
+// Says lines once more, after this many times.
 fn say(alloc: Global, script: &mut String, once: &str, time: usize) -> Result<(), AllocError> {
     let number = format!(in alloc; "{}", time.saturating_add(1))?;
     let numbered = once.replace(alloc, "#", number.as_str())?;
@@ -173,7 +180,7 @@ fn push_reply(text: &mut String, place: usize, reply: &str) -> Result<(), AllocE
     text.push_str(reply)
 }
 
-// What lines are told that are said so often.
+// The reply to lines that may be repeated: the first one's, and the last one's if any differs from it.
 fn told(alloc: Global, line: &str, replies: &mut Lines<'_>) -> Result<String, AllocError> {
     let (times, once) = counted(line);
     let lines = once.split("; ").count();
@@ -184,7 +191,7 @@ fn told(alloc: Global, line: &str, replies: &mut Lines<'_>) -> Result<String, Al
     }
 }
 
-// What so many lines are told the last of so many times, if any time differs from the first.
+// The reply to the last repetition of these lines, if any repetition is answered otherwise than the first.
 fn last_if_other(
     alloc: Global,
     first: &str,
@@ -200,7 +207,7 @@ fn last_if_other(
     Ok(if differs { Some(last) } else { None })
 }
 
-// Prints each line with what it is told.
+// Prints each line with its reply.
 fn tell(rt: &HostRuntime, lines: &str, replies: &mut Lines<'_>) -> io::Result<()> {
     for line in lines.lines() {
         tell_line(rt, line, replies)?;

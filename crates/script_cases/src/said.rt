@@ -7,17 +7,17 @@ use std::fmt::{self, Debug, Display};
 /// What a line answers.
 #[derive(Clone, Copy)]
 pub(crate) enum Said<'a> {
-    /// Whether it is so.
+    /// True or false.
     Is(bool),
     /// A number.
     Number(u64),
-    /// So many messages waited at a connection before the first step, of so many that may.
+    /// The number of messages that waited at a connection before the first step, and its maximum.
     Waited(usize, u64),
-    /// This text: `none`, or `unknown` where the line isn't understood or doesn't fit what is there.
+    /// This text: `none`, or `unknown` if the line isn't understood, or doesn't fit the state.
     Text(&'static str),
-    /// What a step came to.
+    /// The outcome of a step.
     Stepped(Stepped),
-    /// What a call answered as it ended.
+    /// The answer of a call that ended.
     Ended(Answer),
     /// These words.
     Words(&'a [u64]),
@@ -27,10 +27,10 @@ pub(crate) enum Said<'a> {
     Placed(Placed),
 }
 
-/// What is said where there is nothing.
+/// The answer if there is nothing to report.
 pub(crate) const NONE: Said<'static> = Said::Text("none");
 
-/// What is said of a line that isn't understood, or doesn't fit what is there.
+/// The answer to a line that isn't understood, or doesn't fit the state.
 pub(crate) const UNKNOWN: Said<'static> = Said::Text("unknown");
 
 impl Display for Said<'_> {

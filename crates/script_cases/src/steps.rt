@@ -1,9 +1,10 @@
-//! Cases of machines that go a step at a time: a first line says which machine, and each further one is answered by it.
+//! Cases of machines whose calls are made one step at a time: the first line names the machine, and each further line is a question to it,
+//! or a call.
 //!
-//! `2 acquire 7` is a whole call of party 2, `2 begin acquire 7` only its first step, and `2 go 3` three steps of the call that it is
-//! in. Each is told what the last step came to, or the call's answer where that was its end. `N times LINES` is told the answers of each
-//! time, but where they are those of the time before. A line `measure N times LINES` is answered as the one without its first word: a case
-//! of `./check` counts what it takes.
+//! `2 acquire 7` is a whole call of party 2, `2 begin acquire 7` only its first step, and `2 go 3` three steps of its call in progress. The
+//! answer is the outcome of the last step, or the call's answer if that step ended the call. `N times LINES` prints the answers of each
+//! repetition, unless they are those of the repetition before. A line `measure N times LINES` is answered like `N times LINES`; a case of
+//! `./check` counts the instructions that it takes.
 mod bits;
 mod indices;
 mod loaded;
@@ -21,10 +22,10 @@ use std::alloc::{AllocError, Global};
 use std::io;
 use std::str::SplitWhitespace;
 
-// No call of a case has so many steps.
+// No call of a case has this many steps.
 const MOST: u64 = 100_000;
 
-/// The call that a line asks for: its verb, the numbers behind it, and whether it is to lock.
+/// The call that a line asks for: its verb, the numbers after it, and whether it is to lock the set.
 #[derive(Clone, Copy)]
 pub(crate) struct Asked<'a> {
     pub(crate) verb: &'a str,
@@ -35,20 +36,20 @@ pub(crate) struct Asked<'a> {
 
 /// A machine whose parties make their calls a step at a time.
 pub(crate) trait Machine: Drop {
-    /// The party begins a call, if that fits.
+    /// The party begins a call, if that is possible.
     fn begin(&mut self, party: usize, asked: Asked<'_>) -> Stepped;
 
     /// The party makes the next step of its call.
     fn go_on(&mut self, party: usize) -> Stepped;
 
-    /// What the call of the party answered that ended last.
+    /// The answer of the party's last finished call.
     fn ended(&self, party: usize) -> Said<'static>;
 
-    /// What is seen of the machine.
+    /// The answer to a question about the machine's state.
     fn seen(&self, what: &str, place: u64) -> Said<'static>;
 }
 
-// Makes so many steps at most of the call that a party is in; what the last one came to.
+// Makes this many steps at most of the call that a party is in; what the last one came to.
 fn goes_on<M: Machine>(machine: &mut M, party: usize, steps: u64) -> Stepped {
     for _ in 0..steps {
         let stepped = machine.go_on(party);
@@ -114,7 +115,7 @@ fn answered<M: Machine>(machine: &mut M, line: &str) -> Said<'static> {
     }
 }
 
-// What lines answer, each answer behind a space.
+// What lines answer, each answer after a space.
 fn heard<M: Machine>(alloc: Global, machine: &mut M, lines: &str) -> Result<String, AllocError> {
     let mut told = String::new(alloc);
     for line in lines.split("; ") {
@@ -192,7 +193,7 @@ fn serve<M: Machine>(
     }
 }
 
-/// Prints the line that says which machine it is, and each line behind it with its answers.
+/// Prints the first line, which names the machine, and each line after it with its answers.
 pub(crate) fn answer_steps(rt: &HostRuntime, alloc: Global, lines: &str) -> io::Result<()> {
     let (head, rest) = lines.split_once('\n').unwrap_or((lines, ""));
     println!(rt; "{head}")?;

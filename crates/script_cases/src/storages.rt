@@ -1,4 +1,4 @@
-//! What builders come to over a storage that gives the answers of a line.
+//! The results of builders over a storage that gives the answers of a line.
 mod answering;
 mod near_lines;
 mod other_lines;
@@ -105,7 +105,7 @@ fn published_line(alloc: Global, pattern: &str, name: &str) -> Result<Vec<u8>, A
     Ok(storage.into_published())
 }
 
-// What a line's call comes to, in how many accesses, and how many answers were amiss.
+// What a line's call comes to, in how many storage operations, and how many answers were amiss.
 fn outcome(
     alloc: Global,
     verb: &str,
@@ -135,11 +135,11 @@ fn answered_by(
 }
 
 /// The result of the call that a line names: its verb, `create`, `open` or `open_or_create`; its pattern, `ps`, `ev` or `rr`; and the
-/// storage's answer to each access.
+/// storage's answer to each storage operation.
 ///
-/// In place of a call `prefixes` says how many proper prefixes of the service's line could be opened, `spaces` how often a space
-/// could be put in, and `bytes` how many changed bytes were neither corrupted nor the line of another description of the service. A
-/// `1` behind the pattern asks for the line of version 1.
+/// Instead of a call, a line may ask for a count. `prefixes`: how many proper prefixes of the service's line could be opened. `spaces`: at
+/// how many places a space could be inserted. `bytes`: how many changed bytes gave neither a corrupted line nor the line of another
+/// description of the service. A `1` after the pattern asks for the line of version 1.
 pub fn answered(alloc: Global, line: &str) -> Result<String, AllocError> {
     let (verb, rest) = line.split_once(' ').unwrap_or((line, ""));
     let (pattern, answers) = rest.split_once(' ').unwrap_or((rest, ""));

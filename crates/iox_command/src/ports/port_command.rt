@@ -43,12 +43,12 @@ pub enum PortCommand<'a, T> {
         publisher: u64,
         values: Values<'a, T>,
     },
-    /// Tries a waiting send once more, this number of nanoseconds after its mailbox was first found full.
+    /// Tries a blocked send once more, this number of nanoseconds after its mailbox was first found full.
     Retry {
         publisher: u64,
         nanoseconds: u64,
     },
-    /// Gives up a waiting send.
+    /// Gives up a blocked send.
     GiveUp {
         publisher: u64,
     },

@@ -68,7 +68,7 @@ impl<V> Numbered<V> {
         }
     }
 
-    /// Raises the capacity to `room` values in all; if the table has this capacity already, nothing happens. It fails only where an
+    /// Raises the capacity to `room` values in all; if the table has this capacity already, nothing happens. It fails only if an
     /// allocation fails, and then nothing has changed.
     pub fn reserve(&mut self, room: usize) -> Result<(), AllocError>
         ensures ok { OnOk result (self.new ≡ with_room self.old room) }

@@ -79,7 +79,7 @@ impl<const SIZE: usize> ByteMachine<SIZE> {
         }
     }
 
-    /// Makes the steps one after another and returns their results. It fails only where the allocation for the results fails, never for an
+    /// Makes the steps one after another and returns their results. It fails only if the allocation for the results fails, never for an
     /// empty list of steps, and then makes no step.
     pub fn run(&mut self, alloc: Global, steps: &[ByteStep]) -> Result<Vec<ByteAnswer>, AllocError>
         ensures answers { IfOk result (λ answers. AnswersInTurn self.old steps.now answers.items) }

@@ -40,7 +40,7 @@ impl<K: Eq, V, const CAPACITY: usize> Model for FixedSizeFlatMap<K, V, CAPACITY>
 impl<K: Eq, V, const CAPACITY: usize> FixedSizeFlatMap<K, V, CAPACITY> {
     ghost use Rattle.iox_container.specs.FixedSizeFlatMapLends.{LendsOf};
 
-    /// An empty map. It fails only where an allocation fails.
+    /// An empty map. It fails only if an allocation fails.
     pub fn new(alloc: Global) -> Result<Self, AllocError>
         ensures empty { IfOk result (λ m. m.values ≡ replicate CAPACITY None) }
         ensures free { IfOk result (λ m. m.free ≡ range_with_len 0 CAPACITY) }

@@ -34,7 +34,7 @@ impl<T, const CAPACITY: usize> Model for FixedSizeQueue<T, CAPACITY> {
 impl<T, const CAPACITY: usize> FixedSizeQueue<T, CAPACITY> {
     ghost use Rattle.iox_container.specs.FixedSizeQueueLends.{LendsOldest};
 
-    /// An empty queue. It fails only where an allocation fails, and never at capacity 0.
+    /// An empty queue. It fails only if an allocation fails, and never at capacity 0.
     pub fn new(alloc: Global) -> Result<Self, AllocError>
         ensures empty { IfOk result (λ q. q ≡ []) }
         ensures succeeds { CAPACITY ≡ 0 → IsOk result }

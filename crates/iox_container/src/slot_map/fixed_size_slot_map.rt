@@ -37,7 +37,7 @@ impl<T, const CAPACITY: usize> Model for FixedSizeSlotMap<T, CAPACITY> {
 impl<T, const CAPACITY: usize> FixedSizeSlotMap<T, CAPACITY> {
     ghost use Rattle.iox_container.specs.FixedSizeSlotMapLends.{LendsAt};
 
-    /// An empty map. It fails only where an allocation fails.
+    /// An empty map. It fails only if an allocation fails.
     pub fn new(alloc: Global) -> Result<Self, AllocError>
         ensures empty { IfOk result (λ m. m.values ≡ replicate CAPACITY None) }
         ensures free { IfOk result (λ m. m.free ≡ range_with_len 0 CAPACITY) }

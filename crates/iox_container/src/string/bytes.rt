@@ -26,7 +26,7 @@ pub fn strnlen(bytes: &[u8]) -> usize
 }
 
 /// The bytes as printable text: tab, line ends, quotes and the backslash are escaped with a backslash, printable bytes are kept, and every
-/// other byte becomes `\x` and two lower-case hexadecimal digits. It fails only where an allocation fails, and never for no bytes.
+/// other byte becomes `\x` and two lower-case hexadecimal digits. It fails only if an allocation fails, and never for no bytes.
 ///
 /// Ported from `iceoryx2_bb_container::string::as_escaped_string`.
 pub fn as_escaped_string<A: Allocator>(alloc: A, bytes: &[u8]) -> Result<String<A>, AllocError>

@@ -40,7 +40,7 @@ impl<A: Allocator> Model for PolymorphicString<A> {
 }
 
 impl<A: Allocator> PolymorphicString<A> {
-    /// An empty string with this capacity. It fails only where an allocation fails, and never at capacity 0.
+    /// An empty string with this capacity. It fails only if an allocation fails, and never at capacity 0.
     pub fn new(alloc: A, capacity: usize) -> Result<Self, AllocError>
         ensures empty { IfOk result (λ s. s.text ≡ []) }
         ensures capacity { IfOk result (λ s. s.capacity ≡ capacity) }
@@ -51,7 +51,7 @@ impl<A: Allocator> PolymorphicString<A> {
         Ok(PolymorphicString { cells, len: 0 })
     }
 
-    /// A copy with the same text and capacity. It fails only where an allocation fails.
+    /// A copy with the same text and capacity. It fails only if an allocation fails.
     pub fn try_clone(&self) -> Result<Self, AllocError>
     where
         A: Clone,

@@ -27,7 +27,7 @@ pub(crate) fn replace_in_row(
     new_len
 }
 
-/// Writes `bytes` at `from`, and moves the cells from `to` up to `len` behind them.
+/// Writes `bytes` at `from`, and moves the cells from `to` up to `len` so that they follow these bytes.
 fn splice_cells(cells: &mut [u8], len: usize, from: usize, to: usize, bytes: &[u8])
     requires start_le_end { from ≤ to }
     requires in_bounds { to ≤ len }

@@ -34,7 +34,7 @@ impl<T, A: Allocator> Model for PolymorphicVec<T, A> {
 }
 
 impl<T, A: Allocator> PolymorphicVec<T, A> {
-    /// An empty vector with this capacity. It fails only where an allocation fails, and never at capacity 0.
+    /// An empty vector with this capacity. It fails only if an allocation fails, and never at capacity 0.
     pub fn new(alloc: A, capacity: usize) -> Result<Self, AllocError>
         ensures empty { IfOk result (λ v. v.items ≡ []) }
         ensures capacity { IfOk result (λ v. v.capacity ≡ capacity) }
@@ -46,7 +46,7 @@ impl<T, A: Allocator> PolymorphicVec<T, A> {
         })
     }
 
-    /// A full vector of the results of `make` for 0, 1, 2 and so on; `make` is called once for each item. It fails only where an allocation
+    /// A full vector of the results of `make` for 0, 1, 2 and so on; `make` is called once for each item. It fails only if an allocation
     /// fails, and never at capacity 0; `make` is then not called.
     pub fn from_fn<F: FnMut(usize) -> T>(
         alloc: A,
@@ -70,7 +70,7 @@ impl<T, A: Allocator> PolymorphicVec<T, A> {
 }
 
 impl<T: Clone + Drop, A: Allocator + Clone> PolymorphicVec<T, A> {
-    /// A copy with the same items and capacity. It fails only where an allocation or the clone of an item fails.
+    /// A copy with the same items and capacity. It fails only if an allocation or the clone of an item fails.
     pub fn try_clone(&self) -> Result<Self, AllocError>
         requires clones_equal { (x y : T) → T.is_clone x y → y ≡ x }
         ensures { IfOk result (λ v. v ≡ self.now) }
@@ -79,7 +79,7 @@ impl<T: Clone + Drop, A: Allocator + Clone> PolymorphicVec<T, A> {
     }
 }
 
-/// A vector of the same capacity with clones of the items, in their order. It fails only where an allocation or the clone of an item fails.
+/// A vector of the same capacity with clones of the items, in their order. It fails only if an allocation or the clone of an item fails.
 impl<T: Clone + Drop, A: Allocator + Clone> Clone for PolymorphicVec<T, A> {
     ghost is_clone = { λ v w. AllZip T.is_clone v.items w.items × (w.capacity ≡ v.capacity) };
 

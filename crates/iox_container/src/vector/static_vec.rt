@@ -34,7 +34,7 @@ impl<T, const CAPACITY: usize> Model for StaticVec<T, CAPACITY> {
 }
 
 impl<T, const CAPACITY: usize> StaticVec<T, CAPACITY> {
-    /// An empty vector. It fails only where an allocation fails, and never at capacity 0.
+    /// An empty vector. It fails only if an allocation fails, and never at capacity 0.
     pub fn new(alloc: Global) -> Result<Self, AllocError>
         ensures empty { IfOk result (λ v. v ≡ []) }
         ensures succeeds { CAPACITY ≡ 0 → IsOk result }
@@ -85,7 +85,7 @@ impl<T: Drop, const CAPACITY: usize> Vector<T> for StaticVec<T, CAPACITY> {
     ghost room_of_changed = { λ _ _. refl };
 }
 
-/// A vector with clones of the items, in their order. It fails only where an allocation or the clone of an item fails.
+/// A vector with clones of the items, in their order. It fails only if an allocation or the clone of an item fails.
 impl<T: Clone + Drop, const CAPACITY: usize> Clone for StaticVec<T, CAPACITY> {
     ghost is_clone = { AllZip T.is_clone };
 
@@ -97,7 +97,7 @@ impl<T: Clone + Drop, const CAPACITY: usize> Clone for StaticVec<T, CAPACITY> {
 }
 
 impl<T: Clone + Drop, const CAPACITY: usize> StaticVec<T, CAPACITY> {
-    /// A copy with the same items. It fails only where an allocation or the clone of an item fails.
+    /// A copy with the same items. It fails only if an allocation or the clone of an item fails.
     pub fn try_clone(&self) -> Result<Self, AllocError>
         requires clones_equal { (x y : T) → T.is_clone x y → y ≡ x }
         ensures { IfOk result (λ v. v ≡ self.now) }

@@ -22,9 +22,9 @@ pub enum ClauseError {
     IncompatibleAttributes,
     /// The option `deadline` differs.
     IncompatibleDeadline,
-    /// The service has fewer notifiers than required.
+    /// The service permits fewer notifiers than required.
     DoesNotSupportRequestedAmountOfNotifiers,
-    /// The service has fewer listeners than required.
+    /// The service permits fewer listeners than required.
     DoesNotSupportRequestedAmountOfListeners,
     /// The service's largest event id is below the required one.
     DoesNotSupportRequestedMaxEventId,
@@ -34,7 +34,7 @@ pub enum ClauseError {
     IncompatibleNotifierDroppedEvent,
     /// The option `notifier_dead_event` differs.
     IncompatibleNotifierDeadEvent,
-    /// The service has fewer nodes than required.
+    /// The service permits fewer nodes than required.
     DoesNotSupportRequestedAmountOfNodes,
 }
 

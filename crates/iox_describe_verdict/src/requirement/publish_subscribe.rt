@@ -27,9 +27,9 @@ pub enum ClauseError {
     IncompatibleOverflowBehavior,
     /// The switch `sequence_numbers` differs.
     IncompatibleSequenceNumbers,
-    /// The service has fewer publishers than required.
+    /// The service permits fewer publishers than required.
     DoesNotSupportRequestedAmountOfPublishers,
-    /// The service has fewer subscribers than required.
+    /// The service permits fewer subscribers than required.
     DoesNotSupportRequestedAmountOfSubscribers,
     /// The service's buffers are smaller than required.
     DoesNotSupportRequestedMinBufferSize,
@@ -37,7 +37,7 @@ pub enum ClauseError {
     DoesNotSupportRequestedMinHistorySize,
     /// The service permits fewer borrowed samples than required.
     DoesNotSupportRequestedMinSubscriberBorrowedSamples,
-    /// The service has fewer nodes than required.
+    /// The service permits fewer nodes than required.
     DoesNotSupportRequestedAmountOfNodes,
 }
 

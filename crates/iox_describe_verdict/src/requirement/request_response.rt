@@ -37,13 +37,13 @@ pub enum ClauseError {
     DoesNotSupportRequestedAmountOfActiveRequestsPerClient,
     /// The service's response buffers are smaller than required.
     DoesNotSupportRequestedResponseBufferSize,
-    /// The service has fewer servers than required.
+    /// The service permits fewer servers than required.
     DoesNotSupportRequestedAmountOfServers,
-    /// The service has fewer clients than required.
+    /// The service permits fewer clients than required.
     DoesNotSupportRequestedAmountOfClients,
     /// The service permits fewer borrowed responses than required.
     DoesNotSupportRequestedAmountOfBorrowedResponsesPerPendingResponse,
-    /// The service has fewer nodes than required.
+    /// The service permits fewer nodes than required.
     DoesNotSupportRequestedAmountOfNodes,
 }
 

@@ -31,10 +31,10 @@ fn spare_loans<T: Copy, U: Copy>(port: &PublisherPort<T, U>) -> u64
     slots.most_loans().saturating_sub(slots.loans()) as u64
 }
 
-/// In a new service no loan may be made. Each call makes at most one more loan possible for a loan that it dropped or began to
-/// send, and as many more as the publisher that it created may make, less one for a loan that it made. A publisher that is
-/// closed takes with it what it could still make. This holds whatever the override and the handlers answer. This is a theorem:
-/// the function does nothing.
+/// In a new service no loan may be made. A call raises this number at most by one for a loan that it dropped or began to send, and by
+/// the limit of loans of a publisher that it created; a loan that it made lowers the number by one. What a closed publisher could
+/// still make no longer counts. This holds whatever the override and the handlers answer. This is a theorem: the function does
+/// nothing.
 pub fn loans_left_by_calls<T, U, O: Overrides, B: Decides + Degrades>(
     _overriding: &O,
     _handlers: &B,

@@ -15,8 +15,8 @@ use iox_domain_ports::SubscriberPort;
 use iox_domain_ports::living::add;
 use iox_domain_values::{Decides, Degrades, Overrides};
 
-/// How many samples the subscribers of a service may hold at once: each open one the limit of a connection, for each existing
-/// publisher. At most as many more may be received. At most 2^64 - 1 is answered.
+/// How many samples the subscribers of a service may hold at once: each open subscriber as many as the limit of a connection, for
+/// each existing publisher. At most as many more may be received. At most 2^64 - 1 is answered.
 pub fn samples_at_most<T: Copy, U: Copy>(ports: &ServicePorts<T, U>) -> u64
     ensures value { result ≡ min (samples_at_most ports.now) (2 ^ 64 - 1) }
     ensures enough { samples_left ports.now ≤ samples_at_most ports.now }
@@ -57,10 +57,11 @@ pub fn held_of_one<T: Copy, U: Copy>(ports: &ServicePorts<T, U>) -> u64
     )
 }
 
-/// How many more samples the subscribers of a service may receive, beyond those that they hold. In a new service it is none.
-/// Each call makes at most as many more possible as it releases and as the port that it creates brings, less the sample that it
-/// receives. This holds whatever the override and the handlers answer. So a caller that reserves room for as many samples as
-/// each new port brings never lacks room for one. This is a theorem: the function does nothing.
+/// How many more samples the subscribers of a service may receive, beyond those that they hold. In a new service it is none. A call
+/// raises this number at most by the samples that it releases and by those that may be held because of a port that it creates; a
+/// sample that it receives lowers the number by one. This holds whatever the override and the handlers answer. So a caller that
+/// reserves, with each new port, capacity for as many samples as may be held because of it always has capacity for a received sample.
+/// This is a theorem: the function does nothing.
 pub fn samples_left_by_calls<T, U, O: Overrides, B: Decides + Degrades>(
     _overriding: &O,
     _handlers: &B,

@@ -30,8 +30,9 @@ pub fn at_most_once<T, U, O: Overrides, B: Decides + Degrades>(_overriding: &O, 
         (B.decides _handlers.now) }
 {}
 
-/// Each live connection of an open publisher is known: a subscriber reads it, or a place of the list is tied to it, whatever was called
-/// since the service was new. So nothing is left of a subscriber that came and left before the publisher followed the list.
+/// Each live connection of an open publisher is known: a subscriber reads it, or a place of the list is tied to it, whatever was
+/// called since the service was new. So nothing is left of a subscriber that was created and closed before the publisher followed the
+/// list. It leads to a subscriber, and no two connections of a publisher lead to the same one.
 pub fn connections_are_known<T, U, O: Overrides, B: Decides + Degrades>(
     _overriding: &O,
     _handlers: &B,

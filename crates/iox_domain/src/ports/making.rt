@@ -17,7 +17,7 @@ use iox_domain_values::{
 };
 use std::alloc::{AllocError, Global};
 
-/// With what a publisher is created.
+/// The parameters with which a publisher is created.
 #[derive(Clone, Copy)]
 pub struct PublisherConfig {
     /// Its owner.
@@ -28,13 +28,13 @@ pub struct PublisherConfig {
     pub values: usize,
     /// How many values an element has: 1, except if the values are the bytes of a payload that only the description defines.
     pub unit: usize,
-    /// What a loan does that is too long for the slots.
+    /// What a loan that is too long for the slots does.
     pub allocation: AllocationStrategy,
     /// The sequence number of its first message, if the service numbers messages; 0 counts as 1.
     pub first_sequence: u64,
 }
 
-/// With what a subscriber is created.
+/// The parameters with which a subscriber is created.
 #[derive(Clone, Copy)]
 pub struct SubscriberConfig {
     /// Its owner.
@@ -100,7 +100,7 @@ impl<T: Copy, U: Copy> ServicePorts<T, U> {
         self.slots_needed(config).is_none() || self.publisher_place().is_none()
     }
 
-    // How many slots a publisher needs, unless they or the values of one are 2^32 or more.
+    // How many slots a publisher needs; None if that is 2^32 or more, or if one slot needs 2^32 values or more.
     fn slots_needed(&self, config: &PublisherConfig) -> Option<usize>
         ensures slots { result ≡ slots_needed config.now self.now }
         ensures loans { IfSome result (λ _. config.now.max_loaned_samples < 2 ^ 32) }

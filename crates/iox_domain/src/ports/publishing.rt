@@ -56,7 +56,7 @@ impl<T: Copy, U: Copy> ServicePorts<T, U> {
     /// full, and continues; answers as `send` does. The call answers None, and nothing happens, if no publisher has this
     /// number, or no send of it is blocked.
     ///
-    /// Not in `iceoryx2`: `iceoryx2::port::publisher::Publisher::send` waits itself.
+    /// Not in `iceoryx2`: `iceoryx2::port::publisher::Publisher::send` blocks its caller.
     pub fn retry<B: Decides>(
         &mut self,
         number: u64,

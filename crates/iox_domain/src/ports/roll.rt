@@ -1,7 +1,7 @@
 //! The list of the ports of one kind.
-ghost use Rattle.std.specs.Prelude.{◌≡◌, ◌≤◌, length, replicate, IfOk, IfSome, IfNone};
+ghost use Rattle.std.specs.Prelude.{◌≡◌, ◌+◌, ◌≤◌, ℕ, length, replicate, get_or, is_some, None, IfOk, IfSome, IfNone, true};
 ghost use Rattle.iox_domain_ports.specs.Container.CountedPlaces.{padded};
-ghost use Rattle.iox_domain.specs.Rolls.{new_roll, free_place, entered, left};
+ghost use Rattle.iox_domain.specs.Rolls.{new_roll, free_place, entered, left, EndsAt};
 
 use iox_container::{Container, Member, OwnerId, ReleaseMode};
 use std::alloc::{AllocError, Global};
@@ -17,17 +17,19 @@ use std::marker::Model;
 pub struct Roll<V: Copy> {
     container: Container<V>,
     owner: OwnerId,
+    // The last port is listed at the place before this one.
+    top: usize,
 }
 
 impl<V: Copy> Model for Roll<V> {
     ghost use Rattle.std.specs.Prelude.{◌≡◌, false};
-    ghost use Rattle.iox_domain.specs.Rolls.{RollState};
+    ghost use Rattle.iox_domain.specs.Rolls.{RollState, EndsAt};
 
     ghost Value = { RollState V };
 
     ghost view = { λ r. record { places = r.container.members; changes = r.container.changes } };
 
-    ghost invariant = { λ r. (r.container.locked ≡ false) × (r.owner ≡ 1) };
+    ghost invariant = { λ r. (r.container.locked ≡ false) × (r.owner ≡ 1) × EndsAt r.top r.container.members };
 }
 
 impl<V: Copy> Roll<V> {
@@ -40,6 +42,7 @@ impl<V: Copy> Roll<V> {
         Ok(Roll {
             container: Container::new(alloc, 0, places)?,
             owner,
+            top: 0,
         })
     }
 
@@ -64,7 +67,13 @@ impl<V: Copy> Roll<V> {
             return None;
         }
         match self.container.add(port, self.owner) {
-            Ok(handle) => Some(handle.index()),
+            Ok(handle) => {
+                let place = handle.index();
+                // By the contract of `capacity` the place isn't the last number.
+                let _places = self.container.capacity();
+                self.top = self.top.max(place + 1);
+                Some(place)
+            }
             Err(_) => None,
         }
     }
@@ -82,14 +91,17 @@ impl<V: Copy> Roll<V> {
         };
         // The handle is that of a member, so the removal succeeds.
         let _ = self.container.remove(handle, ReleaseMode::Default);
+        self.top = lowered(self.container.places(), self.top);
     }
 
-    /// The entries of the list by place, up to the last place that ever had one.
+    /// The entries of the list by place, up to the last port.
     pub fn listed(&self) -> &[Option<Member<V>>]
         ensures whole { padded (length self.now.places) result.now ≡ self.now.places }
         ensures bound { length result.now ≤ length self.now.places }
+        ensures last { (place : ℕ) → place + 1 ≡ length result.now → is_some (get_or result.now place None) ≡ true }
     {
-        self.container.places()
+        let listed = self.container.places();
+        &listed[..self.top]
     }
 
     /// How often the list changed so far.
@@ -98,4 +110,19 @@ impl<V: Copy> Roll<V> {
     {
         self.container.changes()
     }
+}
+
+// The place after the last port, if no port is at `top` or after it.
+fn lowered<V: Copy>(listed: &[Option<Member<V>>], top: usize) -> usize
+    requires { (place : ℕ) → top ≤ place → get_or listed.now place None ≡ None }
+    ensures { EndsAt result listed.now }
+{
+    let end = top.min(listed.len());
+    for count in 0..end {
+        let place = end - 1 - count;
+        if listed[place].is_some() {
+            return place + 1;
+        }
+    }
+    0
 }

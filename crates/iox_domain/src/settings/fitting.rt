@@ -46,7 +46,7 @@ fn fit_types(payload: TypeDetail, user_header: TypeDetail, types: &MessageTypeDe
         || asked_types(TypeVariant::Dynamic, &payload, user_header).is_compatible_to(types)
 }
 
-// The given type, if the type that matches any is asked for; otherwise the type that is asked for.
+// The given type, if the type that matches any type is asked for; otherwise the type that is asked for.
 fn stood_for(any: TypeDetail, asked: TypeDetail, given: TypeDetail) -> TypeDetail
     ensures { result ≡ stood_for any asked given }
 {

@@ -1,7 +1,8 @@
 //! Theorems about which types fit. They are the contracts of functions that do nothing.
 ghost use Rattle.iox_domain.specs.Laws.{FitMeans, WhatFitsHasSizes};
 
-/// What it means that the types of messages fit: which properties are equal, which is at most, and what the markers leave open.
+/// What it means that the types of messages fit: which properties must be equal, which of them may differ and how, and what the
+/// markers leave open.
 pub fn fit_means()
     ensures { FitMeans }
 {}

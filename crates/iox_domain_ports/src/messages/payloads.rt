@@ -7,7 +7,7 @@ use crate::messages::rows::Rows;
 use std::alloc::{AllocError, Global};
 use std::marker::Model;
 
-/// The values of each slot. Slots come in segments; those of one segment have the same room, in one block of memory.
+/// The values of each slot. Slots come in segments; those of one segment have the same capacity, in one block of memory.
 ///
 /// Contracts see the values of each slot.
 #[derive(Drop)]

@@ -6,7 +6,7 @@ ghost use Rattle.iox_domain_ports.specs.Rows.{RowsState, row_at, with_row};
 use std::alloc::{AllocError, Global};
 use std::marker::Model;
 
-/// Rows of values, each with the same room, in one block of memory.
+/// Rows of values, each with the same capacity, in one block of memory.
 ///
 /// Contracts see the values of each row.
 #[derive(Drop)]
@@ -30,7 +30,7 @@ impl<T> Model for Rows<T> {
 impl<T: Copy> Rows<T> {
     ghost use Rattle.iox_domain_ports.specs.RowsLends.{LendsInRow};
 
-    /// `rows` rows without values, each with room for `room` values. The call fails only if an allocation fails.
+    /// `rows` rows without values, each with capacity for `room` values. The call fails only if an allocation fails.
     pub fn new(alloc: Global, rows: usize, room: usize, blank: T) -> Result<Rows<T>, AllocError>
         ensures { IfOk result (λ made. made ≡ record { room = room; rows = replicate rows [] }) }
     {

@@ -110,9 +110,8 @@ impl<T: Copy, U: Copy> Sender<T, U> {
         })
     }
 
-    /// Makes a loan of `values` values, of which none is written, and answers its slot; None if each slot of the current
-    /// segment is in use. With at least as many slots in a segment as the worst case needs, and no send going on, a slot is
-    /// always found.
+    /// Makes a loan of `values` values, of which none is written, and answers its slot; None if each slot of the current segment is
+    /// in use. With at least as many slots in a segment as the worst case needs, and no send in progress, a slot is always found.
     pub fn loan(&mut self, values: usize, elements: u64) -> Option<usize>
         requires room { values ≤ self.old.room }
         requires loans { length self.old.uses.loans < self.old.uses.most_loans }
@@ -375,9 +374,8 @@ impl<T: Copy, U: Copy> Sender<T, U> {
         &self.headers[slot].user_header
     }
 
-    /// Opens a segment of as many slots as before, each with room for `room` values. Only its slots are loaned from now on, and
-    /// none of them is in use. What is in use stays as it is. The call fails only if an allocation fails; then nothing has
-    /// changed.
+    /// Opens a segment of as many slots as before, each with capacity for `room` values. Only its slots are loaned from now on, and
+    /// none of them is in use. What is in use stays as it is. The call fails only if an allocation fails; then nothing has changed.
     pub fn open_segment(&mut self, alloc: Global, room: usize, blank: T) -> Result<(), AllocError>
         requires { self.old.segments < self.old.most_segments }
         ensures opened { IfOk result (λ _. self.new ≡ opened_for room self.old) }

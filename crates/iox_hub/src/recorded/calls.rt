@@ -3,9 +3,9 @@ ghost use Rattle.std.specs.Prelude.{◌≡◌, ◌&&◌, List, is_ok};
 ghost use Rattle.std.specs.Result.{result_ok};
 ghost use Rattle.iox_command.specs.declared.command.Command.TheVariants as command;
 ghost use Rattle.iox_delivery.specs.Holding.{publisher_blocked, subscriber_stands};
-ghost use Rattle.iox_delivery.specs.Publishing.{FollowsSubscribers, RetriesSend};
+ghost use Rattle.iox_delivery.specs.Publishing.{EndsSend, FollowsSubscribers, GivesUpLoan, RetriesSend};
 ghost use Rattle.iox_delivery.specs.Slices.{SendsSlice};
-ghost use Rattle.iox_delivery.specs.Subscribing.{FollowsPublishers, ReceivesSample, TellsSamples};
+ghost use Rattle.iox_delivery.specs.Subscribing.{DropsSample, FollowsPublishers, ReceivesSample, TellsSamples};
 ghost use Rattle.iox_domain.specs.Homes as homes;
 ghost use Rattle.iox_hub_commands.specs.Calls.{may_lend};
 ghost use Rattle.iox_hub_commands.specs.DescribeSettings.declared.static_config.Settings.TheVariants as settings;
@@ -18,6 +18,8 @@ ghost use Rattle.iox_hub.specs.Recording.{IsDoneIf, IsDoneOrBack, is_known, newe
 use crate::recorded::history::History;
 use crate::recorded::named::{Named, Number};
 use iox_command::{PublisherOptions, SubscriberOptions};
+use iox_delivery::kind::Slice;
+use iox_delivery::loan::{Loan, LoanState};
 use iox_delivery::{BlockedSend, PortId, Sent, UpdateConnections, slices as slice};
 use iox_describe::pattern::PublishSubscribe;
 use iox_describe_base::ZeroCopySend;
@@ -67,6 +69,50 @@ pub(crate) fn retry_if<T: Copy, U: Copy, H: Home<T, U>>(
         Ok(blocked.retry(home, elapsed_ns))
     } else {
         Err(blocked)
+    }
+}
+
+// Gives up a send if it is blocked, and answers how many mailboxes took the message.
+pub(crate) fn give_up_if<T: Copy, U: Copy, H: Home<T, U>>(
+    home: &mut H,
+    blocked: BlockedSend<T, U>,
+) -> Option<usize>
+    ensures { EndsSend (homes.ports_of H.domain_of) (homes.with_ports H.changed) blocked.port home.old result home.new }
+{
+    match blocked.drop_with(home) {
+        Ok(delivered) => Some(delivered),
+        Err(kept) => {
+            let _ = kept.into_port();
+            None
+        }
+    }
+}
+
+// Drops a loan, if it is there.
+pub(crate) fn drop_loan_if<T: Copy, U: Copy, S: LoanState<T, U, Slice> + Copy, H: Home<T, U>>(
+    home: &mut H,
+    loan: Loan<T, U, Slice, S>,
+)
+    ensures { GivesUpLoan (homes.ports_of H.domain_of) (homes.with_ports H.changed) loan.port loan.slot home.old home.new }
+{
+    if let Err(kept) = loan.drop_with(home) {
+        let _ = kept.into_slot();
+    }
+}
+
+// Releases a sample if it is held, and answers whether it was.
+pub(crate) fn release_if<T: Copy, U: Copy, H: Home<T, U>>(
+    home: &mut H,
+    sample: slice::Sample<T, U>,
+) -> bool
+    ensures { DropsSample (homes.ports_of H.domain_of) (homes.with_ports H.changed) sample.port sample.taken home.old result home.new }
+{
+    match sample.drop_with(home) {
+        Ok(()) => true,
+        Err(kept) => {
+            let _ = kept.into_taken();
+            false
+        }
     }
 }
 
@@ -187,7 +233,7 @@ pub(crate) fn told_put<T: Words + ZeroCopySend + Default, U: Copy + ZeroCopySend
     History::told(history, number, &came, &())
 }
 
-// The history that its caller states, if a subscriber with this number received so, and this is the hub afterwards.
+// The history that its caller states: a subscriber with this number received, with this answer, and this is the hub afterwards.
 pub(crate) fn told_received<
     T: Words + ZeroCopySend + Default,
     U: Copy + ZeroCopySend + Default,
@@ -247,7 +293,7 @@ pub(crate) fn subscriber_of<T: Copy, U: Copy>(
         Some(Ok(number)) => Some(Ok(slice::Subscriber::of_port(
             PortId { domain, number },
             match options.buffer_size {
-                Some(size) => size as usize,
+                Some(size) => (size as usize).max(1),
                 None => most,
             },
         ))),
@@ -309,7 +355,7 @@ fn put_came<T: Copy, U: Copy>(
     }
 }
 
-// The result of a send that was begun or tried again, without a blocked send; None if what it spends was handed back.
+// The result of a send that was begun or tried again, without a blocked send; None if what it consumes was handed back.
 pub(crate) fn sent_came<T: Copy, U: Copy, W>(
     answer: &Result<Result<Sent<T, U>, SendError>, W>,
 ) -> Option<Result<Option<usize>, SendError>>

@@ -7,17 +7,17 @@ use iox_hub_commands::{FixedDegradation, FixedHandlers, PublisherHandlers, Subsc
 use iox_hub_machine::fixed_actions_are_answered;
 use iox_machine::samples_read_the_same;
 
-/// What is read of a sample is what was received, whatever was asked between. `RecordedHub::payload` says that the machine may give these
-/// answers to the whole record followed by the command `Read`. The receive is one of the record's commands, with as many answers before it
-/// as commands.
+/// A read of a sample returns the values that were received, whatever calls were made in between. `RecordedHub::payload` says that the
+/// machine may give these answers to the whole record followed by the command `Read`. The receive is one of the record's commands, with as
+/// many answers before it as commands.
 pub fn samples_read_as_received<T: Default>()
     ensures { ReadsAsReceived (as_named T.is_default) }
 {
     samples_read_the_same::<T, FixedHandlers, FixedDegradation>();
 }
 
-/// If the premises of calls (`AreFollowed`) hold, they still hold with one read more, provided that the calls and the actions of other
-/// nodes that they name are fewer than 2^56 - 1. So whoever knows them of the calls knows the premise of `RecordedHub::payload`.
+/// If the premises of calls (`AreFollowed`) hold, they still hold with one more read, provided that the calls and the actions of other
+/// nodes that they name are fewer than 2^56 - 1. So the premises of the calls so far give the premise of `RecordedHub::payload`.
 pub fn reads_are_followed<T, B: PublisherHandlers, D: SubscriberHandler>()
     ensures { ReadsAreFollowed T B.fixed (λ handlers. B.degrades handlers) (λ handlers. B.decides handlers) D.fixed
         (λ handler. D.degrades handler) }
@@ -33,9 +33,9 @@ pub fn fixed_actions_decide_for_calls<T>()
     fixed_actions_are_answered();
 }
 
-/// The agreement of a service is as it was asked for, in the machine's terms, as `RecordedHub::open_or_create` says. Then it is so in the
-/// terms of the code: it meets each clause of the requirement and is within the limits of a description, or it is exactly what is required.
-/// The premise is that the description has the form of one, as `PortFactory::description` says.
+/// The agreement of a service is as it was asked for, in the machine's terms, as `RecordedHub::open_or_create` says. Then it is also as
+/// asked for in the terms of the code: it meets each clause of the requirement and is within the limits of a description, or it is exactly
+/// what is required. The premise is that the description has the form of one, as `PortFactory::description` says.
 pub fn what_is_as_asked_is_met()
     ensures { AsAskedIsMet }
 {}

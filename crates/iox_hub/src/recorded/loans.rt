@@ -37,8 +37,8 @@ impl<
     B: PublisherHandlers,
     D: SubscriberHandler,
 > RecordedHub<T, U, B, D> {
-    /// Loans so many unwritten values of a publisher: the command `LoanUninit`. None, and the command is skipped, if the publisher isn't
-    /// open, or a send of it is blocked. Other loans keep their numbers.
+    /// Loans this many unwritten values from a publisher: the command `LoanUninit`. None, and the command is skipped, if the publisher
+    /// isn't open, or a send of it is blocked. Other loans keep their numbers.
     ///
     /// Refused as the machine refuses it.
     /// Example: `let Some(Ok(loan)) = hub.loan_slice_uninit(alloc, &publisher, 4) else { return None; };`
@@ -68,8 +68,8 @@ impl<
         calls::with_number(answer, number)
     }
 
-    /// Loans so many values of a publisher, each written with a default value: the command `Loan`. None, and the command is skipped, if the
-    /// publisher isn't open, or a send of it is blocked. Other loans keep their numbers.
+    /// Loans this many values from a publisher, each written with a default value: the command `Loan`. None, and the command is skipped, if
+    /// the publisher isn't open, or a send of it is blocked. Other loans keep their numbers.
     ///
     /// Refused as the machine refuses it.
     /// Example: `let Some(Ok(sample)) = hub.loan_slice(alloc, &publisher, 4) else { return None; };`
@@ -133,7 +133,7 @@ impl<
         typed_calls_are_a_run::<T, U, B, D>();
         typed_publisher_calls_are_steps::<T, U, Slice, B, D>();
         let Named { it, number } = loan;
-        it.drop_with(&mut self.hub);
+        calls::drop_loan_if(&mut self.hub, it);
         self.history = History::told(&self.history, &number, &(), &());
     }
 
@@ -171,7 +171,7 @@ impl<
     }
 }
 
-// Loans so many values of a publisher to be written, if it may loan.
+// Loans this many values from a publisher, to be written, if it may loan.
 fn lend_uninit_if<T: Copy, U: Copy, H: Home<T, U>>(
     home: &mut H,
     alloc: Global,
@@ -190,7 +190,7 @@ fn lend_uninit_if<T: Copy, U: Copy, H: Home<T, U>>(
     Some(publisher.loan_slice_uninit(alloc, home, len))
 }
 
-// Loans so many default values of a publisher, if it may loan.
+// Loans this many default values from a publisher, if it may loan.
 fn lend_if<T: Copy + Default, U: Copy, H: Home<T, U>>(
     home: &mut H,
     alloc: Global,
@@ -212,7 +212,7 @@ fn lend_if<T: Copy + Default, U: Copy, H: Home<T, U>>(
     Some(publisher.loan_slice(alloc, home, len))
 }
 
-// Writes all values of a loan, if it has as many; returns whether it is written so.
+// Writes all values of a loan, if the loan has as many; returns whether it did.
 fn write_all<T: Copy, U: Copy, H: Home<T, U>>(
     home: &mut H,
     loan: slice::SampleMutUninit<T, U>,
@@ -229,7 +229,7 @@ fn write_all<T: Copy, U: Copy, H: Home<T, U>>(
     (sample, filled)
 }
 
-// Whether a loan is written, with so many values.
+// Whether a loan is written, with this many values.
 fn is_written_with<T: Copy, U: Copy, H: Home<T, U>>(
     sample: &slice::SampleMut<T, U>,
     home: &H,
@@ -241,7 +241,7 @@ fn is_written_with<T: Copy, U: Copy, H: Home<T, U>>(
     sample.holds(home) && sample.payload(home).len() == count
 }
 
-// The history that its caller states, if a publisher with this number was asked for a loan of so many values.
+// The history that its caller states, if a publisher with this number was asked for a loan of this many values.
 fn told_lent<T: Words + ZeroCopySend + Default, U: Copy + ZeroCopySend + Default, S>(
     history: &History<T>,
     number: &Number,

@@ -1,6 +1,6 @@
 //! A hub that records what it is asked and what it answers, for proofs alone.
 ghost use Rattle.std.specs.Prelude.{◌≡◌, ◌+◌, ◌<◌, ◌^◌, ◌++◌, ◌∷◌, [], true, false, Some, IfSome, IfOk, IfErr, IsOkAnd, IsSome};
-ghost use Rattle.std.specs.Prelude.{MatchOption, MatchResult, Ok, length};
+ghost use Rattle.std.specs.Prelude.{MatchOption, MatchResult, Ok, length, max};
 ghost use Rattle.std.specs.List.{AllByRecursion};
 ghost use Rattle.std.specs.Global.{Vec};
 ghost use Rattle.std.specs.Option.{option_map, option_map_or, unwrap_or};
@@ -354,7 +354,7 @@ impl<
     }
 
     /// Creates a publisher of a service, as the options ask: the command `Publisher`. None, and the command is skipped, if the service's
-    /// domain isn't in the hub. The others keep their numbers.
+    /// domain isn't in the hub. Other publishers keep their numbers.
     ///
     /// Refused as the machine refuses it.
     /// Example: `let Some(Ok(publisher)) = hub.publisher(alloc, &service, &options) else { return None; };`
@@ -404,7 +404,7 @@ impl<
     }
 
     /// Creates a subscriber of a service, as the options ask: the command `Subscriber`. None, and the command is skipped, if the service's
-    /// domain isn't in the hub. The others keep their numbers.
+    /// domain isn't in the hub. Other subscribers keep their numbers. A buffer of 0 has room for one message.
     ///
     /// Refused as the machine refuses it.
     /// Example: `let Some(Ok(subscriber)) = hub.subscriber(alloc, &service, &options) else { return None; };`
@@ -429,7 +429,9 @@ impl<
         ensures side { (most : StaticConfig)
             → factory.now.it.service.membership.service.description.settings ≡ settings.PublishSubscribe most
             → IfSome result (λ answer. IfOk answer (λ subscriber.
-            subscriber.it.side ≡ record { buffer_size = unwrap_or options.now.buffer_size most.subscriber_max_buffer_size })) }
+            subscriber.it.side ≡ record {
+              buffer_size = unwrap_or (option_map (λ named. max named 1) options.now.buffer_size) most.subscriber_max_buffer_size;
+            })) }
     {
         let domain = domain_of(&factory.it);
         let number = Number::given(&self.history);
@@ -476,8 +478,8 @@ impl<
         answer
     }
 
-    /// Tries a blocked send of a publisher again: the command `Retry`. It is handed back, and the command is skipped, if no send is
-    /// blocked.
+    /// Tries a blocked send of a publisher again: the command `Retry`. If no send is blocked, the command is skipped, and `blocked` is
+    /// handed back.
     ///
     /// Refused as the machine refuses it.
     /// Example: `let sent = hub.retry(&publisher, blocked, 1_000)?;`
@@ -521,7 +523,7 @@ impl<
     {
         typed_calls_are_a_run::<T, U, B, D>();
         typed_publisher_calls_are_steps::<T, U, Slice, B, D>();
-        let answer = blocked.drop_with(&mut self.hub);
+        let answer = calls::give_up_if(&mut self.hub, blocked);
         self.history = History::told(&self.history, &publisher.number, &answer, &());
         answer
     }
@@ -626,9 +628,9 @@ impl<
         calls::received_with_number(answer, number)
     }
 
-    /// The values of a sample that is held: the answer to the command `Read`. They were put before, or sent as a loan, by a publisher of
-    /// the subscriber's own service, and that send began. None if the sample isn't held, which `AreFollowed` excludes, whichever ports were
-    /// closed. No call is recorded.
+    /// The values of a sample that is held: the answer to the command `Read`. A publisher of the subscriber's own service began to send
+    /// them earlier, by a put or as a loan. None if the sample isn't held; under the premises of `AreFollowed` it is held, even if ports
+    /// were closed. No call is recorded.
     /// Example: `let values = hub.payload(&sample)?;`
     pub fn payload(&self, sample: &Named<slice::Sample<T, U>>) -> Option<&[T]>
         requires { value_at self.now.calls.made.samples sample.now.number.value
@@ -664,7 +666,7 @@ impl<
     }
 
     /// The sequence number of the message of a sample that is held, if its service numbers messages: the answer to the command `Sequence`.
-    /// None if the sample isn't held, which `AreFollowed` excludes, whichever ports were closed. No call is recorded.
+    /// None if the sample isn't held; under the premises of `AreFollowed` it is held, even if ports were closed. No call is recorded.
     /// Example: `let number = hub.sequence(&sample)?;`
     pub fn sequence(&self, sample: &Named<slice::Sample<T, U>>) -> Option<Option<u64>>
         requires { value_at self.now.calls.made.samples sample.now.number.value
@@ -703,7 +705,7 @@ impl<
         typed_subscriber_calls_are_steps::<T, U, Slice, B, D>();
         what_is_held_may_be_used::<T, U, B, D>();
         let Named { it, number } = sample;
-        let was_held = it.drop_with(&mut self.hub);
+        let was_held = calls::release_if(&mut self.hub, it);
         self.history = History::told(&self.history, &number, &was_held, &());
         was_held
     }

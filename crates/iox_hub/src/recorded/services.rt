@@ -1,5 +1,5 @@
 //! What calls of a recorded hub on nodes and services do to the hub.
-ghost use Rattle.std.specs.Prelude.{⊤, ◌≡◌, List, None, [], IfOk, IfSome};
+ghost use Rattle.std.specs.Prelude.{◌≡◌, List, true, None, [], IfOk, IfSome};
 ghost use Rattle.std.specs.Result.{result_map_both};
 ghost use Rattle.iox_command.specs.NegotiateBase.PublishSubscribeErrors as publish_subscribe_errors;
 ghost use Rattle.iox_command.specs.declared.command.Command.TheVariants as command;
@@ -8,9 +8,10 @@ ghost use Rattle.iox_command.specs.declared.service.ServiceOptions.TheVariants a
 ghost use Rattle.iox_command.specs.declared.step.ForeignStep.{ForeignStep};
 ghost use Rattle.iox_hub_base.specs.DescribeBase.Hash.{service_hash_of};
 ghost use Rattle.iox_hub_base.specs.DescribeSettings.Agreement.{agreement, AreWithinLimits, HasNoRoomForHistory};
+ghost use Rattle.iox_hub_base.specs.Hubs.{has_made};
 ghost use Rattle.iox_hub_base.specs.Negotiate.Asked.{IsRefusal};
-ghost use Rattle.iox_hub_base.specs.Negotiate.Negotiation.{Creates, Either, Negotiates};
-ghost use Rattle.iox_hub_base.specs.Opening.{OpensInHub, lacking_either};
+ghost use Rattle.iox_hub_base.specs.Negotiate.Negotiation.{Creates};
+ghost use Rattle.iox_hub_base.specs.Opening.{OpensInHub};
 ghost use Rattle.iox_hub_commands.specs.Asked.{required_publish_subscribe, types_of};
 ghost use Rattle.iox_hub_commands.specs.Asking.{agreed_of, hash_of};
 ghost use Rattle.iox_hub_commands.specs.Creating.{CreatesAgreed, CreatesAs};
@@ -18,7 +19,7 @@ ghost use Rattle.iox_hub_commands.specs.DescribeBase.Attributes.{Required};
 ghost use Rattle.iox_hub_commands.specs.DescribeBase.Detail.{detail};
 ghost use Rattle.iox_hub_commands.specs.DescribeBase.declared.type_detail.TypeVariant.TheVariants.{FixedSize};
 ghost use Rattle.iox_hub_commands.specs.Either.{EitherAs, EitherJudged};
-ghost use Rattle.iox_hub_base.specs.OfPattern.{OpensJudged};
+ghost use Rattle.iox_hub_base.specs.OfPattern.{EitherOfPattern, OpensJudged};
 ghost use Rattle.iox_hub_commands.specs.Opening.{OpensAs};
 ghost use Rattle.iox_hub_commands.specs.Replies.{foreign_reply};
 ghost use Rattle.iox_hub_commands.specs.ServicesTables.{FactoryTable};
@@ -26,9 +27,7 @@ ghost use Rattle.iox_hub_commands.specs.declared.services.made.MadeFactory.TheVa
 ghost use Rattle.iox_negotiate_table.specs.Describe.Within.{HasForm};
 ghost use Rattle.iox_negotiate_table.specs.DescribeVerdict.PublishSubscribeClauses as publish_subscribe_clauses;
 ghost use Rattle.iox_negotiate_table.specs.DescribeVerdict.Verdict.{first_unmet};
-ghost use Rattle.iox_negotiate_table.specs.NegotiateBase.Opening.{Opens};
 ghost use Rattle.iox_negotiate_table.specs.NegotiateBase.declared.failure.CreateFailure.TheVariants as uncreated;
-ghost use Rattle.iox_negotiate_table.specs.NegotiateBase.declared.failure.OpenFailure.TheVariants as unopened;
 ghost use Rattle.iox_negotiate_table.specs.Stepped.{SteppedSight};
 ghost use Rattle.iox_hub.specs.Recorded.{asked_too};
 ghost use Rattle.iox_hub.specs.RecordedCalls.{IsAsAsked};
@@ -96,7 +95,7 @@ fn creates<
     asked: &PublishSubscribeOptions,
     attributes: &AttributeSpecifier,
 ) -> Result<PortFactory<PublishSubscribe>, PublishSubscribeCreateError>
-    requires { builder.hub ≡ hub.old.table.id }
+    requires { has_made builder.hub builder.node hub.old ≡ true }
     ensures opens { CreatesAgreed (detail FixedSize T.name T.size T.alignment) (detail FixedSize U.name U.size U.alignment)
         publish_subscribe_errors.create_error (hash_of builder.name (options.PublishSubscribe asked.now)) builder.node
         (agreed_of builder.name (options.PublishSubscribe asked.now) (types_of T.name T.size T.alignment U.name U.size U.alignment)
@@ -124,7 +123,7 @@ fn creates_as_asked<
     builder: ServiceBuilder<P>,
     attributes: &AttributeSpecifier,
 ) -> Result<PortFactory<P>, P::CreateError>
-    requires { builder.hub ≡ hub.old.table.id }
+    requires { has_made builder.hub builder.node hub.old ≡ true }
     ensures { OpensInHub (detail FixedSize T.name T.size T.alignment) (detail FixedSize U.name U.size U.alignment)
         (IsRefusal (AreWithinLimits (P.settings (P.adjusted (P.asked builder.requirement))))
         (HasNoRoomForHistory (P.settings (P.adjusted (P.asked builder.requirement)))) None)
@@ -218,7 +217,7 @@ fn opens<
     asked: &PublishSubscribeOptions,
     attributes: AttributeVerifier,
 ) -> Result<PortFactory<PublishSubscribe>, PublishSubscribeOpenError>
-    requires { builder.hub ≡ hub.old.table.id }
+    requires { has_made builder.hub builder.node hub.old ≡ true }
     ensures opens { OpensJudged (detail FixedSize T.name T.size T.alignment) (detail FixedSize U.name U.size U.alignment)
         publish_subscribe_errors.open_error (hash_of builder.name (options.PublishSubscribe asked.now)) builder.node
         (λ given. first_unmet (publish_subscribe_clauses.clauses
@@ -227,28 +226,33 @@ fn opens<
     ensures form { IfOk result (λ factory. HasForm factory.service.membership.service.description) }
 {
     let requirement = publish_subscribe(asked, message_types::<T, U>());
-    let required = builder.with_requirement::<PublishSubscribe>(requirement);
-    let answer = opens_as_asked(hub, alloc, required, attributes);
+    let answer = opens_as_asked::<PublishSubscribe, T, U, B, D>(
+        hub,
+        alloc,
+        builder,
+        requirement,
+        attributes,
+    );
     shows_form(&answer);
     answer
 }
 
-// A service of a pattern is opened, as a builder asks.
+// A service of a pattern is opened, as a requirement asks.
 fn opens_as_asked<P: Negotiated, T: Words + ZeroCopySend, U: Copy + ZeroCopySend, B: Drop, D: Drop>(
     hub: &mut Hub<T, U, B, D>,
     alloc: Global,
-    builder: ServiceBuilder<P>,
+    builder: Builder,
+    requirement: P::Requirement,
     attributes: AttributeVerifier,
 ) -> Result<PortFactory<P>, P::OpenError>
-    requires { builder.hub ≡ hub.old.table.id }
-    ensures { OpensInHub (detail FixedSize T.name T.size T.alignment) (detail FixedSize U.name U.size U.alignment)
-        ⊤ (λ was_new. P.open_error unopened.OutOfMemory)
-        (λ before came after. Negotiates SteppedSight before.table.id builder.node P.open_error
-        (λ made answer. Opens (service_hash_of P.pattern builder.name) builder.node
-        (λ given. P.verdict (P.with_attributes builder.requirement attributes) given) made answer) before came after) [] hub.old
+    requires { has_made builder.hub builder.node hub.old ≡ true }
+    ensures { (asked : P.Requirement) → requirement ≡ asked
+        → OpensJudged (detail FixedSize T.name T.size T.alignment) (detail FixedSize U.name U.size U.alignment) P.open_error
+        (service_hash_of P.pattern builder.name) builder.node (λ given. P.verdict (P.with_attributes asked attributes) given) [] hub.old
         (result_map_both (λ factory. (factory.service.membership, factory.owner)) (λ error. error) result) hub.new }
 {
-    builder.open_with_attributes_in(alloc, attributes, hub, Vec::new(alloc))
+    let required = builder.with_requirement::<P>(requirement);
+    required.open_with_attributes_in(alloc, attributes, hub, Vec::new(alloc))
 }
 
 // A node of a hub opens a service, or creates it, if that node was made; with the history afterwards.
@@ -330,7 +334,7 @@ fn opens_or_creates<
     asked: &PublishSubscribeOptions,
     attributes: AttributeVerifier,
 ) -> Result<PortFactory<PublishSubscribe>, PublishSubscribeOpenOrCreateError>
-    requires { builder.hub ≡ hub.old.table.id }
+    requires { has_made builder.hub builder.node hub.old ≡ true }
     ensures opens { EitherJudged (detail FixedSize T.name T.size T.alignment) (detail FixedSize U.name U.size U.alignment)
         publish_subscribe_errors.open_or_create_error (hash_of builder.name (options.PublishSubscribe asked.now)) builder.node
         (λ given. first_unmet (publish_subscribe_clauses.clauses
@@ -341,13 +345,18 @@ fn opens_or_creates<
     ensures form { IfOk result (λ factory. HasForm factory.service.membership.service.description) }
 {
     let requirement = publish_subscribe(asked, message_types::<T, U>());
-    let required = builder.with_requirement::<PublishSubscribe>(requirement);
-    let answer = opens_or_creates_as_asked(hub, alloc, required, attributes);
+    let answer = opens_or_creates_as_asked::<PublishSubscribe, T, U, B, D>(
+        hub,
+        alloc,
+        builder,
+        requirement,
+        attributes,
+    );
     shows_form(&answer);
     answer
 }
 
-// A service of a pattern is opened, or created, as a builder asks.
+// A service of a pattern is opened, or created, as a requirement asks.
 fn opens_or_creates_as_asked<
     P: Negotiated,
     T: Words + ZeroCopySend,
@@ -357,23 +366,20 @@ fn opens_or_creates_as_asked<
 >(
     hub: &mut Hub<T, U, B, D>,
     alloc: Global,
-    builder: ServiceBuilder<P>,
+    builder: Builder,
+    requirement: P::Requirement,
     attributes: AttributeVerifier,
 ) -> Result<PortFactory<P>, P::OpenOrCreateError>
-    requires { builder.hub ≡ hub.old.table.id }
-    ensures { OpensInHub (detail FixedSize T.name T.size T.alignment) (detail FixedSize U.name U.size U.alignment)
-        ⊤ (λ was_new. P.open_or_create_error (lacking_either was_new))
-        (λ before came after. Either SteppedSight before.table.id (service_hash_of P.pattern builder.name) builder.node
-        (λ given. P.verdict (P.with_attributes builder.requirement attributes) given)
-        (agreement builder.name (service_hash_of P.pattern builder.name)
-        (P.settings (P.adjusted (P.asked (P.with_attributes builder.requirement attributes))))
-        (P.attributes (P.with_attributes builder.requirement attributes)).pairs)
-        (AreWithinLimits (P.settings (P.adjusted (P.asked (P.with_attributes builder.requirement attributes)))))
-        (HasNoRoomForHistory (P.settings (P.adjusted (P.asked (P.with_attributes builder.requirement attributes))))) P.open_or_create_error
-        before came after) [] hub.old
+    requires { has_made builder.hub builder.node hub.old ≡ true }
+    ensures { (asked : P.Requirement) → requirement ≡ asked
+        → let required = P.with_attributes asked attributes in let config = P.adjusted (P.asked required) in
+        EitherOfPattern (detail FixedSize T.name T.size T.alignment) (detail FixedSize U.name U.size U.alignment) P.pattern
+        (P.settings config) (AreWithinLimits (P.settings config)) (HasNoRoomForHistory (P.settings config))
+        (λ given. P.verdict required given) P.open_or_create_error builder.node builder.name (P.attributes required).pairs [] hub.old
         (result_map_both (λ factory. (factory.service.membership, factory.owner)) (λ error. error) result) hub.new }
 {
-    builder.open_or_create_with_attributes_in(alloc, attributes, hub, Vec::new(alloc))
+    let required = builder.with_requirement::<P>(requirement);
+    required.open_or_create_with_attributes_in(alloc, attributes, hub, Vec::new(alloc))
 }
 
 // The description of a factory has the form of one, whoever made it.

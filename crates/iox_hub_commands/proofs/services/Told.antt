@@ -1,4 +1,4 @@
--- What is told of a call for which no memory was found before its first access.
+-- What is told of a call for which no memory was found before its first storage operation.
 use Rattle.std.proofs.Common.{◌≡◌, Err, refl, ap}
 use Rattle.iox_command.specs.declared.refusal.Refusal.{Refusal}
 use Rattle.iox_command.specs.declared.service.ServiceOptions.{ServiceOptions}

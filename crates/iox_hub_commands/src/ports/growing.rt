@@ -16,9 +16,9 @@ use std::alloc::{AllocError, Global};
 impl Made {
     /// Like `loan_uninit`, but first makes capacity for one more loan, if there is none. Fails only if an allocation fails for that; then
     /// nothing has changed. Whatever memory there is, the answer is None if the number has no publisher, or if the publisher's messages are
-    /// single values and not one element is asked for.
+    /// single values and another number of elements than one is asked for.
     ///
-    /// Example: `let lent = made.loan_uninit_growing(alloc, &mut home, publisher, 4)?;`
+    /// Example: `let loaned = made.loan_uninit_growing(alloc, &mut home, publisher, 4)?;`
     #[tactic(auto, using(crate::proofs::Skipping::skips_loan_uninit))]
     pub fn loan_uninit_growing<T: Copy, U: Copy, H: Home<T, U>>(
         &mut self,
@@ -43,7 +43,7 @@ impl Made {
     /// Like `loan`, but first makes capacity for one more loan, if there is none. Fails only if an allocation fails for that; then nothing
     /// has changed. The answer is None if that of `loan` is, whatever memory there is.
     ///
-    /// Example: `let lent = made.loan_growing(alloc, &mut home, publisher, 4, 0)?;`
+    /// Example: `let loaned = made.loan_growing(alloc, &mut home, publisher, 4, 0)?;`
     #[tactic(auto, using(crate::proofs::Skipping::skips_loan))]
     pub fn loan_growing<T: Copy, U: Copy, H: Home<T, U>>(
         &mut self,
@@ -94,7 +94,7 @@ impl Made {
     }
 }
 
-// Makes capacity for one value more, if there is none.
+// Makes capacity for one more value, if there is none.
 pub(crate) fn room_for_one<V>(numbers: &mut Numbered<V>) -> Result<(), AllocError>
     ensures same { SameNumbers numbers.old numbers.new }
     ensures room { OnOk result (length numbers.new.entries < numbers.new.room) }

@@ -80,7 +80,7 @@ impl Made {
         if !lending::is_out(made.port, made.slot, home) {
             return false;
         }
-        lending::drop_loan(made.port, made.slot, home);
+        let _ = lending::drop_loan(made.port, made.slot, home);
         self.loans.remove(loan);
         true
     }

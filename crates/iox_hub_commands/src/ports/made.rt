@@ -42,8 +42,8 @@ pub struct MadeSample {
 /// The ports, loans and samples that a run of commands made, each kind by numbers that are counted from 1. A number names nothing any
 /// longer once its port is closed, its loan is sent or dropped, or its sample is released.
 ///
-/// Each call is handed a home, which contains the domains. Each answers None or false, and nothing happens, if a number names nothing. This
-/// port's own.
+/// Each call is handed a home, which contains the domains. Each answers None or false, and nothing happens, if a number names nothing. Not
+/// in `iceoryx2`.
 #[derive(Drop)]
 pub struct Made {
     /// The open publishers.
@@ -86,7 +86,7 @@ impl Made {
         self.subscribers.get(subscriber).copied()
     }
 
-    /// The port of the publisher with this number, if its messages may have so many elements; messages that aren't slices have one.
+    /// The port of the publisher with this number, if its messages may have this many elements; messages that aren't slices have one.
     pub fn lender(&self, publisher: u64, elements: u64) -> Option<PortId>
         ensures { result ≡ lender elements (value_at self.now.publishers publisher) }
     {

@@ -21,7 +21,7 @@ pub struct PublisherParts<'a, U, B, O> {
     pub config: PublisherConfig,
     /// The user header with which each loan starts.
     pub user_header: U,
-    /// What says how many slots the publisher gets.
+    /// The object that says how many slots the publisher gets.
     pub overriding: &'a O,
     /// The handlers of the publisher.
     pub handlers: B,

@@ -14,11 +14,11 @@ use iox_domain_values::{ConnectionFailure, LoanError, SendError};
 use std::alloc::Global;
 
 impl Made {
-    /// Loans a slot of a publisher for so many elements, none of which is written, and answers the loan's number. It takes no memory for
+    /// Loans a slot of a publisher for this many elements, none of which is written, and answers the loan's number. It takes no memory for
     /// the number: there must be capacity for one more loan.
     ///
-    /// None, and nothing happens, if the number has no publisher, if the publisher's messages are single values and not one element is
-    /// asked for, if a send of it is blocked, or if its domain isn't in the home. Refused as `calls::loan` refuses it.
+    /// None, and nothing happens, if the number has no publisher, if the publisher's messages are single values and another number of
+    /// elements than one is asked for, if a send of it is blocked, or if its domain isn't in the home. Refused as `calls::loan` refuses it.
     pub fn loan_uninit<T: Copy, U: Copy, H: Home<T, U>>(
         &mut self,
         alloc: Global,
@@ -46,11 +46,11 @@ impl Made {
         }
     }
 
-    /// Loans a slot of a publisher for so many elements, each written with this value, and answers the loan's number. The loan may be sent
-    /// at once. It takes no memory for the number: there must be capacity for one more loan.
+    /// Loans a slot of a publisher for this many elements, each written with this value, and answers the loan's number. The loan may be
+    /// sent at once. It takes no memory for the number: there must be capacity for one more loan.
     ///
-    /// None, and nothing happens, if the number has no publisher, if the publisher's messages are single values and not one element is
-    /// asked for, if a send of it is blocked, or if its domain isn't in the home. Refused as `loan_uninit` is.
+    /// None, and nothing happens, if the number has no publisher, if the publisher's messages are single values and another number of
+    /// elements than one is asked for, if a send of it is blocked, or if its domain isn't in the home. Refused as `loan_uninit` is.
     pub fn loan<T: Copy, U: Copy, H: Home<T, U>>(
         &mut self,
         alloc: Global,
@@ -72,11 +72,11 @@ impl Made {
         }
     }
 
-    /// Loans a slot of a publisher for these values, writes and sends them, and answers what the send answers. No loan gets a number. A
-    /// loan that is refused is `SendError::LoanError`, and nothing is sent.
+    /// Loans a slot of a publisher for these values, writes and sends them, and answers what the send answers. No loan gets a number. If
+    /// the loan is refused, the answer is `SendError::LoanError`, and nothing is sent.
     ///
-    /// None, and nothing happens, if the number has no publisher, if the publisher's messages are single values and this isn't one, if a
-    /// send of it is blocked, or if its domain isn't in the home. Refused as `calls::send` refuses it.
+    /// None, and nothing happens, if the number has no publisher, if the publisher's messages are single values and the number of these
+    /// values isn't one, if a send of it is blocked, or if its domain isn't in the home. Refused as `calls::send` refuses it.
     pub fn put<T: Copy, U: Copy, H: Home<T, U>>(
         &self,
         alloc: Global,
@@ -110,7 +110,7 @@ impl Made {
         calls::update_publisher(home, alloc, port.domain, port.number)
     }
 
-    /// Tries the blocked send of a publisher again, with so many nanoseconds elapsed. None, and nothing happens, if the number has no
+    /// Tries the blocked send of a publisher again, with this many nanoseconds elapsed. None, and nothing happens, if the number has no
     /// publisher, if no send of it is blocked, or if its domain isn't in the home. Refused as `calls::retry` refuses it.
     pub fn retry<T: Copy, U: Copy, H: Home<T, U>>(
         &self,

@@ -26,14 +26,14 @@ use std::alloc::Global;
 
 impl Factories {
     /// Creates a service with these attributes, and answers the number of its factory. The actions of other nodes are done before the
-    /// accesses that they name.
+    /// storage operations that they name.
     ///
     /// None, and nothing happens, if the hub has no node with the number. Refused as `HubBuilder::create_with_attributes_in` refuses it:
     /// for impossible settings before anything else is done, whatever memory there is; then, whatever memory there is, if no action is
-    /// named before the first access, with `HangsInCreation` if the first look finds that another node is about to create the service, and
-    /// with `AlreadyExists` if it finds that the service exists. Refused with `OutOfMemory`, too, if an allocation fails for the lists of
-    /// actions or for capacity; then nothing happens, except that there may be more capacity. No memory is taken for that if no actions are
-    /// named and there is capacity.
+    /// named before the first storage operation, with `HangsInCreation` if the first lookup finds that another node is about to create the
+    /// service, and with `AlreadyExists` if it finds that the service exists. Refused with `OutOfMemory`, too, if an allocation fails for
+    /// the lists of actions or for capacity; then nothing happens, except that there may be more capacity. No memory is taken for that if
+    /// no actions are named and there is capacity.
     ///
     /// Example: `let created = factories.create(alloc, &mut hub, &asked, &attributes, &[]);`
     pub fn create<T: Words + ZeroCopySend, U: Copy + ZeroCopySend, B: Drop, D: Drop>(
@@ -66,7 +66,7 @@ impl Factories {
     }
 }
 
-// The refusal if memory runs out before the first access.
+// The refusal if memory runs out before the first storage operation.
 pub(crate) fn create_lacking(options: &ServiceOptions) -> Refusal
     ensures { result ≡ create_lacking options.now }
 {

@@ -25,14 +25,15 @@ use std::alloc::Global;
 
 impl Factories {
     /// Opens a service if it also has these attributes, or creates it with the required pairs if it doesn't exist, and answers the number
-    /// of its factory. The actions of other nodes are done before the accesses that they name.
+    /// of its factory. The actions of other nodes are done before the storage operations that they name.
     ///
     /// None, and nothing happens, if the hub has no node with the number. Refused as `HubBuilder::open_or_create_with_attributes_in`
-    /// refuses it. Before anything else is done, whatever memory there is, and if no action is named before the first access, it is refused
-    /// for impossible settings if the first look finds that the service doesn't exist, and with the `HangsInCreation` of the pattern's
-    /// error of opening if that look finds that another node is about to create the service. Refused with the `OutOfMemory` of the
-    /// pattern's error of opening, too, if an allocation fails for the lists of actions or for capacity; then nothing happens, except that
-    /// there may be more capacity. No memory is taken for that if no actions are named and there is capacity.
+    /// refuses it. If no action is named before the first storage operation, it is refused before anything else is done, and whatever
+    /// memory there is, in two cases: for impossible settings if the first lookup finds that the service doesn't exist, and with the
+    /// `HangsInCreation` of the pattern's error of opening if the first lookup finds that another node is about to create the service.
+    /// Refused with the `OutOfMemory` of the pattern's error of opening, too, if an allocation fails for the lists of actions or for
+    /// capacity; then nothing happens, except that there may be more capacity. No memory is taken for that if no actions are named and
+    /// there is capacity.
     ///
     /// Example: `let opened = factories.open_or_create(alloc, &mut hub, &asked, attributes, &[]);`
     pub fn open_or_create<T: Words + ZeroCopySend, U: Copy + ZeroCopySend, B: Drop, D: Drop>(
@@ -64,7 +65,7 @@ impl Factories {
     }
 }
 
-// The refusal if memory runs out before the first access.
+// The refusal if memory runs out before the first storage operation.
 pub(crate) fn either_lacking(options: &ServiceOptions) -> Refusal
     ensures { result ≡ either_lacking options.now }
 {

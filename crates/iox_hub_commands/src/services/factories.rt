@@ -48,7 +48,7 @@ impl Factories {
         }
     }
 
-    // Prepares what a call that opens needs: capacity for one factory more, and the lists of actions. It takes no memory if there is
+    // Prepares what a call that opens needs: capacity for one more factory, and the lists of actions. It takes no memory if there is
     // capacity and no actions are named.
     pub(crate) fn prepare(
         &mut self,
@@ -77,7 +77,7 @@ impl Factories {
         self.made.insert_next(factory)
     }
 
-    // Makes capacity for one factory more, if there is none.
+    // Makes capacity for one more factory, if there is none.
     fn make_room(&mut self) -> Result<(), AllocError>
         ensures { MakesRoom self.old.made result self.new.made }
     {

@@ -23,13 +23,13 @@ use std::alloc::Global;
 
 impl Factories {
     /// Opens a service if it also has these attributes, and answers the number of its factory. The actions of other nodes are done before
-    /// the accesses that they name.
+    /// the storage operations that they name.
     ///
-    /// None, and nothing happens, if the hub has no node with the number. Refused as `HubBuilder::open_with_attributes_in` refuses it.
-    /// Before anything else is done, whatever memory there is, and if no action is named before the first access, it is refused with
-    /// `DoesNotExist` if the first look finds that the service doesn't exist, and with `HangsInCreation` if another node is about to create
-    /// it. Refused with `OutOfMemory`, too, if an allocation fails for the lists of actions or for capacity; then nothing happens, except
-    /// that there may be more capacity. No memory is taken for that if no actions are named and there is capacity.
+    /// None, and nothing happens, if the hub has no node with the number. Refused as `HubBuilder::open_with_attributes_in` refuses it. If
+    /// no action is named before the first storage operation, it is refused before anything else is done, and whatever memory there is, in
+    /// two cases: with `DoesNotExist` if the first lookup finds that the service doesn't exist, and with `HangsInCreation` if another node
+    /// is about to create it. Refused with `OutOfMemory`, too, if an allocation fails for the lists of actions or for capacity; then
+    /// nothing happens, except that there may be more capacity. No memory is taken for that if no actions are named and there is capacity.
     pub fn open<T: Words + ZeroCopySend, U: Copy + ZeroCopySend, B: Drop, D: Drop>(
         &mut self,
         alloc: Global,
@@ -51,7 +51,7 @@ impl Factories {
     }
 }
 
-// The refusal if memory runs out before the first access.
+// The refusal if memory runs out before the first storage operation.
 pub(crate) fn open_lacking(options: &ServiceOptions) -> Refusal
     ensures { result ≡ open_lacking options.now }
 {

@@ -1,4 +1,4 @@
-//! What the calls that create and open services have in common: their first look, and what follows if it isn't a refusal.
+//! What the calls that create and open services have in common: their first lookup, and what follows if it isn't a refusal.
 ghost use Rattle.std.specs.Prelude.{◌≡◌, ◌<◌, ◌+◌, ◌^◌, ℕ, true, Option, Result, Some, Err, length};
 ghost use Rattle.std.specs.List.{AllByRecursion};
 ghost use Rattle.std.specs.Result.{result_map_both};
@@ -48,7 +48,7 @@ pub(crate) enum OpeningCall<'a> {
 }
 
 impl<'a> OpeningCall<'a> {
-    // The refusal if memory runs out before the first access.
+    // The refusal if memory runs out before the first storage operation.
     fn lacking(&self, options: &ServiceOptions) -> Refusal
         ensures { result ≡ lacking_of self.now options.now }
     {
@@ -59,7 +59,8 @@ impl<'a> OpeningCall<'a> {
         }
     }
 
-    // Why the call fails, if the settings or a first look that finds this decide it. A call that only opens doesn't depend on the settings.
+    // Why the call fails, if the settings decide it, or the first lookup decides it by having found `found`. A call that only opens doesn't
+    // depend on the settings.
     fn told<T: ZeroCopySend, U: ZeroCopySend>(
         &self,
         options: &ServiceOptions,
@@ -74,18 +75,17 @@ impl<'a> OpeningCall<'a> {
         }
     }
 
-    // Why the call fails, if the settings or the first look decide it, unless an action is named before that look. Nothing changes, and the
-    // answer doesn't depend on memory. Settings are held by value here, and no longer once deeper calls are made.
+    // Why the call fails, if the settings or the first lookup decide it, unless an action is named before that lookup. The answer doesn't
+    // depend on memory. Settings are held by value only here, so they are dropped before deeper calls are made.
     #[inline(never)]
     fn refusal_at_first_look<T: Copy + ZeroCopySend, U: Copy + ZeroCopySend, B: Drop, D: Drop>(
         &self,
-        hub: &mut Hub<T, U, B, D>,
+        hub: &Hub<T, U, B, D>,
         asked: &ServiceAsked,
         steps: &[StepBefore],
     ) -> Option<Refusal>
-        ensures told { IsToldFirst self.now (types_of T.name T.size T.alignment U.name U.size U.alignment) asked.now.options
-            (first_look asked.now steps.now hub.old) result }
-        ensures same { hub.new ≡ hub.old }
+        ensures { IsToldFirst self.now (types_of T.name T.size T.alignment U.name U.size U.alignment) asked.now.options
+            (first_look asked.now steps.now hub.now) result }
     {
         let found = first_look(hub, asked, steps);
         self.told::<T, U>(&asked.options, found)
@@ -153,7 +153,7 @@ impl Factories {
         }
     }
 
-    // Makes the call if the node exists and the first look doesn't refuse it.
+    // Makes the call if the node exists and the first lookup doesn't refuse it.
     fn looked<T: Words + ZeroCopySend, U: Copy + ZeroCopySend, B: Drop, D: Drop>(
         &mut self,
         alloc: Global,
@@ -162,7 +162,8 @@ impl Factories {
         call: OpeningCall<'_>,
         steps: &[StepBefore],
     ) -> Result<u64, Refusal>
-        requires { self.old.made.next + 1 < 2 ^ 64 }
+        requires node { is_node asked.now.node hub.old.nodes ≡ true }
+        requires number { self.old.made.next + 1 < 2 ^ 64 }
         ensures { OpensUnlessLacking call.entry (detail FixedSize T.name T.size T.alignment) (detail FixedSize U.name U.size U.alignment)
             (types_of T.name T.size T.alignment U.name U.size U.alignment) asked.now steps.now self.old.made hub.old (Some result)
             self.new.made hub.new }
@@ -173,7 +174,7 @@ impl Factories {
         }
     }
 
-    // Makes the call for a service of the pattern that is asked for, once there are lists of actions and capacity.
+    // Makes the call for a service of the pattern that is asked for, after the lists of actions and the capacity were made.
     fn prepared<T: Words + ZeroCopySend, U: Copy + ZeroCopySend, B: Drop, D: Drop>(
         &mut self,
         alloc: Global,
@@ -182,6 +183,7 @@ impl Factories {
         call: OpeningCall<'_>,
         lists: Vec<StepList>,
     ) -> Result<u64, Refusal>
+        requires node { is_node asked.now.node hub.old.nodes ≡ true }
         requires room { length self.old.made.entries < self.old.made.room }
         requires number { self.old.made.next + 1 < 2 ^ 64 }
         ensures { OpensByCall call.entry asked.now.options (detail FixedSize T.name T.size T.alignment)
@@ -215,7 +217,7 @@ impl Factories {
     }
 }
 
-// Makes the call for a service of a pattern with these options; its factory gets a number later, in whatever table.
+// Makes the call for a service of a pattern with these options; its factory gets a number later, in a table of the caller's.
 fn built<P: CommandPattern, T: Words + ZeroCopySend, U: Copy + ZeroCopySend, B: Drop, D: Drop>(
     alloc: Global,
     hub: &mut Hub<T, U, B, D>,
@@ -224,6 +226,7 @@ fn built<P: CommandPattern, T: Words + ZeroCopySend, U: Copy + ZeroCopySend, B: 
     call: OpeningCall<'_>,
     lists: Vec<StepList>,
 ) -> Result<PortFactory<P>, Refusal>
+    requires { is_node asked.now.node hub.old.nodes ≡ true }
     ensures { let requirement = P.asks options.now (types_of T.name T.size T.alignment U.name U.size U.alignment) in
         (table after : FactoryTable) (answer : Result ℕ Refusal)
         → Numbers P.pattern (λ refusal. refusal)

@@ -1,5 +1,5 @@
-//! Which settings no service can be created with, whatever exists already: that follows from the request alone, without memory. And which
-//! calls are refused at their first look.
+//! The settings with which no service can be created, whatever exists already: that follows from the request alone, without memory. And the
+//! calls that are refused at their first lookup.
 ghost use Rattle.std.specs.Prelude.{◌≡◌, Option};
 ghost use Rattle.iox_command.specs.NegotiateBase.declared.failure.CreateFailure.{CreateFailure};
 ghost use Rattle.iox_hub_commands.specs.Asked.{types_of};
@@ -18,7 +18,8 @@ use iox_hub_base::{HashState, Hub};
 use iox_negotiate::{Negotiated, settings_refusal};
 use iox_negotiate_base::{CreateFailure, OpenFailure, OpenOrCreateFailure};
 
-/// Why no service can be created with the settings that are asked for, if so. Messages are slices of `T` with a user header of `U`.
+/// Why no service can be created with the settings that are asked for; None if one can. Messages are slices of `T` with a user header of
+/// `U`.
 /// Example: `let failure = uncreated::<u64, u64>(&asked.options);`
 pub fn uncreated<T: ZeroCopySend, U: ZeroCopySend>(
     options: &ServiceOptions,
@@ -28,7 +29,7 @@ pub fn uncreated<T: ZeroCopySend, U: ZeroCopySend>(
     uncreated_of(options, message_types::<T, U>())
 }
 
-// Why no service can be created with the settings that are asked for, if so, for messages of these types.
+// Why no service can be created with the settings that are asked for, for messages of these types; None if one can.
 fn uncreated_of(options: &ServiceOptions, types: MessageTypeDetails) -> Option<CreateFailure>
     ensures { IsUncreated (settings_of types options.now) result }
 {
@@ -43,7 +44,7 @@ fn uncreated_of(options: &ServiceOptions, types: MessageTypeDetails) -> Option<C
     }
 }
 
-/// The refusal of a creation that fails with this, by the pattern that is asked for.
+/// The refusal that reports this failure of a creation, by the pattern that is asked for.
 /// Example: `let refusal = create_refused(&asked.options, CreateFailure::InternalFailure);`
 pub fn create_refused(options: &ServiceOptions, failure: CreateFailure) -> Refusal
     ensures { result ≡ create_refused options.now failure }
@@ -59,7 +60,7 @@ pub fn create_refused(options: &ServiceOptions, failure: CreateFailure) -> Refus
     }
 }
 
-/// The refusal of `open_or_create` if its creation fails with this, by the pattern that is asked for.
+/// The refusal of `open_or_create` that reports this failure of its creation, by the pattern that is asked for.
 /// Example: `let refusal = either_refused(&asked.options, CreateFailure::InternalFailure);`
 pub fn either_refused(options: &ServiceOptions, failure: CreateFailure) -> Refusal
     ensures { result ≡ either_refused options.now failure }
@@ -132,14 +133,13 @@ fn either_locked(options: &ServiceOptions) -> Refusal
     }
 }
 
-// What the first look of a call finds, unless an action is named before it.
+// What the first lookup of a call finds, unless an action is named before it.
 pub(crate) fn first_look<T: Copy, U: Copy, B: Drop, D: Drop>(
-    hub: &mut Hub<T, U, B, D>,
+    hub: &Hub<T, U, B, D>,
     asked: &ServiceAsked,
     steps: &[StepBefore],
 ) -> Option<HashState>
-    ensures found { result ≡ first_look asked.now steps.now hub.old }
-    ensures same { hub.new ≡ hub.old }
+    ensures { result ≡ first_look asked.now steps.now hub.now }
 {
     if acts_first(steps) {
         return None;
@@ -147,7 +147,7 @@ pub(crate) fn first_look<T: Copy, U: Copy, B: Drop, D: Drop>(
     Some(hub.state_under(asked.options.pattern(), &asked.name))
 }
 
-// Why nothing is opened, if a first look that finds this decides it.
+// Why nothing is opened, if the first lookup decides it by having found `found`.
 pub(crate) fn open_told(options: &ServiceOptions, found: Option<HashState>) -> Option<Refusal>
     ensures { result ≡ open_told options.now found }
 {
@@ -158,7 +158,8 @@ pub(crate) fn open_told(options: &ServiceOptions, found: Option<HashState>) -> O
     }
 }
 
-// Why nothing is created, if settings that are refused so, or a first look that finds this, decide it.
+// Why nothing is created, if the settings decide it, which are refused with `refused`, or the first lookup decides it by having found
+// `found`.
 pub(crate) fn create_told(
     options: &ServiceOptions,
     refused: Option<CreateFailure>,
@@ -176,7 +177,7 @@ pub(crate) fn create_told(
     }
 }
 
-// Why nothing is opened or created, if a first look that finds this decides it, with settings that are refused so.
+// Why nothing is opened or created, if the first lookup decides it by having found `found`, and settings that are refused with `refused`.
 pub(crate) fn either_told(
     options: &ServiceOptions,
     refused: Option<CreateFailure>,

@@ -4,7 +4,7 @@
 //! |---|---|
 //! | `asked` | what is asked of a service of each pattern |
 //! | `described` | the service that another node publishes |
-//! | `steps` | the actions of other nodes before each access |
+//! | `steps` | the actions of other nodes before each storage operation |
 //!
 //! The messages of a hub's services over values of `T` are slices of them, with a user header of `U`; those of request-response in both
 //! directions.

@@ -33,7 +33,7 @@ pub(crate) fn forget_all<T: Copy, U: Copy>(publishers: &mut Publishers<T, U>, nu
     }
 }
 
-// Sets the last sequence number of a publisher, after which it goes on.
+// Sets the last sequence number of a publisher, so its next message gets the number after it.
 fn go_on<T: Copy, U: Copy>(port: &mut PublisherPort<T, U>, last: Option<u64>)
     ensures { port.new ≡ with_last last port.old }
 {

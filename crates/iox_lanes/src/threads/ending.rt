@@ -9,8 +9,8 @@ use crate::threads::threads::{DomainBoard, DomainThreads};
 use iox_domain::Domain;
 use iox_lanes_threads::{EndError, LanePublisher, LaneSubscriber, are_all};
 
-// Whether these are all ports of a domain's board.
-fn has_all<T, U, B, D>(
+/// Whether these are all ports of a domain's board.
+pub fn has_all<T, U, B, D>(
     board: &DomainBoard<T, U, B, D>,
     publishers: &[LanePublisher],
     subscribers: &[LaneSubscriber],
@@ -39,7 +39,7 @@ fn not_all<T, U, B, D>(
 
 // The domain after its publishers forgot their messages and took over the last sequence numbers of their ports. `numbers` are the numbers
 // of the publishers, by place of their ports.
-fn emptied<T: Copy, U: Copy, B, D>(
+pub(crate) fn emptied<T: Copy, U: Copy, B, D>(
     mut domain: Domain<T, U, B, D>,
     numbers: &[u64],
     publishers: &[LanePublisher],
@@ -54,29 +54,13 @@ fn emptied<T: Copy, U: Copy, B, D>(
 /// Ends all ports of a domain's board: the domain has the same ports again, and no messages. It is as it was when its lanes began, except
 /// that the mailboxes and histories of its publishers are empty, and their sequence numbers go on after the last ones of their ports. Loans
 /// and samples that were still out are void. Nothing is allocated. If a port is missing or belongs to another board, it returns
-/// `NotAllPorts` with all ports and the board as they were. Not in `iceoryx2`.
+/// `NotAllPorts` with all ports and the board as they were; [`abandon`](crate::threads::abandon) ends a board of which ports are lost.
+///
+/// A board identifies a port by its number alone. So `end` requires that each port with the board's number steps on the board's own words,
+/// which `open_threads` ensures (`own`) and each call of a port keeps (`same`). Ports of other boards may be handed in, and are refused.
+/// In return `end` ensures that what a subscriber has read of a sample that it still holds is what the publisher knows of the slot, if the
+/// ports know that no write position came to 2^64 - 1. Not in `iceoryx2`.
 pub fn end<T: Copy, U: Copy, B, D>(
-    board: DomainBoard<T, U, B, D>,
-    publishers: Vec<LanePublisher>,
-    subscribers: Vec<LaneSubscriber>,
-) -> Result<Domain<T, U, B, D>, (EndError, DomainThreads<T, U, B, D>)>
-    ensures ended { IfOk result (λ domain. AreAll board.board publishers.items subscribers.items
-        × IsEnded board.publishers publishers.items board.domain domain) }
-    ensures refused { IfErr result (λ refused. (AreAll board.board publishers.items subscribers.items → ⊥)
-        × (refused.1 ≡ record { board = board; publishers = publishers; subscribers = subscribers })) }
-{
-    if !has_all(&board, &publishers, &subscribers) {
-        return Err(not_all(board, publishers, subscribers));
-    }
-    let (_board, domain, numbers) = board.into_fields();
-    Ok(emptied(domain, &numbers, &publishers))
-}
-
-/// Ends all ports of a domain's board as [`end`] does, with the same error. It requires that each port with the board's number steps on the
-/// board's own words, which holds if no two boards have the same number. In return it ensures that what a subscriber has read of a sample
-/// that it still holds is what the publisher knows of the slot, if the ports know that no write position came to 2^64 - 1.
-/// Not in `iceoryx2`.
-pub fn end_together<T: Copy, U: Copy, B, D>(
     board: DomainBoard<T, U, B, D>,
     publishers: Vec<LanePublisher>,
     subscribers: Vec<LaneSubscriber>,
@@ -92,9 +76,9 @@ pub fn end_together<T: Copy, U: Copy, B, D>(
     if !has_all(&board, &publishers, &subscribers) {
         return Err(not_all(board, publishers, subscribers));
     }
-    let (board, domain, numbers) = board.into_fields();
+    let (board, domain, numbers, _receivers) = board.into_fields();
     let domain = emptied(domain, &numbers, &publishers);
-    match iox_lanes_threads::end_together(board, publishers, subscribers) {
+    match iox_lanes_threads::end(board, publishers, subscribers) {
         Ok(_) => Ok(domain),
         Err(_) => unreachable!(),
     }

@@ -14,19 +14,19 @@ use iox_queues_base::Words;
 use std::alloc::Global;
 
 /// Opens the lanes of a domain for threads, as `open_threads` of `iox_lanes_threads` does; the board keeps the domain as it was when the
-/// lanes began. In threads no messages are kept as in `Lanes`; those that the lanes kept are dropped.
+/// lanes began. Unlike `Lanes`, threads keep no messages; those that the lanes kept are dropped.
 ///
 /// `board` is the number by which the board knows its ports; give two boards two numbers. The lanes come back as they were with an error if
 /// a party is inside a call (`PartyInCall`), a loan or a sample is out (`SamplesOut`), more than 2^63 steps were made (`TooManySteps`), or
 /// an allocation fails (`OutOfMemory`), checked in this order. From then on the ports allocate nothing, and they step on the board's own
-/// words, as `end_together` requires. Not in `iceoryx2`.
+/// words (`own`), as `end` requires. Not in `iceoryx2`.
 pub fn open_threads<T: Words, U: Words>(
     alloc: Global,
     board: u64,
     lanes: DomainLanes<T, U>,
 ) -> Result<DomainThreads<T, U>, (OpenError, DomainLanes<T, U>)>
     ensures opened { IfOk result (λ threads. MayOpen lanes.lanes.lanes
-        × IsOpened board lanes.lanes.lanes lanes.domain lanes.publishers.items threads) }
+        × IsOpened board lanes.lanes.lanes lanes.domain lanes.publishers.items lanes.subscribers.items threads) }
     ensures own { IfOk result (λ threads. ArePublishersOf threads.board.board threads.publishers.items
         × AreSubscribersOf threads.board.board threads.subscribers.items) }
     ensures refused { IfErr result (λ refused. RefusesToOpen refused.0 lanes.lanes.lanes × (refused.1 ≡ lanes)) }
@@ -41,7 +41,7 @@ pub fn open_threads<T: Words, U: Words>(
     } = lanes;
     let (lanes, messages) = lanes.into_parts();
     match iox_lanes_threads::open_threads(alloc, board, lanes) {
-        Ok(threads) => Ok(with(threads, domain, publishers)),
+        Ok(threads) => Ok(with(threads, domain, publishers, subscribers)),
         Err((error, lanes)) => {
             let lanes = DomainLanes {
                 lanes: Lanes::of_parts(alloc, lanes, messages),
@@ -56,13 +56,15 @@ pub fn open_threads<T: Words, U: Words>(
     }
 }
 
-// The threads of lanes, whose board keeps the domain and the numbers of its publishers.
+// The threads of lanes. Their board keeps the domain, and the numbers of its publishers and subscribers.
 fn with<T, U, B, D>(
     threads: LaneThreads,
     domain: Domain<T, U, B, D>,
-    numbers: Vec<u64>,
+    senders: Vec<u64>,
+    receivers: Vec<u64>,
 ) -> DomainThreads<T, U, B, D>
-    ensures board { result.board ≡ record { board = threads.board; domain = domain; publishers = numbers.items } }
+    ensures board { result.board ≡ record
+        { board = threads.board; domain = domain; publishers = senders.items; subscribers = receivers.items } }
     ensures publishers { result.publishers ≡ threads.publishers }
     ensures subscribers { result.subscribers ≡ threads.subscribers }
 {
@@ -75,7 +77,8 @@ fn with<T, U, B, D>(
         board: DomainBoard {
             board,
             domain,
-            publishers: numbers,
+            publishers: senders,
+            subscribers: receivers,
         },
         publishers,
         subscribers,

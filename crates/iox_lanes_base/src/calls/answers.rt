@@ -7,7 +7,7 @@ use iox_queues_steps::rings::refusing::{Pop as RefusingPop, Push as RefusingPush
 use iox_queues_steps::rings::{Pop, Push};
 use iox_queues_steps::{PopAnswer, PushAnswer};
 
-/// The answer of a push on a refusing ring; None while it is under way.
+/// The answer of a push on a refusing ring; None while it is in progress.
 pub fn refusing_push_answer(push: &RefusingPush) -> Option<PushAnswer>
     ensures { result ≡ refusing_push_answer push.now }
 {
@@ -17,7 +17,7 @@ pub fn refusing_push_answer(push: &RefusingPush) -> Option<PushAnswer>
     }
 }
 
-/// The answer of a pop or a look on a refusing ring; None while it is under way.
+/// The answer of a pop or a look on a refusing ring; None while it is in progress.
 pub fn refusing_pop_answer(pop: &RefusingPop) -> Option<PopAnswer>
     ensures { result ≡ refusing_pop_answer pop.now }
 {
@@ -28,7 +28,7 @@ pub fn refusing_pop_answer(pop: &RefusingPop) -> Option<PopAnswer>
     }
 }
 
-/// The answer of a push on a ring of either kind; None while it is under way.
+/// The answer of a push on a ring of either kind; None while it is in progress.
 pub fn push_answer(push: &Push) -> Option<PushAnswer>
     ensures { result ≡ push_answer push.now }
 {
@@ -39,7 +39,7 @@ pub fn push_answer(push: &Push) -> Option<PushAnswer>
     }
 }
 
-/// The answer of a pop or a look on a ring of either kind; None while it is under way.
+/// The answer of a pop or a look on a ring of either kind; None while it is in progress.
 pub fn pop_answer(pop: &Pop) -> Option<PopAnswer>
     ensures { result ≡ pop_answer pop.now }
 {

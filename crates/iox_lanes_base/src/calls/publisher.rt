@@ -25,7 +25,7 @@ pub struct Delivery {
 /// The stage of a publisher's call. A place is one in the publisher's list of connections.
 #[derive(Clone, Copy)]
 pub enum PublisherCall {
-    /// No call is under way.
+    /// No call is in progress.
     Idle,
     /// A loan takes back the samples that came back at this connection.
     LoanReclaims {
@@ -86,7 +86,7 @@ pub enum PublisherCall {
 pub enum PublisherChange {
     /// Nothing changes.
     Nothing,
-    /// A free slot is loaned, if there is one and fewer loans are out than may be.
+    /// A free slot is loaned, if there is one and the publisher is below its loan limit.
     Lend,
     /// The loan of this slot is written.
     Mark { slot: u64 },
@@ -96,7 +96,7 @@ pub enum PublisherChange {
     TakenBack { place: u64, slot: u64 },
     /// The slot was put into the ring of the connection at this place.
     Put { place: u64, slot: u64 },
-    /// The oldest slot of that ring was dropped.
+    /// The oldest slot of the ring of the connection at this place was dropped.
     LeftOut { place: u64, slot: u64 },
     /// The loan of this slot is dropped.
     DropLoan { slot: u64 },
@@ -256,7 +256,7 @@ impl PublisherCall {
         }
     }
 
-    /// Whether no call is under way.
+    /// Whether no call is in progress.
     pub fn is_idle(&self) -> bool
         ensures { result ≡ publisher_is_idle self.now }
     {
@@ -288,7 +288,7 @@ fn header_word(word: u64) -> SlotWord
     }
 }
 
-// A loan at the connection of this place; after the last connection it looks for a slot.
+// A loan that takes samples back at the connection of this place; after the last connection it looks for a slot.
 fn loan_at(routes: &[Route], place: u64) -> PublisherCall
     ensures { result ≡ loan_at routes.now place }
 {
@@ -330,7 +330,7 @@ fn head_at(words: &[u64], slot: u64, word: u64) -> PublisherCall
     }
 }
 
-// A send that takes back at the connection of this place; after the last connection it begins to push.
+// A send that takes samples back at the connection of this place; after the last connection it begins to push.
 fn sweep_at(routes: &[Route], slot: u64, place: u64) -> PublisherCall
     ensures { result ≡ sweep_at routes.now slot place }
 {
@@ -369,7 +369,7 @@ fn push_at(routes: &[Route], slot: u64, place: u64, delivery: Delivery) -> Publi
     }
 }
 
-// The delivery with one connection more that took the message, or refused it.
+// The delivery with one more connection that took the message, or refused it.
 fn counted(delivery: Delivery, answer: PushAnswer) -> Delivery
     ensures { result ≡ counted delivery answer }
 {

@@ -4,14 +4,14 @@ ghost use Rattle.iox_lanes_base.specs.Routes.{known_as, rerouted};
 
 use iox_queues_steps::rings::RingKind;
 
-/// A connection: its number, how many messages may wait there, and the sizes of its two rings.
+/// A connection: its number, its maximum number of waiting messages, and the sizes of its two rings.
 #[derive(Clone, Copy)]
 pub struct Route {
     /// The number of the connection.
     pub connection: u64,
-    /// What the submission ring does with one message more when it is full.
+    /// What the submission ring does with another message when it is full.
     pub kind: RingKind,
-    /// How many messages may wait.
+    /// The maximum number of waiting messages.
     pub limit: u64,
     /// How many cells the submission ring has.
     pub submission_cells: u64,
@@ -19,7 +19,7 @@ pub struct Route {
     pub completion_cells: u64,
 }
 
-/// Replaces each of a port's connections that has this one's number by this one.
+/// Replaces each of a port's connections that has the number of `route` by `route`.
 pub fn reroute(routes: &mut [Route], route: Route)
     ensures { routes.new ≡ rerouted route routes.old }
 {

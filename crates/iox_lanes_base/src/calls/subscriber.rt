@@ -19,7 +19,7 @@ pub enum Receipt {
     Taken { place: u64, slot: u64 },
     /// No message waits.
     Nothing,
-    /// A message waits at a connection, but as many samples of that connection are borrowed as may be.
+    /// A message waits at a connection, but the maximum number of samples is borrowed from that connection.
     ExceedsMaxBorrows,
 }
 
@@ -35,7 +35,7 @@ pub struct SlotExtent {
 /// The stage of a subscriber's call. A place is one in the subscriber's list of connections.
 #[derive(Clone, Copy)]
 pub enum SubscriberCall {
-    /// No call is under way.
+    /// No call is in progress.
     Idle,
     /// A receive pops at this connection, or only looks whether a message waits there. `waits` says whether an earlier look saw one.
     Receiving {
@@ -84,7 +84,8 @@ pub enum SubscriberChange {
 }
 
 impl SubscriberCall {
-    /// The first stage of a receive over these connections; `borrowed` says how many samples of each are borrowed, of at most `most`.
+    /// The first stage of a receive over these connections; `borrowed` has the number of samples that are borrowed from each, and `most` is
+    /// their maximum.
     pub fn receive(routes: &[Route], borrowed: &[u64], most: u64) -> SubscriberCall
         ensures { result ≡ receive_at routes.now borrowed.now most 0 false }
     {
@@ -138,7 +139,7 @@ impl SubscriberCall {
     }
 
     /// Goes on after the answer of that access, and returns what it changes of what the subscriber keeps for itself. `routes` are the
-    /// subscriber's connections, `borrowed` says how many samples of each are borrowed, of at most `most`.
+    /// subscriber's connections, `borrowed` has the number of samples that are borrowed from each, and `most` is their maximum.
     #[inline(always)]
     pub fn take(
         &mut self,
@@ -206,7 +207,7 @@ impl SubscriberCall {
         }
     }
 
-    /// Whether no call is under way.
+    /// Whether no call is in progress.
     pub fn is_idle(&self) -> bool
         ensures { result ≡ subscriber_is_idle self.now }
     {
@@ -226,7 +227,7 @@ impl SubscriberCall {
     }
 }
 
-// Whether as many samples of the connection at this place are borrowed as may be.
+// Whether the maximum number of samples is borrowed from the connection at this place.
 fn is_full_at(borrowed: &[u64], most: u64, place: u64) -> bool
     ensures { result ≡ is_full_at borrowed.now most place }
 {

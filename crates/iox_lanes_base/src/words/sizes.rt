@@ -11,9 +11,9 @@ use iox_queues_steps::Word;
 pub struct TableSizes {
     /// How many connections there are.
     pub connections: u64,
-    /// How many cells a submission ring has at most.
+    /// The maximum number of cells of a submission ring.
     pub submission_cells: u64,
-    /// How many cells a completion ring has at most.
+    /// The maximum number of cells of a completion ring.
     pub completion_cells: u64,
     /// How many slots all publishers have together.
     pub slots: u64,

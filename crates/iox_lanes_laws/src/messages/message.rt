@@ -89,14 +89,14 @@ impl Message {
         })
     }
 
-    /// Its publisher, by number among those of the lanes.
+    /// The publisher of the message, by its number among those of the lanes.
     pub fn publisher(&self) -> usize
         ensures { result ≡ self.now.publisher }
     {
         self.publisher
     }
 
-    /// Its slot.
+    /// The slot of the message.
     pub fn slot(&self) -> u64
         ensures { result ≡ self.now.slot }
     {
@@ -110,14 +110,14 @@ impl Message {
         self.moment
     }
 
-    // Whether it is in this slot and was sent or found by this moment.
+    // Whether the message is in this slot and was sent or found by this moment.
     pub(crate) fn was_sent_by(&self, slot: u64, moment: u64) -> bool
         ensures { result ≡ was_sent_by slot moment (Some self.now) }
     {
         self.slot == slot && self.moment <= moment
     }
 
-    /// Its user header and its value. None if it has more or fewer words.
+    /// The user header and the value of the message. None if it has another number of words.
     pub fn values<T: Words, U: Words>(&self) -> Option<(U, T)>
         ensures some { IfSome result (AreValues T.of_parts U.of_parts T.WORDS U.WORDS self.now.words) }
         ensures none { result ≡ None → length self.now.words ≡ 3 + U.WORDS + T.WORDS → ⊥ }

@@ -32,7 +32,7 @@ impl<'a> Model for Order<'a> {
 }
 
 impl<'a> Order<'a> {
-    /// These entries, with the numbers that their messages have among these.
+    /// These entries, with the numbers that their messages have among these messages.
     pub(crate) fn new(messages: &'a [Message], entries: &'a [Placed]) -> Order<'a>
         ensures { result ≡ map (with_number messages.now) entries.now }
     {

@@ -69,7 +69,7 @@ impl Lanes {
     ghost use Rattle.iox_lanes_machine.specs.LanesParties.PublisherKeeping.{loan_of};
     ghost use Rattle.iox_lanes_machine.specs.World.{fits};
 
-    /// These lanes, of which no message is kept yet. Nothing is allocated.
+    /// These lanes, which keep no message yet. Nothing is allocated.
     pub fn new(alloc: Global, lanes: LaneMachine) -> Lanes
         ensures { result ≡ record { lanes = lanes; messages = [] } }
     {
@@ -80,9 +80,9 @@ impl Lanes {
         }
     }
 
-    /// Makes a step of the lanes as `LaneMachine::step` does, and ensures what that ensures. If the step begins a send, the message is kept
-    /// behind the others, as it is then; later stores don't change it. Returns `NoMemory`, with nothing changed, also if there is no memory
-    /// for the message. If the theorems on lanes applied (`CameTo`), they still do.
+    /// Makes a step of the lanes as `LaneMachine::step` does, with what its contract ensures. If the step begins a send, the message is
+    /// appended to the kept ones, as it is at that moment; later stores don't change it. Also returns `NoMemory`, with nothing changed, if
+    /// there is no memory for the message. If the theorems on lanes applied (`CameTo`), they still do.
     pub fn step(&mut self, party: Party, step: &Move) -> Stepped
         ensures steps { RecordsTo self.old party step.now result self.new }
         ensures apart { StaysApart self.old.lanes party step.now result self.new.lanes }
@@ -108,7 +108,7 @@ impl Lanes {
     }
 
     /// Makes the entries one after the other, and skips those that don't fit or find no memory for what they record; these change nothing.
-    /// Returns how many were made: if that is how many entries there are, each was made. It ensures of the lanes what `LaneMachine::run`
+    /// Returns how many were made; if that is the number of entries, each was made. It ensures of the lanes what `LaneMachine::run`
     /// ensures, and if the theorems on lanes applied (`CameTo`), they still do.
     pub fn run(&mut self, schedule: &[Entry]) -> usize
         ensures runs { RecordsRun self.old schedule.now result self.new }
@@ -133,7 +133,7 @@ impl Lanes {
         made
     }
 
-    // Makes a step, and ensures all of it in one clause.
+    // Makes a step, and ensures all that is true of it in one clause.
     fn make(&mut self, party: Party, step: &Move) -> Stepped
         ensures { MakesStep self.old party step.now result self.new }
     {
@@ -144,7 +144,7 @@ impl Lanes {
         }
     }
 
-    // Makes no step, as there is no memory for the message whose send it begins.
+    // Makes no step, since there is no memory for the message whose send it begins.
     fn lack(&mut self, party: Party, step: &Move) -> Stepped
         requires fits { fits self.old.lanes party step.now ≡ true }
         requires begins { 0 < length (begun_messages self.old.lanes party step.now) }
@@ -154,7 +154,7 @@ impl Lanes {
         Stepped::NoMemory
     }
 
-    // What holds for all lanes, as a run of no entries ensures it.
+    // Does nothing, as a run of no entries, and ensures what is true of all lanes.
     fn follow(&mut self)
         ensures same { self.new ≡ self.old }
         ensures follow { AllFollow self.new.lanes }
@@ -163,8 +163,8 @@ impl Lanes {
     }
 
     /// These lanes, with the messages that are found on them: what each used slot contains is a message and has the next number, publisher
-    /// by publisher and slot by slot. If no loan is out, these are the messages that wait, lie aside, are borrowed, are in a completion
-    /// ring, or are in a history; a slot that is a loan counts as used, too. If an allocation fails, the lanes come back as they were;
+    /// by publisher and slot by slot. If there is no loan, these are the messages that wait, lie aside, are borrowed, are in a completion
+    /// ring, or are in a history; a slot that is a loan counts as used, too. If an allocation fails, the lanes are returned as they were;
     /// there is no other error.
     pub fn with_found(alloc: Global, lanes: LaneMachine) -> Result<Lanes, LaneMachine>
         ensures made { IfOk result (λ made. made ≡ record { lanes = lanes; messages = found_messages lanes }) }
@@ -190,13 +190,13 @@ impl Lanes {
         if self.messages.reserve(1).is_err() {
             return self.lack(party, step);
         }
-        // The beginning of a call records nothing, so this step lacks no memory.
+        // The beginning of a call records nothing, so this step doesn't run out of memory.
         let stepped = self.lanes.step(party, step);
         self.messages.push_reserved(message);
         stepped
     }
 
-    // The message whose send a step begins, if it fits and begins one. An allocation fails only if it does.
+    // The message whose send a step begins, if the step fits and begins one. An allocation fails only if it begins one.
     fn begun(&self, party: Party, step: &Move) -> Result<Option<Message>, AllocError>
         ensures ok { IfOk result (λ begun. option_to_list begun
             ≡ (if fits self.now.lanes party step.now then begun_messages self.now.lanes party step.now else [])) }
@@ -218,7 +218,7 @@ impl Lanes {
         }
     }
 
-    // The message that a loan is when its send begins.
+    // The message that a loan becomes when its send begins.
     fn message_of(
         &self,
         place: usize,
@@ -248,7 +248,7 @@ impl Lanes {
         self.messages.len()
     }
 
-    /// The message with this number, if as many were found or sent.
+    /// The message with this number; None if fewer messages were found or sent.
     pub fn message(&self, number: usize) -> Option<&Message>
         ensures { option_copied result ≡ slice_get self.now.messages number }
     {
@@ -297,7 +297,7 @@ impl Lanes {
         self.lanes.finished()
     }
 
-    /// The user header and the value that a read returned whose words begin at `from` among all that were read. None if fewer words were
+    /// The user header and the value that a read returned; its words begin at `from` among all that were read. None if fewer words were
     /// read from there on.
     pub fn values<T: Words, U: Words>(&self, from: usize) -> Option<(U, T)>
         ensures some { IfSome result (AreValues T.of_parts U.of_parts T.WORDS U.WORDS
@@ -404,7 +404,7 @@ fn find_slots(
     ensures { OnOk result (messages.new.items ≡ messages.old.items
         ++ found_first lanes.now publisher lane.now (length lane.now.port.book.loans)) }
 {
-    // No number of a slot is beyond the words that there are.
+    // The number of each slot is less than the number of words of the table.
     let _slots = lanes.table().sizes().slots;
     let book = lane.port().book();
     for at in 0..book.slots() {
@@ -414,7 +414,7 @@ fn find_slots(
     Ok(())
 }
 
-// How many uses a publisher's slot has, by its index among the publisher's own.
+// The number of uses of a publisher's slot, by its index among the publisher's own.
 fn uses_at(book: &SlotBook, at: usize) -> u64
     ensures { result ≡ get_or book.now.uses at 0 }
 {

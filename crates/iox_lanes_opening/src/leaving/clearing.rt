@@ -9,8 +9,8 @@ ghost use Rattle.iox_lanes_opening.specs.Restoring.{IsQuiet};
 
 use iox_domain_ports::messages::Sender;
 
-/// Whether nothing of a publisher is out, and it has capacity for a value in each slot: no send is under way, no loan is out, and no
-/// message of its connections is borrowed.
+/// Whether a publisher has no send in progress and no loan, no message of its connections is borrowed, and it has capacity for a value in
+/// each slot.
 pub fn is_rested<T: Copy, U: Copy>(sender: &Sender<T, U>) -> bool
     ensures rested { OnTrue result (IsRested sender.now) }
     ensures not { result ≡ false → IsRested sender.now → ⊥ }
@@ -24,7 +24,7 @@ pub fn is_rested<T: Copy, U: Copy>(sender: &Sender<T, U>) -> bool
     true
 }
 
-// Whether a publisher has no send under way and no loan out, and has capacity for a value in each slot.
+// Whether a publisher has no send in progress and no loan, and has capacity for a value in each slot.
 fn is_quiet<T: Copy, U: Copy>(sender: &Sender<T, U>) -> bool
     ensures quiet { OnTrue result (IsQuiet sender.now) }
     ensures not { result ≡ false → IsQuiet sender.now → ⊥ }
@@ -41,7 +41,7 @@ pub fn forget_messages<T: Copy, U: Copy>(sender: &mut Sender<T, U>)
     lose_waiting(sender);
 }
 
-// Whether nothing of the connection with this index is borrowed.
+// Whether no message of the connection with this index is borrowed.
 fn lends_nothing<T: Copy, U: Copy>(sender: &Sender<T, U>, index: usize) -> bool
     ensures none { OnTrue result ((connection_at index sender.now.uses).borrowed ≡ []) }
     ensures some { result ≡ false → (connection_at index sender.now.uses).borrowed ≡ [] → ⊥ }
@@ -52,7 +52,7 @@ fn lends_nothing<T: Copy, U: Copy>(sender: &Sender<T, U>, index: usize) -> bool
     }
 }
 
-// Whether nothing of any connection is borrowed.
+// Whether no message of any connection is borrowed.
 fn is_none_borrowed<T: Copy, U: Copy>(sender: &Sender<T, U>) -> bool
     ensures none { OnTrue result (NoneBorrowed sender.now.uses) }
     ensures some { result ≡ false → NoneBorrowed sender.now.uses → ⊥ }

@@ -18,7 +18,7 @@ use iox_queues_base::Words;
 pub struct LeftPublisher<'a> {
     /// The lanes.
     pub lanes: &'a LaneMachine,
-    /// Whether messages have sequence numbers. Then each slot has the number of its message.
+    /// Whether messages have sequence numbers. If they do, each slot has the number of its message.
     pub numbered: bool,
     /// The number of the publisher's first connection in the lanes.
     pub from: u64,
@@ -30,10 +30,10 @@ pub struct LeftPublisher<'a> {
     pub history: &'a [u64],
 }
 
-/// Gives a publisher of a domain all that lanes leave of it, in place of its own waiting messages and history: what waits at each
-/// connection of the lanes then waits at the connection with its index, and the lanes' history is its history, each message in its own
-/// slot. Returns false if a send of the publisher is under way, a loan of it is out, a message of its connections is borrowed, or a slot
-/// has no capacity for a value; then nothing has changed. `one` must have capacity for one value, into which each value is read; nothing is
+/// Gives a publisher of a domain all that lanes leave of it, in place of its own waiting messages and history: the messages that wait at
+/// each connection of the lanes then wait at the connection with its index, and the lanes' history is its history, each message in its own
+/// slot. Returns false if a send of the publisher is in progress, it has a loan, a message of its connections is borrowed, or a slot has no
+/// capacity for a value; then nothing has changed. `one` must have capacity for one value, into which each value is read; nothing is
 /// allocated.
 pub fn restore<T: Words, U: Words>(
     source: &LeftPublisher<'_>,
@@ -113,7 +113,7 @@ fn restore_at<T: Words, U: Words>(
         sender.new.uses }
     ensures room { vec_capacity one.new ≡ vec_capacity one.old }
 {
-    // The number of a connection is below how many there are, and that has 64 bits.
+    // The number of a connection is less than the number of connections, which has 64 bits.
     let _links = source.lanes.links().len();
     if let Some(place) = place_of(source.indices, index) {
         restore_waiting(
@@ -128,7 +128,7 @@ fn restore_at<T: Words, U: Words>(
     }
 }
 
-// Where the index is first in a list.
+// The first place of the index in a list.
 fn place_of(indices: &[usize], index: usize) -> Option<usize>
     ensures value { result ≡ place_of index indices.now }
     ensures within { IfSome result (λ place. place < length indices.now) }

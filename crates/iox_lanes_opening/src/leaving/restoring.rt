@@ -16,7 +16,7 @@ use iox_lanes_base::words::WordTable;
 use iox_lanes_machine::LaneMachine;
 use iox_queues_base::Words;
 
-// The slots of a publisher in lanes, from `first` on. Where messages have sequence numbers, each slot has that of its message.
+// The slots of a publisher in lanes, from `first` on. `numbered` says whether each slot has the sequence number of its message.
 #[derive(Clone, Copy)]
 struct LeftSlots<'a> {
     table: &'a WordTable,
@@ -53,7 +53,7 @@ fn begin<T: Words, U: Words>(
         sender.old }
     ensures room { vec_capacity one.new ≡ vec_capacity one.old }
 {
-    // Slots are so few that their numbers have 64 bits.
+    // The number of slots has 64 bits, and so has each slot's number.
     let _slots = slots.table.sizes().slots;
     let at = slots.first + slot as u64;
     take_payload(slots.table, at, one);
@@ -61,7 +61,7 @@ fn begin<T: Words, U: Words>(
     sender.begin_again(slot, between.0, elements(slots.table, at), between.1, one);
 }
 
-// The publisher's slot that this slot of the lanes is, if it is one of the publisher's current segment.
+// The publisher's slot that corresponds to this slot of the lanes, if it is in the publisher's current segment.
 fn own_slot<T: Copy, U: Copy>(
     slots: &LeftSlots<'_>,
     slot: u64,
@@ -82,7 +82,8 @@ fn own_slot<T: Copy, U: Copy>(
     Some(own)
 }
 
-// The publisher's slot that this slot of the lanes is, if it is one of the current segment and the connection with this index is live.
+// The publisher's slot that corresponds to this slot of the lanes, if it is in the current segment and the connection with this index is
+// live.
 fn live_slot<T: Copy, U: Copy>(
     slots: &LeftSlots<'_>,
     slot: u64,
@@ -103,8 +104,8 @@ fn live_slot<T: Copy, U: Copy>(
     own_slot(slots, slot, sender)
 }
 
-// Puts the message that lies in a slot of the lanes behind those that wait at the connection with this index. Does nothing if the slot
-// isn't one of the publisher's, or the connection isn't live.
+// Appends the message that lies in a slot of the lanes to those that wait at the connection with this index. Does nothing if the slot isn't
+// one of the publisher's, or the connection isn't live.
 fn put_own<T: Words, U: Words>(
     slots: &LeftSlots<'_>,
     slot: u64,

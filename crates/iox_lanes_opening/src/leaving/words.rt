@@ -9,7 +9,7 @@ ghost use Rattle.iox_lanes_opening.specs.Middles.{middle_of, middle_count};
 use iox_lanes_base::words::{SharedWord, SlotWord, WordTable};
 use iox_queues_base::Words;
 
-/// The number of elements that the header of a slot says.
+/// The number of elements in the header of a slot.
 pub fn elements(table: &WordTable, slot: u64) -> u64
     requires { slot < table.now.sizes.slots }
     ensures { result ≡ elements_in table.now slot }
@@ -20,8 +20,8 @@ pub fn elements(table: &WordTable, slot: u64) -> u64
     })
 }
 
-/// How many words lie between the three words of the header and the payload: those of the user header, and before them the sequence number,
-/// where messages have one. At most 2^64 - 1.
+/// The number of words between the three words of the header and the payload: those of the user header, and before them the sequence
+/// number, where messages have one. At most 2^64 - 1.
 pub fn middle_count<U: Words>(numbered: bool) -> usize
     ensures { result ≡ middle_count numbered U.WORDS }
 {
@@ -92,7 +92,7 @@ fn header_from(table: &WordTable, slot: u64) -> u64
         slot,
         word: SlotWord::Header(2),
     });
-    // One behind is within the table, which has fewer than 2^64 words.
+    // The next word is within the table, which has fewer than 2^64 words.
     let _words = table.words().len();
     number + 1
 }
@@ -104,7 +104,7 @@ fn payload_from(table: &WordTable, slot: u64) -> u64
     ensures value { result ≡ number_of table.now.sizes (word.Slot slot (part.Payload 0)) }
     ensures room { result + table.now.sizes.payload_words ≤ length table.now.words }
 {
-    // It is within the table, which has fewer than 2^64 words.
+    // The sum is within the table, which has fewer than 2^64 words.
     let _words = table.words().len();
     header_from(table, slot) + table.sizes().user_header_words
 }

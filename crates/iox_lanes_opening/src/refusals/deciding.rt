@@ -1,4 +1,4 @@
-//! Which ports have handlers of the caller, and which would wait or fail at a full mailbox.
+//! Which ports have handlers of the caller, and which publishers would block or fail at a full mailbox.
 ghost use Rattle.std.specs.Prelude.{◌≡◌, option_copied};
 ghost use Rattle.std.specs.List.{list_any};
 ghost use Rattle.iox_domain.specs.Kept.{kept_under};
@@ -80,7 +80,7 @@ fn is_kept_object(handler: Option<&DegradationHandler>) -> bool
     }
 }
 
-/// Whether mailboxes don't overflow, and a send of some publisher would block at a full one.
+/// Whether mailboxes don't overflow, and a send of some publisher would block at a full mailbox.
 pub fn is_retrying<T: Copy, U: Copy>(domain: &Domain<T, U>) -> bool
     ensures { result ≡ is_retrying domain.now }
 {

@@ -18,11 +18,11 @@ pub(crate) enum Question {
     Blocked,
     /// Whether its capacity for values may grow.
     Growing,
-    /// Whether it is closed, or something of it is out.
+    /// Whether it is closed or isn't listed at its place, or has a loan or a connection that ended or has a borrowed message.
     Lingering,
     /// Whether it has another number of values than one in an element, a slot or a message.
     Slices,
-    /// Whether it doesn't have what the service agreed on, or its messages break it.
+    /// Whether it doesn't have what the service agreed on, or has messages that don't keep to the agreement.
     Misfit,
     /// Whether its last sequence number is too large.
     TooLarge,

@@ -17,14 +17,14 @@ pub enum IntoLanesError {
     NotStatic,
     /// Some port has a handler that is an object of the caller.
     HasHandlers,
-    /// Mailboxes don't overflow, and a send of some publisher would block at a full one.
+    /// Mailboxes don't overflow, and a send of some publisher would block at a full mailbox.
     Retrying,
-    /// A loan or a sample is out, a connection of a closed publisher still exists, or a closed port isn't gone.
+    /// A loan or a sample exists, a connection of a closed publisher still exists, or a closed port still exists.
     Lingering,
     /// Some publisher has capacity for another number of values than one, or one of its messages has another number.
     HasSlices,
     /// The ports are in a state that no calls leave: one is listed at another place than its own, a publisher doesn't have what the service
-    /// agreed on or its messages break it, or two connections of a subscriber come from one publisher.
+    /// agreed on or has messages that don't keep to the agreement, or two connections of a subscriber come from one publisher.
     Unsound,
     /// The last sequence number of some publisher is 2^63 or more.
     SequenceTooLarge,

@@ -1,4 +1,4 @@
-//! Loans and samples that are out, and closed ports that aren't gone.
+//! Loans and samples that exist, and closed ports that still exist.
 ghost use Rattle.std.specs.Prelude.{◌≡◌};
 ghost use Rattle.std.specs.List.{list_any};
 ghost use Rattle.iox_domain.specs.DomainPorts.Ports.{connection_of};
@@ -10,15 +10,15 @@ use crate::refusals::each_asked::{Question, has_such};
 use iox_domain::ports::ServicePorts;
 use iox_domain_ports::{PublisherPort, Publishers, SubscriberPort};
 
-/// Whether a loan or a sample is out, a connection of a closed publisher still exists, expired or at its place, or a closed port isn't
-/// gone.
+/// Whether a loan or a sample exists, a connection of a closed publisher still exists, expired or at its place, or a closed port still
+/// exists.
 pub fn is_lingering<T: Copy, U: Copy>(ports: &ServicePorts<T, U>) -> bool
     ensures { result ≡ is_lingering ports.now }
 {
     has_such(ports, Question::Lingering) || has_lingering_subscriber(ports)
 }
 
-/// Whether a publisher is closed or isn't listed at its place, or something of it is out.
+/// Whether a publisher is closed or isn't listed at its place, has a loan, or has a connection that ended or has a borrowed message.
 pub(crate) fn publisher_lingers<T: Copy, U: Copy>(
     ports: &ServicePorts<T, U>,
     number: u64,
@@ -43,7 +43,7 @@ fn is_listed_publisher<T: Copy, U: Copy>(
     }
 }
 
-// Whether a loan of a publisher is out, or one of its connections ended or has a borrowed message.
+// Whether a publisher has a loan, or one of its connections ended or has a borrowed message.
 fn has_out<T: Copy, U: Copy>(port: &PublisherPort<T, U>) -> bool
     ensures { result ≡ has_out port.now }
 {
@@ -83,7 +83,8 @@ fn has_lingering_subscriber<T: Copy, U: Copy>(ports: &ServicePorts<T, U>) -> boo
     false
 }
 
-// Whether a subscriber is closed or isn't listed at its place, or something is left over of it.
+// Whether a subscriber is closed or isn't listed at its place, holds a sample, or has a connection that expired or comes from a closed
+// publisher.
 fn subscriber_lingers<T: Copy, U: Copy>(
     ports: &ServicePorts<T, U>,
     number: u64,

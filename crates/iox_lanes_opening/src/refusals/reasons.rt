@@ -14,19 +14,15 @@ use iox_domain::Domain;
 use iox_domain::ports::ServicePorts;
 use iox_domain_values::AllocationStrategy;
 
-/// Why a domain can't become lanes, apart from memory: the first of these reasons that applies, or None.
+/// Why a domain can't become lanes, other than for memory: the first of these reasons that applies, or None.
 ///
-/// `Blocked`: a send of some publisher is blocked at a full mailbox.
-/// `ConnectionsNotUpToDate`: a listed port hasn't followed the current list of the other side, a listed publisher and a listed subscriber
-/// share no connection, or a listed publisher has a connection for a place where nobody is listed.
-/// `NotStatic`: the capacity of some publisher may grow.
-/// `HasHandlers`: some port has a handler that is an object of the caller.
-/// `Retrying`: mailboxes don't overflow, and a send of some publisher would block at a full one.
-/// `Lingering`: a loan or a sample is out, a connection of a closed publisher still exists, or a closed port isn't gone.
-/// `HasSlices`: some publisher has another number of values than one in an element, a slot or a message.
-/// `Unsound`: the ports are in a state that no calls leave.
-/// `SequenceTooLarge`: the last sequence number of some publisher is 2^63 or more.
-/// This function never returns `OutOfMemory`.
+/// `Blocked`: a send of some publisher is blocked at a full mailbox. `ConnectionsNotUpToDate`: a listed port hasn't followed the current
+/// list of the other side, a listed publisher and a listed subscriber share no connection, or a listed publisher has a connection for a
+/// place where nobody is listed. `NotStatic`: the capacity of some publisher may grow. `HasHandlers`: some port has a handler that is an
+/// object of the caller. `Retrying`: mailboxes don't overflow, and a send of some publisher would block at a full mailbox. `Lingering`: a
+/// loan or a sample exists, a connection of a closed publisher still exists, or a closed port still exists. `HasSlices`: some publisher has
+/// another number of values than one in an element, a slot or a message. `Unsound`: the ports are in a state that no calls leave.
+/// `SequenceTooLarge`: the last sequence number of some publisher is 2^63 or more. This function never returns `OutOfMemory`.
 pub fn refusal<T: Copy, U: Copy>(domain: &Domain<T, U>) -> Option<IntoLanesError>
     ensures { result ≡ first_reason domain.now }
 {

@@ -1,4 +1,4 @@
-//! Publishers or messages that don't have single values.
+//! Publishers and messages that don't have single values.
 ghost use Rattle.std.specs.Prelude.{◌≡◌, ◌<◌, true, length, slice_get};
 ghost use Rattle.std.specs.List.{list_any};
 ghost use Rattle.iox_domain.specs.DomainSlots.Uses.{is_there};
@@ -11,7 +11,7 @@ use iox_domain_ports::PublisherPort;
 use iox_domain_ports::reading::waiting_at;
 
 /// Whether some publisher has slices: an element of it has another number of values than one, its slots have capacity for another number,
-/// or a waiting message or one of its history has another number.
+/// or one of its messages, waiting or in its history, has another number.
 pub fn has_slices<T: Copy, U: Copy>(domain: &Domain<T, U>) -> bool
     ensures { result ≡ has_slices domain.now }
 {

@@ -20,8 +20,8 @@ use iox_domain_values::ServiceSizes;
 
 /// Whether the ports are in a state that no calls leave, provided that no publisher's capacity may grow: a port is listed at another place
 /// than its own; a publisher has slots of several segments, has another history size than agreed, or has sequence numbers though the
-/// service doesn't, or the reverse; a connection is made for no message or for more than agreed; more messages are kept or wait than may,
-/// or two of them in one slot; or two connections of a subscriber come from one publisher.
+/// service doesn't, or the reverse; the maximum number of waiting messages of a connection is 0 or more than agreed; a history or a mailbox
+/// has more messages than its maximum, or two in one slot; or two connections of a subscriber come from one publisher.
 pub fn is_unsound<T: Copy, U: Copy>(ports: &ServicePorts<T, U>) -> bool
     ensures { result ≡ is_unsound ports.now }
 {
@@ -113,7 +113,8 @@ fn is_subscriber_placed<T: Copy, U: Copy>(
     }
 }
 
-/// Whether a publisher has slots of several segments, doesn't have what the service agreed on, or its messages break it.
+/// Whether a publisher has slots of several segments, doesn't have what the service agreed on, or has messages that don't keep to the
+/// agreement.
 pub(crate) fn is_misfit<T: Copy, U: Copy>(sizes: ServiceSizes, port: &PublisherPort<T, U>) -> bool
     ensures { result ≡ is_misfit sizes port.now }
 {
@@ -196,7 +197,8 @@ fn waits_ill_at<T: Copy, U: Copy>(
     }
 }
 
-// Whether a connection is made for no message or for more than agreed, more wait there than may, or two of them are in one slot.
+// Whether the maximum number of waiting messages of a connection is 0 or more than agreed, or more messages wait there than this maximum,
+// or two of them are in one slot.
 fn waits_ill<T: Copy, U: Copy>(
     sizes: ServiceSizes,
     port: &PublisherPort<T, U>,

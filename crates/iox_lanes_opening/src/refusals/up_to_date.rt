@@ -11,7 +11,7 @@ use iox_domain_ports::{Member, PublisherEntry, PublisherPort, SubscriberEntry, S
 /// Whether each listed port has followed the current list of the other side, and each listed publisher is connected to each listed
 /// subscriber: the subscriber's place is tied to a live connection of the publisher, and the subscriber reads there by the key that it has
 /// for the publisher's place. A place where nobody is listed must not be tied to a connection of a listed publisher; no calls leave such a
-/// place tied, once the list was followed.
+/// place tied after the list was followed.
 pub fn is_up_to_date<T: Copy, U: Copy>(ports: &ServicePorts<T, U>) -> bool
     ensures { result ≡ is_up_to_date ports.now }
 {

@@ -21,7 +21,7 @@ pub struct LanePublisher {
     book: SlotBook,
     payload: Vec<u64>,
     head: Vec<u64>,
-    // Whether the call under way stores header and user header, not a payload.
+    // Whether the call in progress stores header and user header, not a payload.
     sends: bool,
     call: PublisherCall,
 }
@@ -93,7 +93,7 @@ impl LanePublisher {
         self.book.find_newest(slot);
     }
 
-    /// Keeps only the first `slots` slots, and sets how many loans may be out.
+    /// Keeps only the first `slots` slots, and sets the loan limit.
     pub fn resize(&mut self, slots: u64, most_loans: u64)
         ensures { self.new ≡ with_slots slots most_loans self.old }
     {
@@ -101,7 +101,7 @@ impl LanePublisher {
             .resize(self.routes.len(), slots as usize, most_loans);
     }
 
-    /// Replaces the connection with this one's number by this one.
+    /// Replaces the connection that has the number of `route` by `route`.
     pub fn meet(&mut self, route: Route)
         ensures { self.new ≡ met_anew route self.old }
     {

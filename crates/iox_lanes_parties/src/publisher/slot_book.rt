@@ -27,7 +27,7 @@ pub enum LoanMark {
 pub enum LoanAnswer {
     /// This slot is loaned.
     Slot(u64),
-    /// As many loans are out as may be.
+    /// The publisher has as many loans as its loan limit allows.
     ExceedsMaxLoans,
     /// Each slot is in use.
     OutOfMemory,
@@ -172,8 +172,8 @@ impl SlotBook {
             )
     }
 
-    /// Whether lanes may find that this slot is the newest of the history: it is one of this publisher's and not yet in the history, which
-    /// has fewer slots than it may.
+    /// Whether lanes may find that this slot is the newest of the history: the slot is one of this publisher's and not yet in the history,
+    /// and the history has fewer slots than its maximum.
     pub fn may_remember(&self, slot: u64) -> bool
         ensures { result ≡ may_remember slot self.now }
     {
@@ -189,14 +189,14 @@ impl SlotBook {
         count_up(&mut self.uses, slot.saturating_sub(self.first));
     }
 
-    /// Whether the publisher may be cut to its first `slots` slots: it has at least as many, and none of its slots is used.
+    /// Whether the publisher may be reduced to its first `slots` slots: it has at least this many, and none of its slots is used.
     pub fn may_resize(&self, slots: u64) -> bool
         ensures { result ≡ may_resize slots self.now }
     {
         slots <= self.uses.len() as u64 && are_unused(&self.uses)
     }
 
-    /// Keeps only the first `slots` slots, for this many connections, and sets how many loans may be out.
+    /// Keeps only the first `slots` slots, for this many connections, and sets the loan limit.
     #[tactic(auto, using(std::proofs::lemmas::List::take_all))]
     pub fn resize(&mut self, connections: usize, slots: usize, most_loans: u64)
         ensures { self.new ≡ resized connections slots most_loans self.old }

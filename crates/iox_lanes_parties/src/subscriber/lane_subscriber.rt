@@ -18,7 +18,7 @@ pub struct LaneSubscriber {
     routes: Vec<Route>,
     extent: SlotExtent,
     most_borrowed: u64,
-    // How many samples of each connection are borrowed.
+    // The number of samples that are borrowed from each connection.
     borrowed: Vec<u64>,
     // For each slot of the service, the place of the connection that it is borrowed from.
     samples: Vec<Option<u64>>,
@@ -44,9 +44,9 @@ impl Model for LaneSubscriber {
 }
 
 impl LaneSubscriber {
-    /// A subscriber that borrows nothing, of a service with this many slots. `extent` says how many words a slot has, `words` how many a
-    /// read keeps, and `most_borrowed` how many samples of each connection it may borrow. `AllocError` is returned only where an allocation
-    /// fails.
+    /// A subscriber that borrows nothing, of a service with this many slots. `extent` has the numbers of words of a slot, `words` is the
+    /// number of words that a read keeps, and `most_borrowed` is the maximum number of samples that it borrows from each connection.
+    /// `AllocError` is returned only where an allocation fails.
     pub fn new(
         alloc: Global,
         routes: &[Route],
@@ -95,7 +95,7 @@ impl LaneSubscriber {
         }
     }
 
-    /// Replaces the connection with this one's number by this one.
+    /// Replaces the connection that has the number of `route` by `route`.
     pub fn meet(&mut self, route: Route)
         ensures { self.new ≡ met_anew route self.old }
     {

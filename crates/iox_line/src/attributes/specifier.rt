@@ -11,8 +11,8 @@ use std::alloc::{AllocError, Global};
 
 /// The attributes that these words define; `None` if a word isn't a pair, or there are more than 8.
 ///
-/// Fails if an allocation fails, and only if the words define at least one attribute: an empty list takes no memory, and that words don't
-/// define attributes is found without memory.
+/// Fails if an allocation fails, and only if the words define at least one attribute: an empty list takes no memory, and it takes no memory
+/// to find that words don't define attributes.
 pub fn defined_attributes(
     alloc: Global,
     words: Words,
@@ -39,7 +39,8 @@ pub fn defined_attributes(
     Ok(Some(attributes))
 }
 
-/// Appends a pair, unless an allocation failed; returns whether one failed so far. The reading goes on then, so that a fault is found.
+/// Appends a pair, unless an allocation failed; returns whether one failed so far. After a failure the reading continues, so that a faulty
+/// line is still found.
 fn define(
     alloc: Global,
     pair: &WrittenPair,

@@ -12,8 +12,8 @@ use std::alloc::{AllocError, Global};
 
 /// The attributes that these words require; `None` if a word is neither a pair nor a key, or there are more than 8 of either.
 ///
-/// Fails if an allocation fails, and only if the words require at least one pair or key: an empty list takes no memory, and that words
-/// aren't a requirement is found without memory.
+/// Fails if an allocation fails, and only if the words require at least one pair or key: an empty list takes no memory, and it takes no
+/// memory to find that words aren't a requirement.
 pub fn required_attributes(
     alloc: Global,
     words: Words,
@@ -49,7 +49,8 @@ pub fn required_attributes(
     Ok(Some(verifier))
 }
 
-/// Requires a pair, unless an allocation failed; returns whether one failed so far. The reading goes on then, so that a fault is found.
+/// Requires a pair, unless an allocation failed; returns whether one failed so far. After a failure the reading continues, so that a faulty
+/// line is still found.
 fn require(
     alloc: Global,
     pair: &WrittenPair,

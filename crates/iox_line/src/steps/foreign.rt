@@ -11,7 +11,7 @@ use std::alloc::{AllocError, Global};
 
 /// The actions that these words spell; `None` if a word isn't an action, or there is no word.
 ///
-/// Fails if an allocation fails, and only if the words are actions: that they aren't is found without memory.
+/// Fails if an allocation fails, and only if the words are actions: it takes no memory to find that they aren't.
 pub fn foreign_steps(
     alloc: Global,
     pattern: MessagingPattern,
@@ -37,7 +37,8 @@ pub fn foreign_steps(
     Ok(Some(steps))
 }
 
-/// Appends a step, unless an allocation failed; returns whether one failed so far. The reading goes on then, so that a fault is found.
+/// Appends an action, unless an allocation failed; returns whether one failed so far. After a failure the reading continues, so that a
+/// faulty line is still found.
 pub(crate) fn append<T: Copy>(alloc: Global, step: T, steps: &mut Steps<T>, lacking: bool) -> bool
     ensures { result ≡ false → (lacking ≡ false) × (steps.new ≡ steps.old ++ step ∷ []) }
 {

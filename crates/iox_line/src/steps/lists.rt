@@ -1,4 +1,4 @@
-//! The lists of actions before the accesses of a call.
+//! The lists of actions before the storage operations of a call.
 ghost use Rattle.std.specs.Prelude.{◌≡◌};
 ghost use Rattle.iox_line.specs.Memory.{MayLack, some};
 ghost use Rattle.iox_line.specs.StepsReading.{next_access, listed_step, lists_of};
@@ -12,11 +12,11 @@ use iox_command::{StepBefore, Steps};
 use iox_describe_base::MessagingPattern;
 use std::alloc::{AllocError, Global};
 
-/// The lists of actions that these words spell, each with `|` and the number of its access before its actions; `None` if a word is neither,
-/// a list has no number or no action, or its number isn't above the one before it.
+/// The lists of actions that these words spell, each with `|` and the number of its storage operation before its actions; `None` if a word
+/// is neither, a list has no number or no action, or its number isn't larger than that of the list before it.
 ///
-/// Fails if an allocation fails, and only if the words are lists with at least one action: an empty list takes no memory, and that words
-/// aren't lists is found without memory.
+/// Fails if an allocation fails, and only if the words are lists with at least one action: an empty list takes no memory, and it takes no
+/// memory to find that words aren't lists.
 pub fn listed_steps(
     alloc: Global,
     pattern: MessagingPattern,
@@ -53,8 +53,8 @@ pub fn listed_steps(
     Ok(Some(steps))
 }
 
-/// The access of the list that begins with this text after the bar; `None` if the list before it has no step, or the
-/// number isn't above it.
+/// The storage operation of the list that begins with this text after the bar; `None` if the list before it has no action, or the number
+/// isn't larger than that of the list before it.
 fn next_access(fresh: bool, access: u64, text: &[u8]) -> Option<u64>
     ensures { result ≡ next_access fresh access text.now }
 {
@@ -65,7 +65,7 @@ fn next_access(fresh: bool, access: u64, text: &[u8]) -> Option<u64>
     if access < next { Some(next) } else { None }
 }
 
-/// The step that a word is, before this access; `None` if no list has begun.
+/// The action that a word spells, before this storage operation; `None` if no list has begun.
 fn listed_step(pattern: MessagingPattern, access: u64, word: &[u8]) -> Option<StepBefore>
     ensures { result ≡ listed_step pattern access word.now }
 {

@@ -100,7 +100,7 @@ fn step_at(pattern: MessagingPattern, verb: StepVerb, text: &[u8]) -> Option<For
     }
 }
 
-/// The node that publishes, and the options after the colon behind it, if there is one.
+/// The node that publishes, and the options after the next colon, if there is one.
 fn published(pattern: MessagingPattern, text: &[u8]) -> Option<(u64, ServiceOptions)>
     ensures { result ≡ published pattern text.now }
 {

@@ -5,14 +5,14 @@ ghost use Rattle.iox_line.specs.Options.{after, find, one};
 
 use crate::text::words::Words;
 
-/// What follows the key in a word that begins with it.
+/// The part of a word after the key with which it begins.
 pub fn after<'a>(key: &[u8], word: &'a [u8]) -> Option<&'a [u8]>
     ensures { option_map (λ text. text.now) result ≡ after key.now word.now }
 {
     word.strip_prefix(key)
 }
 
-/// What follows the key in the first of the words that begins with it.
+/// The part after the key of the first word that begins with the key.
 pub fn find<'a>(key: &[u8], words: &Words<'a>) -> Option<&'a [u8]>
     ensures { option_map (λ text. text.now) result ≡ find key.now words.now }
 {
@@ -36,8 +36,8 @@ pub fn one<T: Copy>(option: Option<T>) -> usize
     }
 }
 
-/// The options that words name, each by its key; `None` if the text of an option is none of its values, or unless there are exactly as many
-/// words as options that are named.
+/// The options that words name, each by its key; `None` if the text of an option is none of its values, or if the number of words isn't
+/// that of the named options.
 macro_rules! named_options {
     ($words:ident, $Options:ident { $first:ident: $read:ident($key:literal), $($more:ident: $reads:ident($keys:literal),)* }) => {{
         let $first = $read($key, $words)?;

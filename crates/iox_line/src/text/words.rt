@@ -92,7 +92,7 @@ impl<'a> Words<'a> {
         )
     }
 
-    /// Whether exactly so many words are left.
+    /// Whether exactly this many words are left.
     pub fn are(&self, count: usize) -> bool
         ensures { result ≡ (length self.now == count) }
     {
@@ -130,7 +130,7 @@ pub fn begins(mark: u8, text: &[u8]) -> bool
     }
 }
 
-/// What has the pieces before the first that begins with the mark, and what has the others.
+/// The text with the pieces before the first one that begins with the mark, and the text with the others.
 fn cut_text(mark: u8, separator: u8, text: &[u8]) -> (Option<&[u8]>, Option<&[u8]>)
     ensures front { pieces_left separator (option_map (λ text. text.now) result.0) ≡ front mark (pieces_of separator text.now) }
     ensures back { pieces_left separator (option_map (λ text. text.now) result.1) ≡ back mark (pieces_of separator text.now) }

@@ -5,7 +5,7 @@ use crate::builder::ServiceBuilder;
 use iox_describe::pattern::Event;
 
 impl ServiceBuilder<Event> {
-    /// Names the maximum time between two events, in nanoseconds.
+    /// Sets the maximum time between two events, in nanoseconds.
     /// Example: `builder.deadline(1_000)`
     pub fn deadline(mut self, value: u64) -> Self
         ensures { result ≡ record self { requirement = record self.requirement { deadline = Some (Some value) } } }
@@ -14,7 +14,7 @@ impl ServiceBuilder<Event> {
         self
     }
 
-    /// Names that the service has no deadline.
+    /// Sets that the service has no deadline.
     /// Example: `builder.disable_deadline()`
     pub fn disable_deadline(mut self) -> Self
         ensures { result ≡ record self { requirement = record self.requirement { deadline = Some None } } }
@@ -23,7 +23,7 @@ impl ServiceBuilder<Event> {
         self
     }
 
-    /// Names the maximum number of nodes: an existing service must have at least this, and a created one gets exactly this.
+    /// Sets the maximum number of nodes: an existing service must have at least this, and a created one gets exactly this.
     /// Example: `builder.max_nodes(4)`
     pub fn max_nodes(mut self, value: u64) -> Self
         ensures { result ≡ record self { requirement = record self.requirement { max_nodes = Some value } } }
@@ -32,7 +32,7 @@ impl ServiceBuilder<Event> {
         self
     }
 
-    /// Names the maximum number of notifiers: an existing service must have at least this, and a created one gets exactly this.
+    /// Sets the maximum number of notifiers: an existing service must have at least this, and a created one gets exactly this.
     /// Example: `builder.max_notifiers(2)`
     pub fn max_notifiers(mut self, value: u64) -> Self
         ensures { result ≡ record self { requirement = record self.requirement { max_notifiers = Some value } } }
@@ -41,7 +41,7 @@ impl ServiceBuilder<Event> {
         self
     }
 
-    /// Names the maximum number of listeners: an existing service must have at least this, and a created one gets exactly this.
+    /// Sets the maximum number of listeners: an existing service must have at least this, and a created one gets exactly this.
     /// Example: `builder.max_listeners(2)`
     pub fn max_listeners(mut self, value: u64) -> Self
         ensures { result ≡ record self { requirement = record self.requirement { max_listeners = Some value } } }
@@ -50,7 +50,7 @@ impl ServiceBuilder<Event> {
         self
     }
 
-    /// Names the largest event id: an existing service must have at least this, and a created one gets exactly this.
+    /// Sets the largest event id: an existing service must have at least this, and a created one gets exactly this.
     /// Example: `builder.event_id_max_value(7)`
     pub fn event_id_max_value(mut self, value: u64) -> Self
         ensures { result ≡ record self { requirement = record self.requirement { event_id_max_value = Some value } } }
@@ -59,7 +59,7 @@ impl ServiceBuilder<Event> {
         self
     }
 
-    /// Names the id of the event that announces a new notifier.
+    /// Sets the id of the event that announces a new notifier.
     /// Example: `builder.notifier_created_event(1)`
     pub fn notifier_created_event(mut self, value: u64) -> Self
         ensures { result ≡ record self { requirement = record self.requirement { notifier_created_event = Some (Some value) } } }
@@ -68,7 +68,7 @@ impl ServiceBuilder<Event> {
         self
     }
 
-    /// Names that no event announces a new notifier.
+    /// Sets that no event announces a new notifier.
     /// Example: `builder.disable_notifier_created_event()`
     pub fn disable_notifier_created_event(mut self) -> Self
         ensures { result ≡ record self { requirement = record self.requirement { notifier_created_event = Some None } } }
@@ -77,7 +77,7 @@ impl ServiceBuilder<Event> {
         self
     }
 
-    /// Names the id of the event that announces a dropped notifier.
+    /// Sets the id of the event that announces a dropped notifier.
     /// Example: `builder.notifier_dropped_event(2)`
     pub fn notifier_dropped_event(mut self, value: u64) -> Self
         ensures { result ≡ record self { requirement = record self.requirement { notifier_dropped_event = Some (Some value) } } }
@@ -86,7 +86,7 @@ impl ServiceBuilder<Event> {
         self
     }
 
-    /// Names that no event announces a dropped notifier.
+    /// Sets that no event announces a dropped notifier.
     /// Example: `builder.disable_notifier_dropped_event()`
     pub fn disable_notifier_dropped_event(mut self) -> Self
         ensures { result ≡ record self { requirement = record self.requirement { notifier_dropped_event = Some None } } }
@@ -95,7 +95,7 @@ impl ServiceBuilder<Event> {
         self
     }
 
-    /// Names the id of the event that announces a dead notifier.
+    /// Sets the id of the event that announces a dead notifier.
     /// Example: `builder.notifier_dead_event(3)`
     pub fn notifier_dead_event(mut self, value: u64) -> Self
         ensures { result ≡ record self { requirement = record self.requirement { notifier_dead_event = Some (Some value) } } }
@@ -104,7 +104,7 @@ impl ServiceBuilder<Event> {
         self
     }
 
-    /// Names that no event announces a dead notifier.
+    /// Sets that no event announces a dead notifier.
     /// Example: `builder.disable_notifier_dead_event()`
     pub fn disable_notifier_dead_event(mut self) -> Self
         ensures { result ≡ record self { requirement = record self.requirement { notifier_dead_event = Some None } } }

@@ -54,7 +54,7 @@ impl ServiceBuilder<PublishSubscribe> {
         self
     }
 
-    /// Names whether a send drops the oldest message of a full buffer.
+    /// Sets whether a send drops the oldest message of a full buffer.
     /// Example: `builder.enable_safe_overflow(false)`
     pub fn enable_safe_overflow(mut self, value: bool) -> Self
         ensures { result ≡ record self { requirement = record self.requirement { enable_safe_overflow = Some value } } }
@@ -63,7 +63,7 @@ impl ServiceBuilder<PublishSubscribe> {
         self
     }
 
-    /// Names whether the messages of each publisher have sequence numbers, by which a subscriber detects the messages that it missed.
+    /// Sets whether the messages of each publisher have sequence numbers, by which a subscriber detects the messages that it missed.
     ///
     /// Not in `iceoryx2`.
     /// Example: `builder.sequence_numbers(true)`
@@ -74,7 +74,7 @@ impl ServiceBuilder<PublishSubscribe> {
         self
     }
 
-    /// Names the maximum number of samples of one publisher that a subscriber may hold: an existing service must have at least this, and a
+    /// Sets the maximum number of samples of one publisher that a subscriber may hold: an existing service must have at least this, and a
     /// created one gets exactly this.
     /// Example: `builder.subscriber_max_borrowed_samples(2)`
     pub fn subscriber_max_borrowed_samples(mut self, value: u64) -> Self
@@ -84,7 +84,7 @@ impl ServiceBuilder<PublishSubscribe> {
         self
     }
 
-    /// Names the history size, which is the number of messages that a late subscriber may receive: an existing service must have at least
+    /// Sets the history size, which is the number of messages that a late subscriber may receive: an existing service must have at least
     /// this, and a created one gets exactly this.
     /// Example: `builder.history_size(4)`
     pub fn history_size(mut self, value: u64) -> Self
@@ -94,7 +94,7 @@ impl ServiceBuilder<PublishSubscribe> {
         self
     }
 
-    /// Names the maximum number of waiting messages of one publisher per subscriber: an existing service must have at least this, and a
+    /// Sets the maximum number of waiting messages of one publisher per subscriber: an existing service must have at least this, and a
     /// created one gets exactly this.
     /// Example: `builder.subscriber_max_buffer_size(8)`
     pub fn subscriber_max_buffer_size(mut self, value: u64) -> Self
@@ -104,7 +104,7 @@ impl ServiceBuilder<PublishSubscribe> {
         self
     }
 
-    /// Names the maximum number of subscribers: an existing service must have at least this, and a created one gets exactly this.
+    /// Sets the maximum number of subscribers: an existing service must have at least this, and a created one gets exactly this.
     /// Example: `builder.max_subscribers(8)`
     pub fn max_subscribers(mut self, value: u64) -> Self
         ensures { result ≡ record self { requirement = record self.requirement { max_subscribers = Some value } } }
@@ -113,7 +113,7 @@ impl ServiceBuilder<PublishSubscribe> {
         self
     }
 
-    /// Names the maximum number of publishers: an existing service must have at least this, and a created one gets exactly this.
+    /// Sets the maximum number of publishers: an existing service must have at least this, and a created one gets exactly this.
     /// Example: `builder.max_publishers(2)`
     pub fn max_publishers(mut self, value: u64) -> Self
         ensures { result ≡ record self { requirement = record self.requirement { max_publishers = Some value } } }
@@ -122,7 +122,7 @@ impl ServiceBuilder<PublishSubscribe> {
         self
     }
 
-    /// Names the maximum number of nodes: an existing service must have at least this, and a created one gets exactly this.
+    /// Sets the maximum number of nodes: an existing service must have at least this, and a created one gets exactly this.
     /// Example: `builder.max_nodes(4)`
     pub fn max_nodes(mut self, value: u64) -> Self
         ensures { result ≡ record self { requirement = record self.requirement { max_nodes = Some value } } }

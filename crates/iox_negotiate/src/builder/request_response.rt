@@ -108,7 +108,7 @@ impl ServiceBuilder<RequestResponse> {
         self
     }
 
-    /// Names whether a send drops the oldest request of a full buffer.
+    /// Sets whether a send drops the oldest request of a full buffer.
     /// Example: `builder.enable_safe_overflow_for_requests(false)`
     pub fn enable_safe_overflow_for_requests(mut self, value: bool) -> Self
         ensures { result ≡ record self { requirement = record self.requirement { enable_safe_overflow_for_requests = Some value } } }
@@ -117,7 +117,7 @@ impl ServiceBuilder<RequestResponse> {
         self
     }
 
-    /// Names whether a send drops the oldest response of a full buffer.
+    /// Sets whether a send drops the oldest response of a full buffer.
     /// Example: `builder.enable_safe_overflow_for_responses(false)`
     pub fn enable_safe_overflow_for_responses(mut self, value: bool) -> Self
         ensures { result ≡ record self { requirement = record self.requirement { enable_safe_overflow_for_responses = Some value } } }
@@ -126,7 +126,7 @@ impl ServiceBuilder<RequestResponse> {
         self
     }
 
-    /// Names whether a client may send requests and drop their responses.
+    /// Sets whether a client may send requests and drop their responses.
     /// Example: `builder.enable_fire_and_forget_requests(false)`
     pub fn enable_fire_and_forget_requests(mut self, value: bool) -> Self
         ensures { result ≡ record self { requirement = record self.requirement { enable_fire_and_forget_requests = Some value } } }
@@ -135,7 +135,7 @@ impl ServiceBuilder<RequestResponse> {
         self
     }
 
-    /// Names the maximum number of open requests of one client: an existing service must have at least this, and a created one gets exactly
+    /// Sets the maximum number of open requests of one client: an existing service must have at least this, and a created one gets exactly
     /// this.
     /// Example: `builder.max_active_requests_per_client(4)`
     pub fn max_active_requests_per_client(mut self, value: u64) -> Self
@@ -145,7 +145,7 @@ impl ServiceBuilder<RequestResponse> {
         self
     }
 
-    /// Names the maximum number of loaned requests of a client: an existing service must have at least this, and a created one gets exactly
+    /// Sets the maximum number of loaned requests of a client: an existing service must have at least this, and a created one gets exactly
     /// this.
     /// Example: `builder.max_loaned_requests(2)`
     pub fn max_loaned_requests(mut self, value: u64) -> Self
@@ -155,7 +155,7 @@ impl ServiceBuilder<RequestResponse> {
         self
     }
 
-    /// Names the maximum number of waiting responses to one request: an existing service must have at least this, and a created one gets
+    /// Sets the maximum number of waiting responses to one request: an existing service must have at least this, and a created one gets
     /// exactly this.
     /// Example: `builder.max_response_buffer_size(2)`
     pub fn max_response_buffer_size(mut self, value: u64) -> Self
@@ -165,7 +165,7 @@ impl ServiceBuilder<RequestResponse> {
         self
     }
 
-    /// Names the maximum number of servers: an existing service must have at least this, and a created one gets exactly this.
+    /// Sets the maximum number of servers: an existing service must have at least this, and a created one gets exactly this.
     /// Example: `builder.max_servers(2)`
     pub fn max_servers(mut self, value: u64) -> Self
         ensures { result ≡ record self { requirement = record self.requirement { max_servers = Some value } } }
@@ -174,7 +174,7 @@ impl ServiceBuilder<RequestResponse> {
         self
     }
 
-    /// Names the maximum number of clients: an existing service must have at least this, and a created one gets exactly this.
+    /// Sets the maximum number of clients: an existing service must have at least this, and a created one gets exactly this.
     /// Example: `builder.max_clients(8)`
     pub fn max_clients(mut self, value: u64) -> Self
         ensures { result ≡ record self { requirement = record self.requirement { max_clients = Some value } } }
@@ -183,7 +183,7 @@ impl ServiceBuilder<RequestResponse> {
         self
     }
 
-    /// Names the maximum number of responses to one request that a client may hold: an existing service must have at least this, and a
+    /// Sets the maximum number of responses to one request that a client may hold: an existing service must have at least this, and a
     /// created one gets exactly this.
     /// Example: `builder.max_borrowed_responses_per_pending_response(2)`
     pub fn max_borrowed_responses_per_pending_response(mut self, value: u64) -> Self
@@ -194,7 +194,7 @@ impl ServiceBuilder<RequestResponse> {
         self
     }
 
-    /// Names the maximum number of nodes: an existing service must have at least this, and a created one gets exactly this.
+    /// Sets the maximum number of nodes: an existing service must have at least this, and a created one gets exactly this.
     /// Example: `builder.max_nodes(4)`
     pub fn max_nodes(mut self, value: u64) -> Self
         ensures { result ≡ record self { requirement = record self.requirement { max_nodes = Some value } } }

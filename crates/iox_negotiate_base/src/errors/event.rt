@@ -36,9 +36,9 @@ pub enum EventOpenError {
     IncompatibleAttributes,
     /// The option `deadline` differs.
     IncompatibleDeadline,
-    /// The service has fewer notifiers than required.
+    /// The service permits fewer notifiers than required.
     DoesNotSupportRequestedAmountOfNotifiers,
-    /// The service has fewer listeners than required.
+    /// The service permits fewer listeners than required.
     DoesNotSupportRequestedAmountOfListeners,
     /// The service's largest event id is below the required one.
     DoesNotSupportRequestedMaxEventId,
@@ -48,7 +48,7 @@ pub enum EventOpenError {
     IncompatibleNotifierDroppedEvent,
     /// The option `notifier_dead_event` differs.
     IncompatibleNotifierDeadEvent,
-    /// The service has fewer nodes than required.
+    /// The service permits fewer nodes than required.
     DoesNotSupportRequestedAmountOfNodes,
     /// The service doesn't exist.
     DoesNotExist,
@@ -56,7 +56,7 @@ pub enum EventOpenError {
     InsufficientPermissions,
     /// The stored data isn't a description of this service, or its segment was absent in each of five rounds.
     ServiceInCorruptedState,
-    /// An access failed.
+    /// A storage operation failed.
     InternalFailure,
     /// When the service was looked up, another node had its lock.
     HangsInCreation,
@@ -94,7 +94,7 @@ pub enum EventCreateError {
     AlreadyExists,
     /// The node lacks the permission.
     InsufficientPermissions,
-    /// A setting is beyond its limits, or an access failed.
+    /// A setting is beyond its limits, or a storage operation failed.
     InternalFailure,
     /// Another node is creating the service.
     IsBeingCreatedByAnotherInstance,

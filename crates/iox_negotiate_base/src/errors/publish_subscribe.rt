@@ -41,9 +41,9 @@ pub enum PublishSubscribeOpenError {
     IncompatibleOverflowBehavior,
     /// The switch `sequence_numbers` differs.
     IncompatibleSequenceNumbers,
-    /// The service has fewer publishers than required.
+    /// The service permits fewer publishers than required.
     DoesNotSupportRequestedAmountOfPublishers,
-    /// The service has fewer subscribers than required.
+    /// The service permits fewer subscribers than required.
     DoesNotSupportRequestedAmountOfSubscribers,
     /// The service's buffers are smaller than required.
     DoesNotSupportRequestedMinBufferSize,
@@ -51,7 +51,7 @@ pub enum PublishSubscribeOpenError {
     DoesNotSupportRequestedMinHistorySize,
     /// The service permits fewer borrowed samples than required.
     DoesNotSupportRequestedMinSubscriberBorrowedSamples,
-    /// The service has fewer nodes than required.
+    /// The service permits fewer nodes than required.
     DoesNotSupportRequestedAmountOfNodes,
     /// The service doesn't exist.
     DoesNotExist,
@@ -59,7 +59,7 @@ pub enum PublishSubscribeOpenError {
     InsufficientPermissions,
     /// The stored data isn't a description of this service, or its segment was absent in each of five rounds.
     ServiceInCorruptedState,
-    /// An access failed.
+    /// A storage operation failed.
     InternalFailure,
     /// When the service was looked up, another node had its lock.
     HangsInCreation,
@@ -97,7 +97,7 @@ pub enum PublishSubscribeCreateError {
     AlreadyExists,
     /// The node lacks the permission.
     InsufficientPermissions,
-    /// A setting is beyond its limits, or an access failed.
+    /// A setting is beyond its limits, or a storage operation failed.
     InternalFailure,
     /// Another node is creating the service.
     IsBeingCreatedByAnotherInstance,

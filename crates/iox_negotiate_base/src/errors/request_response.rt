@@ -55,13 +55,13 @@ pub enum RequestResponseOpenError {
     DoesNotSupportRequestedAmountOfActiveRequestsPerClient,
     /// The service's response buffers are smaller than required.
     DoesNotSupportRequestedResponseBufferSize,
-    /// The service has fewer servers than required.
+    /// The service permits fewer servers than required.
     DoesNotSupportRequestedAmountOfServers,
-    /// The service has fewer clients than required.
+    /// The service permits fewer clients than required.
     DoesNotSupportRequestedAmountOfClients,
     /// The service permits fewer borrowed responses than required.
     DoesNotSupportRequestedAmountOfBorrowedResponsesPerPendingResponse,
-    /// The service has fewer nodes than required.
+    /// The service permits fewer nodes than required.
     DoesNotSupportRequestedAmountOfNodes,
     /// The service doesn't exist.
     DoesNotExist,
@@ -69,7 +69,7 @@ pub enum RequestResponseOpenError {
     InsufficientPermissions,
     /// The stored data isn't a description of this service, or its segment was absent in each of five rounds.
     ServiceInCorruptedState,
-    /// An access failed.
+    /// A storage operation failed.
     InternalFailure,
     /// When the service was looked up, another node had its lock.
     HangsInCreation,
@@ -107,7 +107,7 @@ pub enum RequestResponseCreateError {
     AlreadyExists,
     /// The node lacks the permission.
     InsufficientPermissions,
-    /// A setting is beyond its limits, or an access failed.
+    /// A setting is beyond its limits, or a storage operation failed.
     InternalFailure,
     /// Another node is creating the service.
     IsBeingCreatedByAnotherInstance,

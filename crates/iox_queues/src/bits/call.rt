@@ -20,7 +20,7 @@ pub enum Call {
 /// The result of a call.
 #[derive(Clone, Copy, PartialEq, Eq)]
 pub enum Answer {
-    /// A set raised the count of its place by one (true), or found the largest count (false).
+    /// A `Set` raised the count of its place by one (true), or found the count at its maximum (false).
     Added(bool),
     /// A reset of the next place reset exactly this place, or found none to reset.
     Taken(Option<u64>),

@@ -71,7 +71,7 @@ impl SetMachine {
     ghost use Rattle.iox_queues.specs.Asked.{ChangesByActs, IsRecorded, StepsAreOfCalls, TellsStep};
     ghost use Rattle.iox_queues.specs.Moments.{CallsHaveMoments};
 
-    /// An empty set with this capacity and this many parties. No count exceeds `max`, which is 1 for a bit set. It fails only where an
+    /// An empty set with this capacity and this many parties. No count exceeds `max`, which is 1 for a bit set. It fails only if an
     /// allocation fails.
     pub fn new(
         alloc: Global,

@@ -38,7 +38,7 @@ impl SharedWords {
         self.cell(self.write.load(Ordering::SeqCst))
     }
 
-    /// Moves the write position behind the cell that was written.
+    /// Advances the write position past the cell that was written.
     pub(crate) fn advance(&mut self) {
         let write = self.write.load(Ordering::SeqCst);
         self.write.store(write.saturating_add(1), Ordering::SeqCst);

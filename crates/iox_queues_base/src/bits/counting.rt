@@ -22,7 +22,7 @@ impl Model for CountingBitSet {
 }
 
 impl CountingBitSet {
-    /// A count of 0 for each number below `capacity`; allocates the memory for all counts, and fails only where an allocation fails.
+    /// A count of 0 for each number below `capacity`; allocates the memory for all counts, and fails only if an allocation fails.
     pub fn new(alloc: Global, capacity: usize) -> Result<CountingBitSet, AllocError>
         ensures { IfOk result (λ s. s ≡ replicate capacity 0) }
     {
@@ -107,7 +107,7 @@ impl<const CAPACITY: usize> Model for FixedSizeCountingBitSet<CAPACITY> {
 }
 
 impl<const CAPACITY: usize> FixedSizeCountingBitSet<CAPACITY> {
-    /// A count of 0 for each number; allocates the memory for all counts, and fails only where an allocation fails.
+    /// A count of 0 for each number; allocates the memory for all counts, and fails only if an allocation fails.
     pub fn new(alloc: Global) -> Result<FixedSizeCountingBitSet<CAPACITY>, AllocError>
         ensures { IfOk result (λ s. s ≡ replicate CAPACITY 0) }
     {

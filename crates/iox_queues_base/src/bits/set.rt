@@ -25,7 +25,7 @@ impl Model for BitSet {
 }
 
 impl BitSet {
-    /// The empty set of numbers below `capacity`; allocates the memory for all of them, and fails only where an allocation fails.
+    /// The empty set of numbers below `capacity`; allocates the memory for all of them, and fails only if an allocation fails.
     pub fn new(alloc: Global, capacity: usize) -> Result<BitSet, AllocError>
         ensures { IfOk result (λ s. s ≡ record { bits = replicate capacity false; next = 0 }) }
     {
@@ -46,7 +46,7 @@ impl BitSet {
         was_clear
     }
 
-    /// Removes the next member and returns it; `None` if the set is empty. The search starts behind the number that the last call removed,
+    /// Removes the next member and returns it; `None` if the set is empty. The search starts after the number that the last call removed,
     /// and wraps around once.
     pub fn reset_next(&mut self) -> Option<usize>
         ensures none { IfNone result (AreClear self.old.bits 0 (length self.old.bits) × (self.new ≡ self.old)) }
@@ -143,7 +143,7 @@ impl<const CAPACITY: usize> Model for FixedSizeBitSet<CAPACITY> {
 }
 
 impl<const CAPACITY: usize> FixedSizeBitSet<CAPACITY> {
-    /// The empty set; allocates all its memory, and fails only where an allocation fails.
+    /// The empty set; allocates all its memory, and fails only if an allocation fails.
     pub fn new(alloc: Global) -> Result<FixedSizeBitSet<CAPACITY>, AllocError>
         ensures { IfOk result (λ s. s ≡ record { bits = replicate CAPACITY false; next = 0 }) }
     {
@@ -162,7 +162,7 @@ impl<const CAPACITY: usize> FixedSizeBitSet<CAPACITY> {
         self.set.set(id)
     }
 
-    /// Removes the next member and returns it; `None` if the set is empty. The search starts behind the number that the last call removed,
+    /// Removes the next member and returns it; `None` if the set is empty. The search starts after the number that the last call removed,
     /// and wraps around once.
     pub fn reset_next(&mut self) -> Option<usize>
         ensures none { IfNone result (AreClear self.old.bits 0 CAPACITY × (self.new ≡ self.old)) }

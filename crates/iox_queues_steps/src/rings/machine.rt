@@ -32,7 +32,7 @@ impl RingMachine {
     ghost use Rattle.iox_queues_steps.specs.RingMachine.{FollowsOrder, IsTold, RunsTo, StepsTo, Tells, start};
 
     /// A ring in which at most `limit` numbers wait, and the numbers of `waiting` wait at first. A push into the full ring removes the
-    /// oldest number. It fails only where an allocation fails.
+    /// oldest number. It fails only if an allocation fails.
     pub fn overflowing(
         alloc: Global,
         limit: u64,
@@ -42,7 +42,7 @@ impl RingMachine {
         requires room { length waiting.now ≤ limit }
         ensures { IfOk result (λ m. m ≡ start RingKind.Overflowing limit waiting.now) }
     {
-        // No memory has room for so many cells.
+        // No memory can hold 2^62 cells or more.
         if limit >= 1 << 62 {
             return Err(AllocError);
         }
@@ -55,12 +55,12 @@ impl RingMachine {
     }
 
     /// A ring in which at most `limit` numbers wait, and the numbers of `waiting` wait at first. It refuses a push when it is full. It
-    /// fails only where an allocation fails.
+    /// fails only if an allocation fails.
     pub fn refusing(alloc: Global, limit: u64, waiting: &[u64]) -> Result<RingMachine, AllocError>
         requires room { length waiting.now ≤ limit }
         ensures { IfOk result (λ m. m ≡ start RingKind.Refusing limit waiting.now) }
     {
-        // No memory has room for so many cells.
+        // No memory can hold 2^62 cells or more.
         if limit >= 1 << 62 {
             return Err(AllocError);
         }

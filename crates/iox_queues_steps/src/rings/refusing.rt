@@ -3,7 +3,7 @@
 //! Ported from `IndexQueue` of iceoryx2. Each end is independent of any ring: it says which access comes next, and takes the result of that
 //! access.
 //!
-//! First calls, through the trait `End`. A `RingMachine` makes such calls itself.
+//! First calls, through the trait `End`; a `RingMachine` makes these calls itself.
 //!
 //! ```
 //! let answer = ring.apply(pop.next());

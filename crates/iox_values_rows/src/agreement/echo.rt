@@ -1,10 +1,10 @@
-//! Somebody who says each line again.
+//! A conversation partner that repeats each line.
 ghost use Rattle.std.specs.Prelude.{◌≡◌};
 
 use iox_conversation::AnswersLines;
 use std::alloc::{AllocError, Global};
 
-/// Somebody who says so many lines again, and finds no memory for the rest of the next one.
+/// Repeats `answered` lines, and runs out of memory after one byte of the next one.
 #[derive(Drop)]
 pub(crate) struct Echo {
     pub(crate) answered: usize,

@@ -1,15 +1,15 @@
-//! The lines of services, and texts that are nearly one. They come from a function, since a constant's text stands in the proof of
-//! each function that names it.
+//! The lines of services, and texts that are nearly one. They are returned by a function, because the text of a constant would be
+//! part of the proof of each function that names it.
 use crate::answers::hold;
 use iox_describe::{DescriptionError, MessagingPattern, ServiceName, decode, service_hash};
 use std::alloc::{AllocError, Global};
 use std::process::Abort;
 
-/// The lines of version 2, but for the second.
+/// Six lines. All but the second are of version 2.
 pub(crate) fn lines() -> [&'static str; 6] {
     [
-        // Service `23` over slices of `u64` with a `u64` user header, at default settings. This line and those of other patterns are of
-        // version 2.
+        // Service `23` over slices of `u64` with a `u64` user header, at default settings. This line and those of other patterns are
+        // of version 2.
         concat!(
             "{\"attributes\":[],\"name\":\"23\",\"pattern\":\"publish_subscribe\",",
             "\"service_hash\":\"40bd001563085fc35165329ea1ff5c5ecbdbbeef\",\"settings\":{\"enable_safe_overflow\":true,",
@@ -85,7 +85,8 @@ pub(crate) fn is_read(alloc: Global, bytes: &[u8]) -> Result<bool, AllocError> {
     }
 }
 
-/// Whether the line is read with a text in the place of the first such text. Nothing is asked of a row that isn't one.
+/// Whether the line is read after a text in it, at its first occurrence, is replaced as the row `FROM => TO` says. A row without ` =>
+/// ` is an error.
 fn is_spelled(alloc: Global, line: &str, row: &str) -> Result<bool, AllocError> {
     match row.split_once(" => ") {
         Some((from, to)) => is_read(alloc, line.replacen(alloc, from, to, 1)?.as_bytes()),
@@ -93,7 +94,7 @@ fn is_spelled(alloc: Global, line: &str, row: &str) -> Result<bool, AllocError> 
     }
 }
 
-/// What stands in the line of publish-subscribe, and what is put in its place and refused.
+/// Replacements in the line of publish-subscribe after which it is refused.
 const REFUSED: [&str; 38] = [
     // white space, and other forms of a number
     "{ => { ",
@@ -106,7 +107,7 @@ const REFUSED: [&str; 38] = [
     "\"history_size\":0 => \"history_size\":-0",
     "\"history_size\":0 => \"history_size\":",
     "\"history_size\":0 => \"history_size\":null",
-    // numbers at their ends, and past them
+    // numbers at their limits, and past them
     "\"max_nodes\":20 => \"max_nodes\":16777216",
     "\"max_nodes\":20 => \"max_nodes\":0",
     "\"history_size\":0 => \"history_size\":4294967296",
@@ -129,19 +130,19 @@ const REFUSED: [&str; 38] = [
     "\"name\":\"23\", => \"name\":\"23\",\"name\":\"23\",",
     "\"max_nodes\":20, => ",
     "\"version\":2 => \"version\":2,\"x\":1",
-    // other versions; version 1 with the switch of the second, and the second without it
+    // other versions; version 1 with the switch of version 2, and version 2 without it
     "\"version\":2 => \"version\":0",
     "\"version\":2 => \"version\":3",
     "\"version\":2 => \"version\":1",
     "\"sequence_numbers\":false, => ",
     "\"history_size\":0,\"max_nodes\":20 => \"max_nodes\":20,\"history_size\":0",
     "\"publish_subscribe\" => \"event\"",
-    // attributes that are none
+    // attributes that aren't pairs
     "\"attributes\":[] => \"attributes\":[[]]",
     "\"attributes\":[] => \"attributes\":{}",
 ];
 
-/// The same in its line of version 1.
+/// Replacements in the line of version 1 after which it is refused.
 const FIRST_REFUSED: [&str; 7] = [
     "{ => { ",
     "\"version\":1} => \"version\":1}\n",
@@ -152,7 +153,7 @@ const FIRST_REFUSED: [&str; 7] = [
     "\"max_subscribers\":8 => \"max_subscribers\":8,\"sequence_numbers\":true",
 ];
 
-/// What may stand there.
+/// Replacements in the line of publish-subscribe after which it is read.
 const READ: [&str; 6] = [
     "version => version",
     "\"sequence_numbers\":false => \"sequence_numbers\":true",
@@ -162,13 +163,13 @@ const READ: [&str; 6] = [
     "\"name\":\"23\" => \"name\":\"\\u0001\\u001f\\b\\t\\n\\f\\r\\\"\\\\/\"",
 ];
 
-/// What leaves a line as it is.
+/// A replacement that leaves the line as it is.
 const ITSELF: [&str; 1] = ["version => version"];
 
-/// The same, and what makes a line of version 1 of one of version 2 without numbers.
+/// The same, and one that makes a line of version 1 of a line of version 2 whose service has no sequence numbers.
 const BOTH: [&str; 2] = ["version => version", "\"version\":2} => \"version\":1}"];
 
-/// Whether each row is read, or none.
+/// Whether the line is read after the replacement of each row, or, if `read` is false, after none of them.
 fn are_spelled(
     rt: &impl Abort,
     alloc: Global,
@@ -182,7 +183,7 @@ fn are_spelled(
     Ok(true)
 }
 
-/// Whether the hash of publish-subscribe has these digits.
+/// Whether the hash of the publish-subscribe service with this name has these digits.
 fn has_digits(name: &str, digits: &str) -> bool {
     match ServiceName::new(name.as_bytes()) {
         Ok(name) => service_hash(MessagingPattern::PublishSubscribe, &name)

@@ -1,5 +1,5 @@
-//! The line that a service of each pattern is published with; and a service in a table, with as many attributes as there may be, from its
-//! creation to its end, and again.
+//! The line that a service of each pattern is published with; and a service in a table, with up to the maximum number of attributes,
+//! that is created, opened and closed, twice.
 use crate::agreement::lines::lines;
 use crate::agreement::sizes::{attributes, requirements};
 use crate::agreement::tables::is_shown;
@@ -14,15 +14,15 @@ use iox_negotiate::{Builder, Negotiated, PortFactory, ServiceBuilder, Slice};
 use iox_negotiate_table::Table;
 use std::alloc::Global;
 
-/// A node of a large number.
+/// The number of a node: a large one.
 const NODE: u64 = 1 << 63;
 
-/// A builder of the service of this name, for that node.
+/// A builder of the service with this name, for that node.
 pub(crate) fn builder(name: &[u8]) -> Result<Builder, LimitError> {
     Ok(Builder::new(NODE, ServiceName::new(name)?))
 }
 
-/// Whether the service is created with these attributes and this line.
+/// Whether the service is created with these attributes, and published with this line.
 pub(crate) fn is_published<P: Negotiated>(
     alloc: Global,
     asked: ServiceBuilder<P>,
@@ -36,7 +36,7 @@ pub(crate) fn is_published<P: Negotiated>(
     }
 }
 
-/// Whether the services are that three lines describe, of which one has attributes.
+/// Whether three services are published with the lines that describe them; one of them has attributes.
 fn are_published_in(
     alloc: Global,
     none: &AttributeSpecifier,
@@ -64,7 +64,7 @@ fn are_published_in(
     Ok(is_first && is_second && is_published(alloc, third, two, table, line_with_attributes))
 }
 
-/// Two attributes of one key, in their order.
+/// Two attributes with the same key, in this order.
 fn two_attributes(alloc: Global) -> Result<AttributeSpecifier, AttributeError> {
     let mut attributes = AttributeSpecifier::new();
     attributes.define(alloc, b"k", b"v")?;
@@ -72,7 +72,7 @@ fn two_attributes(alloc: Global) -> Result<AttributeSpecifier, AttributeError> {
     Ok(attributes)
 }
 
-/// The same in a new table.
+/// Whether the three services are published in a new table.
 fn are_published(alloc: Global) -> bool {
     match two_attributes(alloc) {
         Ok(two) => {
@@ -83,14 +83,14 @@ fn are_published(alloc: Global) -> bool {
     }
 }
 
-/// Whether a service of this name is created and opened, and is closed by both.
+/// Whether a service with this name is created and opened, and both factories are closed.
 fn is_named(alloc: Global, name: &[u8], table: &mut Table) -> Result<bool, LimitError> {
     let first = builder(name)?.event().create(alloc, table).ok();
     let second = builder(name)?.event().open(alloc, table).ok();
     Ok(is_closed(first, 0, table) && is_closed(second, 0, table))
 }
 
-/// Whether that is so of a name with each byte, in one table.
+/// Whether that is so for names with each byte of 1..=127, in one table.
 fn each_byte_names(alloc: Global, table: &mut Table) -> Result<bool, LimitError> {
     for byte in 1..128 {
         if !is_named(alloc, &[b'a', byte, b'b'], table)? {
@@ -100,7 +100,7 @@ fn each_byte_names(alloc: Global, table: &mut Table) -> Result<bool, LimitError>
     Ok(true)
 }
 
-/// A builder of the event service `A` that asks for so many attributes, each of the largest.
+/// A builder of the event service `A` that requires `count` attributes of the largest size.
 fn of_many(alloc: Global, count: usize) -> Option<ServiceBuilder<Event>> {
     let required = requirements(alloc, count, 256).ok();
     match builder(b"A").ok().zip(required) {
@@ -122,7 +122,7 @@ fn created<P: Negotiated>(
     asked.create_with_attributes(alloc, given, table).ok()
 }
 
-/// The factory that another builder opens with, which requires so many.
+/// The factory that another builder opens, which requires `count` attributes.
 fn opened(alloc: Global, count: usize, table: &mut Table) -> Option<PortFactory<Event>> {
     let required = requirements(alloc, count, 256).ok();
     let (builder, required) = builder(b"A").ok().zip(required)?;
@@ -132,7 +132,7 @@ fn opened(alloc: Global, count: usize, table: &mut Table) -> Option<PortFactory<
         .ok()
 }
 
-/// Whether a factory was made of a service that has so many attributes, and is closed.
+/// Whether there is a factory, its service has `count` attributes, and the factory is closed.
 fn is_closed<P: Negotiated>(made: Option<PortFactory<P>>, count: usize, table: &mut Table) -> bool {
     let Some(factory) = made else {
         return false;
@@ -141,7 +141,7 @@ fn is_closed<P: Negotiated>(made: Option<PortFactory<P>>, count: usize, table: &
     factory.close(table).is_ok() && told == count
 }
 
-/// Whether the service is created, opened and closed with these attributes, which are so many; and again.
+/// Whether the service is twice created, opened and closed with these attributes, of which there are `count`.
 fn lives_again(
     alloc: Global,
     asked: &ServiceBuilder<Event>,
@@ -159,7 +159,7 @@ fn lives_again(
     true
 }
 
-/// The same in a new table of so many attributes, each of the largest, which are required as well.
+/// Whether that is so in a new table with `count` attributes of the largest size, which are required as well.
 fn is_lived(alloc: Global, count: usize) -> bool {
     let asked = of_many(alloc, count);
     match attributes(alloc, count, 256).ok().zip(asked) {
@@ -170,7 +170,7 @@ fn is_lived(alloc: Global, count: usize) -> bool {
     }
 }
 
-/// Pairs and keys that are required, so many of each.
+/// A requirement of this many pairs and this many keys.
 fn unequal(alloc: Global, pairs: usize, keys: usize) -> Result<AttributeVerifier, AttributeError> {
     let mut required = requirements(alloc, 0, 0)?;
     for _ in 0..pairs {
@@ -182,7 +182,7 @@ fn unequal(alloc: Global, pairs: usize, keys: usize) -> Result<AttributeVerifier
     Ok(required)
 }
 
-/// Whether a copy of a builder creates the service with these attributes, which are so many, and it is closed.
+/// Whether a copy of the builder creates the service with these attributes, and the factory is closed.
 fn is_created<P: Negotiated>(
     alloc: Global,
     asked: ServiceBuilder<P>,
@@ -196,7 +196,7 @@ fn is_created<P: Negotiated>(
     )
 }
 
-/// Whether that is so of a service of messages that asks for these.
+/// Whether that is so for a publish-subscribe service with this requirement.
 fn messages(
     alloc: Global,
     required: AttributeVerifier,
@@ -209,7 +209,7 @@ fn messages(
     Ok(is_created(alloc, asked, given, table))
 }
 
-/// The same of a service of events.
+/// Whether that is so for an event service with this requirement.
 fn events(
     alloc: Global,
     required: AttributeVerifier,
@@ -221,7 +221,7 @@ fn events(
     Ok(is_created(alloc, asked, given, table))
 }
 
-/// The same of a service of requests.
+/// Whether that is so for a request-response service with this requirement.
 fn requests(
     alloc: Global,
     required: AttributeVerifier,
@@ -234,7 +234,8 @@ fn requests(
     Ok(is_created(alloc, asked, given, table))
 }
 
-/// Whether copies of builders that ask for so many pairs and keys create services of the most and longest attributes, and these are closed.
+/// Whether copies of builders that require this many pairs and keys create services with eight attributes of the largest size, and
+/// the factories are closed.
 fn are_created(alloc: Global, pairs: usize, keys: usize) -> Result<bool, AttributeError> {
     let given = attributes(alloc, 8, 256)?;
     let mut table = Table::new(alloc, 1);

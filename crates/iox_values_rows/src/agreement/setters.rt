@@ -4,8 +4,9 @@ use iox_describe::{AttributeSpecifier, LimitError, TypeDetail, TypeVariant};
 use iox_negotiate_table::Table;
 use std::alloc::Global;
 
-/// The lines of publish-subscribe, event and request-response with settings that are all named.
-fn lines() -> [&'static str; 3] {
+/// The lines of a publish-subscribe, an event and a request-response service for which every setting is named, and of an event service
+/// whose deadline and event for dead notifiers are disabled.
+fn lines() -> [&'static str; 4] {
     [
         concat!(
             "{\"attributes\":[],\"name\":\"23\",\"pattern\":\"publish_subscribe\",",
@@ -36,10 +37,16 @@ fn lines() -> [&'static str; 3] {
             "\"payload\":{\"alignment\":32,\"name\":\"S\",\"size\":48,\"variant\":\"FixedSize\"},",
             "\"user_header\":{\"alignment\":2,\"name\":\"U\",\"size\":20,\"variant\":\"FixedSize\"}}},\"version\":2}",
         ),
+        concat!(
+            "{\"attributes\":[],\"name\":\"E\",\"pattern\":\"event\",",
+            "\"service_hash\":\"7151c7f46996d49977f91fc77e07abbc2c588465\",\"settings\":{\"deadline\":null,",
+            "\"event_id_max_value\":4294967295,\"max_listeners\":16,\"max_nodes\":36,\"max_notifiers\":16,",
+            "\"notifier_created_event\":22,\"notifier_dead_event\":null,\"notifier_dropped_event\":23},\"version\":2}",
+        ),
     ]
 }
 
-/// Whether a service of messages is published with all that its builder can be told.
+/// Whether a publish-subscribe service is published with every setting that its builder has.
 fn messages(
     alloc: Global,
     none: &AttributeSpecifier,
@@ -67,7 +74,7 @@ fn messages(
     Ok(is_published(alloc, asked, none, table, line))
 }
 
-/// The same of a service of events. The last that is told of a setting stands.
+/// Whether an event service is. The last call on a setting counts.
 fn events(
     alloc: Global,
     none: &AttributeSpecifier,
@@ -91,7 +98,27 @@ fn events(
     Ok(is_published(alloc, asked, none, table, line))
 }
 
-/// The same of a service of requests.
+/// Whether an event service is that sets last what `events` disables last, and the other way round.
+fn other_events(
+    alloc: Global,
+    none: &AttributeSpecifier,
+    table: &mut Table,
+    line: &str,
+) -> Result<bool, LimitError> {
+    let asked = builder(b"E")?
+        .event()
+        .deadline(21)
+        .disable_deadline()
+        .disable_notifier_created_event()
+        .notifier_created_event(22)
+        .disable_notifier_dropped_event()
+        .notifier_dropped_event(23)
+        .notifier_dead_event(24)
+        .disable_notifier_dead_event();
+    Ok(is_published(alloc, asked, none, table, line))
+}
+
+/// Whether a request-response service is.
 fn requests(
     alloc: Global,
     none: &AttributeSpecifier,
@@ -139,19 +166,20 @@ fn requests(
     Ok(is_published(alloc, asked, none, table, line))
 }
 
-/// Whether each is, in one table.
-fn are_published(alloc: Global, table: &mut Table) -> [Result<bool, LimitError>; 3] {
+/// Whether each of the four services is, in one table.
+fn are_published(alloc: Global, table: &mut Table) -> [Result<bool, LimitError>; 4] {
     let none = AttributeSpecifier::new();
-    let [of_messages, of_events, of_requests] = lines();
+    let [of_messages, of_events, of_requests, of_other_events] = lines();
     [
         messages(alloc, &none, table, of_messages),
         events(alloc, &none, table, of_events),
         requests(alloc, &none, table, of_requests),
+        other_events(alloc, &none, table, of_other_events),
     ]
 }
 
 #[test]
 fn each_setter_is_published(rt: HostRuntime) {
     let published = are_published(rt.alloc(), &mut Table::new(rt.alloc(), 1));
-    assert!(rt; published == [Ok(true); 3]);
+    assert!(rt; published == [Ok(true); 4]);
 }

@@ -12,10 +12,10 @@ use std::test::Fail;
 // The key of each attribute.
 const KEY: [u8; 64] = [b'k'; 64];
 
-// The longest value of an attribute: each byte stands in a line as six.
+// The longest value of an attribute; a line encodes each of its bytes as six.
 const VALUE: [u8; 256] = [1; 256];
 
-/// So many attributes, each with a key of 64 bytes and a value of so many, each of which a line has as six.
+/// `count` attributes, each with a key of 64 bytes and a value of `value` bytes; a line encodes each byte of a value as six.
 pub(crate) fn attributes(
     alloc: Global,
     count: usize,
@@ -28,7 +28,7 @@ pub(crate) fn attributes(
     Ok(attributes)
 }
 
-/// So many required pairs and keys, which those attributes have.
+/// A requirement of the pairs and of the keys of these attributes, `count` of each.
 pub(crate) fn requirements(
     alloc: Global,
     count: usize,
@@ -42,11 +42,12 @@ pub(crate) fn requirements(
     Ok(verifier)
 }
 
-/// How many bytes the name has, and that of the payload's type, how many attributes there are, how many bytes each value has, and how many
-/// the line.
+/// The number of bytes of the service's name and of the payload type's name, the number of attributes, the number of bytes of each
+/// value, and the number of bytes of the line.
 type Row = (usize, usize, usize, usize);
 
-// A line without attributes has 553 bytes beside its two names; each attribute has 71 beside its value, and a comma but for the last.
+// A line without attributes has 553 bytes besides its two names. Each attribute has 71 bytes besides its value, and all but the last
+// are followed by a comma.
 const ROWS: [Row; 13] = [
     (1, 0, 0, 555),
     (2, 0, 0, 557),
@@ -66,7 +67,7 @@ const ROWS: [Row; 13] = [
 // The longest name.
 const NAME: [u8; 255] = [b'x'; 255];
 
-/// The description of a row.
+/// The description that a row says.
 fn described(alloc: Global, (name, count, value, _): Row) -> Result<Description, Fail> {
     let type_name = &NAME[..name.min(255)];
     let name = ServiceName::new(type_name)?;
@@ -77,7 +78,7 @@ fn described(alloc: Global, (name, count, value, _): Row) -> Result<Description,
     Ok(Description::new(name, settings, attributes))
 }
 
-/// How long the line is, from which the description is read. It is copied, and is read of its line of version 1, too.
+/// The length of the description's line. Before, the description is copied, and read from this line and from its version 1 line.
 fn length(alloc: Global, description: &Description) -> Result<usize, Fail> {
     let _ = description.try_clone(alloc)?;
     let first = encode_v1(alloc, description)?;
@@ -87,18 +88,18 @@ fn length(alloc: Global, description: &Description) -> Result<usize, Fail> {
     Ok(line.len())
 }
 
-/// The same of a row.
+/// The length of the line of a row.
 fn length_of(alloc: Global, row: Row) -> Result<usize, Fail> {
     length(alloc, &described(alloc, row)?)
 }
 
-/// Whether so many spaces are refused.
+/// Whether `length` spaces are refused.
 fn is_blank(alloc: Global, length: usize) -> Result<bool, AllocError> {
     let bytes = vec![in alloc; b' '; length]?;
     Ok(!is_read(alloc, bytes.as_slice())?)
 }
 
-/// The same of each length.
+/// Whether this is so for each length.
 fn are_blank(alloc: Global) -> Result<bool, AllocError> {
     all(&[
         is_blank(alloc, 0),

@@ -16,8 +16,8 @@ x
 receive s1
 ";
 
-/// Which calls fail: signals interrupt so many before each that is let through. After so many of these one fails, in a way that a
-/// number decides, and none behind it.
+/// Which calls fail: `signals` signals interrupt each call before it succeeds. After `good_calls` successful calls one call fails, in
+/// a way that a number determines, and no later one does.
 #[derive(Clone, Copy)]
 struct Faults {
     signals: usize,
@@ -26,7 +26,7 @@ struct Faults {
 }
 
 impl Faults {
-    /// How this call fails, if it does. No call that isn't interrupted is made again.
+    /// How this call fails, if it does. A call that fails, and wasn't interrupted, must not be repeated.
     fn next(&mut self, number: usize) -> Option<ErrorKind> {
         if self.left > 0 {
             self.left -= 1;
@@ -49,7 +49,8 @@ impl Faults {
     }
 }
 
-/// Gives its text by pieces, so often: the first piece of one size, the others of another. The bytes left decide how a call fails.
+/// Returns its text in pieces, and `laps` times more: the first piece of one size, the others of another. The number of remaining
+/// bytes determines how a call fails.
 #[derive(Drop)]
 struct Pieces {
     text: &'static [u8],
@@ -61,7 +62,7 @@ struct Pieces {
 }
 
 impl Pieces {
-    /// Begins the text again, if it is at its end, and to come again.
+    /// Begins the text again, if it is at its end and is to be repeated.
     fn begin_again(&mut self) {
         if self.rest.is_empty() && self.laps > 0 {
             self.laps -= 1;
@@ -84,7 +85,7 @@ impl io::Read for Pieces {
     }
 }
 
-/// Takes so many bytes a call at most, and keeps them. The bytes taken decide how a call fails.
+/// Takes at most `most` bytes in a call, and stores them. The number of bytes taken determines how a call fails.
 #[derive(Drop)]
 struct Sips {
     taken: Vec<u8>,
@@ -109,9 +110,9 @@ impl io::Write for Sips {
     }
 }
 
-/// How a conversation goes, by what is said of it in this order: the first piece and the others have so many bytes; so many reads go
-/// well; a write takes so many bytes, and so many go well; signals interrupt so many calls before each such read, and before each
-/// such write; memory is found for so many lines. Then what it comes to, and how many bytes of the lines are written.
+/// A conversation, and how it ends. The numbers are: the size of the first piece and of the others; how many reads succeed; how many
+/// bytes a write takes, and how many writes succeed; how many signals interrupt each read, and how many each write; for how many
+/// lines there is memory. Then come the result and the number of bytes of the lines that are written.
 type Talk = ([usize; 8], Result<(), ServeError>, usize);
 
 const ALL: usize = usize::MAX;
@@ -125,7 +126,7 @@ const WRITE: Result<(), ServeError> = Err(ServeError::WriteFault);
 const WANT: Result<(), ServeError> = Err(ServeError::OutOfMemory);
 
 const TALKS: [Talk; 42] = [
-    // pieces make no difference
+    // The size of pieces makes no difference.
     ([ALL, ALL, ALL, ALL, ALL, 0, 0, ALL], WELL, 44),
     ([1, 1, ALL, ALL, ALL, 0, 0, ALL], WELL, 44),
     ([1, ALL, ALL, ALL, ALL, 0, 0, ALL], WELL, 44),
@@ -133,7 +134,7 @@ const TALKS: [Talk; 42] = [
     ([20, 1, ALL, ALL, ALL, 0, 0, ALL], WELL, 44),
     ([21, ALL, ALL, ALL, ALL, 0, 0, ALL], WELL, 44),
     ([43, 1, ALL, ALL, ALL, 0, 0, ALL], WELL, 44),
-    // a read fails, also the one that would find the end
+    // A read fails, also the one that would find the end.
     ([1, 1, 0, ALL, ALL, 0, 0, ALL], READ, 0),
     ([1, 1, 1, ALL, ALL, 0, 0, ALL], READ, 0),
     ([1, 1, 4, ALL, ALL, 0, 0, ALL], READ, 0),
@@ -142,7 +143,7 @@ const TALKS: [Talk; 42] = [
     ([1, 1, 30, ALL, ALL, 0, 0, ALL], READ, 21),
     ([1, 1, 33, ALL, ALL, 0, 0, ALL], READ, 33),
     ([1, 1, 44, ALL, ALL, 0, 0, ALL], READ, 44),
-    // a write fails
+    // A write fails.
     ([ALL, ALL, ALL, 1, 0, 0, 0, ALL], WRITE, 0),
     ([ALL, ALL, ALL, 1, 1, 0, 0, ALL], WRITE, 1),
     ([ALL, ALL, ALL, 1, 2, 0, 0, ALL], WRITE, 2),
@@ -150,19 +151,20 @@ const TALKS: [Talk; 42] = [
     ([ALL, ALL, ALL, 1, 10, 0, 0, ALL], WRITE, 10),
     ([ALL, ALL, ALL, 1, 41, 0, 0, ALL], WRITE, 41),
     ([ALL, ALL, ALL, 1, 43, 0, 0, ALL], WRITE, 43),
-    // one byte a write; one write, since what answers one read is written together; none is taken; nothing is there to write
+    // A write takes one byte; one write is enough, because the answers to one read are written together; a write takes none; nothing
+    // is to be written.
     ([ALL, ALL, ALL, 1, ALL, 0, 0, ALL], WELL, 44),
     ([ALL, ALL, ALL, ALL, 1, 0, 0, ALL], WELL, 44),
     ([ALL, ALL, ALL, 0, ALL, 0, 0, ALL], WRITE, 0),
     ([0, 0, ALL, 0, 0, 0, 0, ALL], WELL, 0),
-    // signals interrupt calls, which are made again, also before one that fails, but a write no more than 2^20 times
+    // Signals interrupt calls, which are repeated, also before a call that fails; but a write is repeated at most 2^20 times.
     ([ALL, ALL, ALL, ALL, ALL, 1, 3, ALL], WELL, 44),
     ([1, 1, ALL, 1, ALL, 7, 1, ALL], WELL, 44),
     ([21, ALL, 1, ALL, ALL, 1, 0, ALL], READ, 21),
     ([ALL, ALL, ALL, 8, 2, 0, 2, ALL], WRITE, 16),
     ([ALL, ALL, ALL, ALL, ALL, 0, 1_000, ALL], WELL, 44),
     ([ALL, ALL, ALL, ALL, ALL, 0, ALL, ALL], WRITE, 0),
-    // no memory is found for a line: the replies before it are written
+    // Memory runs out for a line: the replies before it are written.
     ([ALL, ALL, ALL, ALL, ALL, 0, 0, 0], WANT, 0),
     ([1, 1, ALL, ALL, ALL, 0, 0, 0], WANT, 0),
     ([1, 1, ALL, ALL, ALL, 0, 0, 1], WANT, 5),
@@ -175,7 +177,7 @@ const TALKS: [Talk; 42] = [
     ([ALL, ALL, ALL, ALL, ALL, 0, 0, 5], WANT, 33),
 ];
 
-/// A text by pieces, so many laps of it behind the first.
+/// A text in pieces, which is repeated `laps` times after the first.
 fn new_pieces(text: &'static [u8], laps: u64, sizes: [usize; 2], faults: [usize; 2]) -> Pieces {
     let [first, others] = sizes;
     let [good_calls, signals] = faults;
@@ -193,7 +195,7 @@ fn new_pieces(text: &'static [u8], laps: u64, sizes: [usize; 2], faults: [usize;
     }
 }
 
-/// How many bytes of the lines were taken; all there can be where others were.
+/// How many bytes of the lines were taken; `ALL` if other bytes were taken.
 fn taken_of_lines(taken: &[u8]) -> usize {
     if LINES.starts_with(taken) {
         taken.len()
@@ -202,7 +204,7 @@ fn taken_of_lines(taken: &[u8]) -> usize {
     }
 }
 
-/// What a conversation comes to, whether a read failed and whether a write did, and how many bytes of the lines are written.
+/// The result of a conversation, whether a read failed, whether a write failed, and how many bytes of the lines are written.
 fn told(alloc: Global, numbers: &[usize; 8]) -> (Result<(), ServeError>, bool, bool, usize) {
     let [
         first,
@@ -230,7 +232,7 @@ fn told(alloc: Global, numbers: &[usize; 8]) -> (Result<(), ServeError>, bool, b
     (result, input.has_failed(), output.has_failed(), written)
 }
 
-/// The first conversation that goes otherwise.
+/// The first conversation that ends otherwise than its row says.
 fn wrong_talk(alloc: Global) -> Option<usize> {
     for (place, talk) in TALKS.iter().enumerate() {
         let result = talk.1;
@@ -241,10 +243,10 @@ fn wrong_talk(alloc: Global) -> Option<usize> {
     None
 }
 
-/// What a conversation comes to, whether a read has failed, and how many bytes are written.
+/// The result of a conversation, whether a read failed, and how many bytes are written.
 type Told = (Result<(), ServeError>, bool, usize);
 
-/// The same of a reader all of whose lines are said again.
+/// The same for a reader all of whose lines are repeated.
 fn told_of<R: io::Read>(alloc: Global, input: &mut Input<R>) -> Told
     requires { input.old.calls + 2 ^ 20 < 2 ^ 64 }
 {
@@ -253,8 +255,8 @@ fn told_of<R: io::Read>(alloc: Global, input: &mut Input<R>) -> Told
     (result, input.has_failed(), output.writer().len())
 }
 
-/// Whether a reader is left after the most calls, where so many bytes are written; one that ends there is asked again in a second
-/// conversation.
+/// Whether the conversation ends after the maximum number of reads, with `written` bytes written. A reader that ends there is read
+/// again in a second conversation.
 fn is_left(alloc: Global, reader: Pieces, written: usize, ends: bool) -> bool {
     let mut input = Input::new(reader);
     let left = told_of(alloc, &mut input);
@@ -266,14 +268,14 @@ fn is_left(alloc: Global, reader: Pieces, written: usize, ends: bool) -> bool {
 
 #[test]
 fn an_endless_reader_is_left(rt: HostRuntime) {
-    // A newline a call, as many as a conversation reads; and calls that are all interrupted.
+    // One newline in each call, as many as a conversation reads; and calls that are all interrupted.
     let endless = new_pieces(b"\n", READ_CALLS - 1, [1, 1], [ALL, 0]);
     assert!(rt; is_left(rt.alloc(), endless, 1_048_576, true));
     let interrupted = new_pieces(LINES, 0, [1, 1], [ALL, ALL]);
     assert!(rt; is_left(rt.alloc(), interrupted, 0, false));
 }
 
-/// Whether so many bytes are said again of so many newlines, so many letters, and so many newlines again.
+/// Whether `length` bytes are repeated of a text with these numbers of newlines, letters, and newlines again.
 fn is_heard(
     alloc: Global,
     [before, letters, behind]: [usize; 3],
@@ -300,7 +302,7 @@ fn conversations_go_as_is_told(rt: HostRuntime) {
         is_heard(alloc, [64, 0, 0], 64),
         is_heard(alloc, [1_000, 0, 0], 1_000),
         is_heard(alloc, [70_000, 0, 0], 70_000),
-        // Of a line the first 1,025 bytes and a newline are said again.
+        // Of a long line, the first 1,025 bytes and a newline are repeated.
         is_heard(alloc, [0, 1, 0], 2),
         is_heard(alloc, [0, 2, 1], 3),
         is_heard(alloc, [0, 7, 0], 8),
@@ -309,7 +311,7 @@ fn conversations_go_as_is_told(rt: HostRuntime) {
         is_heard(alloc, [0, 1_024, 0], 1_025),
         is_heard(alloc, [0, 1_025, 0], 1_026),
         is_heard(alloc, [0, 70_000, 0], 1_026),
-        // The second read ends a line that the first began, so its answers have more bytes than a read.
+        // The second read ends a line that the first began, so the answers to it have more bytes than a read.
         is_heard(alloc, [64_536, 1_000, 65_536], 131_072),
     ];
     hold(&rt, &answers);

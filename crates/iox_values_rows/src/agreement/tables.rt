@@ -1,14 +1,16 @@
 //! Tables with texts of all sizes, and any number of actions of other nodes, with ample memory.
 use crate::answers::hold;
 use iox_describe::ServiceHash;
-use iox_negotiate_base::{LockAnswer, LookAnswer, MakeSegmentAnswer, PublishAnswer, Storage};
+use iox_negotiate_base::{
+    LockAnswer, LookAnswer, MakeSegmentAnswer, PublishAnswer, Storage, StoredDescription,
+};
 use iox_negotiate_table::{ForeignStep, StepList, Stepped, Table};
 use std::alloc::{AllocError, Global};
 
 /// The hash of a service.
 const HASH: ServiceHash = ServiceHash { digest: [5; 20] };
 
-/// Whether the table shows this text.
+/// Whether a lookup finds this text.
 pub(crate) fn is_shown(table: &mut Table, hash: &ServiceHash, text: &[u8]) -> bool {
     match table.look(hash) {
         LookAnswer::Found { bytes, .. } => bytes.as_bytes() == text,
@@ -17,21 +19,22 @@ pub(crate) fn is_shown(table: &mut Table, hash: &ServiceHash, text: &[u8]) -> bo
     }
 }
 
-/// Whether a node makes the first service with room for itself, and publishes this text, which the table shows.
-fn is_made(table: &mut Table, text: &[u8]) -> bool {
+/// Whether a node makes the first service with capacity for one node, and publishes this text.
+fn is_made(table: &mut Table, text: StoredDescription) -> bool {
     table.lock(&HASH, 0) == LockAnswer::Taken(1)
         && table.make_segment(&HASH, 1, 0, 1) == MakeSegmentAnswer::Made
         && table.publish(&HASH, 1, text) == PublishAnswer::Published
-        && is_shown(table, &HASH, text)
 }
 
-/// The same in a new table, with a text of so many bytes.
+/// Whether a text of `length` bytes is published in a new table, and a lookup then finds it.
 fn is_published(alloc: Global, length: usize) -> Result<bool, AllocError> {
     let text = vec![in alloc; b'x'; length]?;
-    Ok(is_made(&mut Table::new(alloc, 1), text.as_slice()))
+    let stored = StoredDescription::new(text.to_vec(alloc)?);
+    let mut table = Table::new(alloc, 1);
+    Ok(is_made(&mut table, stored) && is_shown(&mut table, &HASH, text.as_slice()))
 }
 
-/// A list of so many locks that foreign node 1 takes and gives up.
+/// A list of `count` locks that foreign node 1 takes and gives up.
 fn locks_of_another(alloc: Global, count: usize) -> Result<StepList, AllocError> {
     let mut steps = Vec::new(alloc);
     for _ in 0..count {
@@ -41,7 +44,7 @@ fn locks_of_another(alloc: Global, count: usize) -> Result<StepList, AllocError>
     Ok(StepList::new(steps))
 }
 
-/// So many lists, of so many locks each.
+/// `count` lists of `locks` locks each.
 fn lists_of(alloc: Global, count: usize, locks: usize) -> Result<Vec<StepList>, AllocError> {
     let mut lists = Vec::new(alloc);
     for _ in 0..count {
@@ -50,7 +53,7 @@ fn lists_of(alloc: Global, count: usize, locks: usize) -> Result<Vec<StepList>, 
     Ok(lists)
 }
 
-/// Whether so many lists are done, each before its look; then the next lock has this number.
+/// Whether `lists` lists are done, each before its lookup, and the next lock then has this number.
 fn are_done(stepped: &mut Stepped, lists: usize, next: u64) -> bool {
     for _ in 0..lists {
         if !matches!(stepped.look(&HASH), LookAnswer::Absent) {
@@ -60,7 +63,7 @@ fn are_done(stepped: &mut Stepped, lists: usize, next: u64) -> bool {
     stepped.lock(&HASH, 5) == LockAnswer::Taken(next)
 }
 
-/// The same of lists of so many locks each: the number comes after all of those.
+/// Whether this is so for lists of `locks` locks each: the next lock's number is above those of all of them.
 fn lists_are_done(
     alloc: Global,
     lists: usize,

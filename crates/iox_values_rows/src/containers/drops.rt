@@ -1,11 +1,12 @@
-//! The order in which a container lets its items go. Those of fixed size hold one whose size is chosen, and hand their calls on to it.
+//! The order in which a container drops its items. A container of fixed size contains one whose capacity is chosen, and passes its
+//! calls on to it.
 use crate::answers::{all, hold};
 use iox_container::vector::Vector;
 use iox_container::{FixedSizeQueue, PolymorphicVec, StaticVec};
 use std::alloc::{AllocError, Global};
 use std::cell::Cell;
 
-// Notes its digit behind those before where it is dropped.
+// Appends its digit to the noted ones when it is dropped.
 struct Noted<'a>(u8, &'a Cell<u64>);
 
 impl Drop for Noted<'_> {
@@ -20,8 +21,8 @@ impl Drop for Noted<'_> {
     }
 }
 
-/// Fills a vector with 1, 2 and so on, cuts it to so many items, and lets it go. It tells whether these digits are noted by the cut, and
-/// these in all.
+/// Fills a vector with 1, 2 and so on, cuts it to `kept` items, and drops it. Answers whether the cut notes the digits `cut`, and cut
+/// and drop together the digits `all`.
 fn goes_so<'a, V: Vector<Noted<'a>> + Drop>(
     made: Result<V, AllocError>,
     notes: &'a Cell<u64>,
@@ -48,7 +49,7 @@ type OfSeven<'a> = StaticVec<Noted<'a>, 7>;
 
 type Many<'a> = PolymorphicVec<Noted<'a>, Global>;
 
-/// The same of vectors of two, three and seven items: none is cut off, then all, then some.
+/// Whether this is so for vectors of two, three and seven items, of which none, all or some are cut off.
 fn go_the_last_first(alloc: Global, notes: &Cell<u64>) -> Result<bool, AllocError> {
     all(&[
         goes_so(OfThree::new(alloc), notes, (3, 0, 321)),

@@ -1,4 +1,4 @@
-//! Names with rules of their own: none is empty, none has a slash, and each is as good as any other.
+//! Names with rules of their own: no name is empty or has a slash, and all names are equal.
 ghost use Rattle.std.specs.Prelude.{[], ◌==◌, length, refl};
 ghost use Rattle.std.specs.List.{list_any};
 
@@ -31,7 +31,7 @@ impl<const CAPACITY: usize> Rules<CAPACITY> for Name {
     ghost normalised_once = { λ text fits bytes. refl };
 }
 
-/// Whether the copy of a name is debugged as its literal.
+/// Whether `Debug` shows the copy of a name as its literal.
 pub(crate) fn is_copied(alloc: Global) -> Result<bool, AllocError> {
     match Semantic::<Name, 8>::new(b"A\"b") {
         Ok(name) => is_shown(alloc, &name.clone()?, "\"A\\\"b\""),

@@ -1,4 +1,4 @@
-//! Ample memory is always enough, at each size; and no more room is taken than there is.
+//! Ample memory is always enough, at each size; and a capacity that no memory can hold is refused.
 use crate::answers::{Want, are_refused, find_memory};
 use iox_container::by_number::Numbered;
 use iox_container::byte_cells::{ByteMachine, ByteStep};
@@ -11,10 +11,10 @@ use iox_container::{
 use std::alloc::{AllocError, Global};
 use std::convert::identity;
 
-/// More than anyone fills.
+/// A large capacity.
 const MANY: usize = 1_000_003;
 
-/// Room, and how many places of it are filled.
+/// A capacity, and how many items are added.
 const SIZES: [(usize, usize); 15] = [
     (0, 0),
     (1, 0),
@@ -33,7 +33,7 @@ const SIZES: [(usize, usize); 15] = [
     (MANY, MANY),
 ];
 
-/// The want of a string into which these bytes are put, or of its copy.
+/// The error of a string to which these bytes are appended, or of its copy.
 fn text(alloc: Global, capacity: usize, bytes: &[u8]) -> Want {
     match PolymorphicString::new(alloc, capacity) {
         Ok(mut text) => {
@@ -44,7 +44,7 @@ fn text(alloc: Global, capacity: usize, bytes: &[u8]) -> Want {
     }
 }
 
-/// The wants of a string of such bytes, and of their escapes.
+/// The errors of a string of `len` bytes, and of their escapes.
 fn texts(alloc: Global, capacity: usize, len: usize) -> [Want; 2] {
     match vec![in alloc; 127; len] {
         Ok(bytes) => [
@@ -55,7 +55,7 @@ fn texts(alloc: Global, capacity: usize, len: usize) -> [Want; 2] {
     }
 }
 
-/// The want of a vector that is given so many items, or of its copy.
+/// The error of a vector that gets `len` items, or of its copy.
 fn vector(alloc: Global, capacity: usize, len: usize) -> Want {
     match PolymorphicVec::<usize, Global>::new(alloc, capacity) {
         Ok(mut vec) => {
@@ -66,7 +66,7 @@ fn vector(alloc: Global, capacity: usize, len: usize) -> Want {
     }
 }
 
-/// The want of as many answers as there are steps.
+/// The error of a run of `count` steps, which needs memory for as many answers.
 fn answers(alloc: Global, count: usize) -> Want {
     match vec![in alloc; ByteStep::Store(1, 5); count] {
         Ok(steps) => ByteMachine::new([0; 2]).run(alloc, steps.as_slice()).err(),
@@ -74,7 +74,7 @@ fn answers(alloc: Global, count: usize) -> Want {
     }
 }
 
-/// The want of room in a table for so many values, which had room for half as many, and was full.
+/// The error of raising the capacity of a table to `room`, which had half of it and was full.
 fn table(alloc: Global, room: usize) -> Want {
     let mut table = Numbered::<u64>::new(alloc);
     if let Err(error) = table.reserve(room / 2) {
@@ -88,7 +88,7 @@ fn table(alloc: Global, room: usize) -> Want {
     table.reserve(room).err()
 }
 
-/// The wants of all that is made with so much room, strings and vectors filled so far.
+/// The errors of everything that is created with this capacity; strings and vectors get `len` items.
 fn made(alloc: Global, capacity: usize, len: usize) -> [Want; 9] {
     let [string, escapes] = texts(alloc, capacity, len);
     [
@@ -112,7 +112,7 @@ fn ample_memory_is_enough_at_each_size(rt: HostRuntime) -> Result<(), AllocError
     Ok(())
 }
 
-/// The want of a vector of fixed size that is given so many items, or of its copy.
+/// The error of a vector of fixed size that gets `len` items, or of its copy.
 fn fixed_vector<const SIZE: usize>(alloc: Global, len: usize) -> Want {
     match StaticVec::<usize, SIZE>::new(alloc) {
         Ok(mut vec) => {
@@ -123,7 +123,7 @@ fn fixed_vector<const SIZE: usize>(alloc: Global, len: usize) -> Want {
     }
 }
 
-/// The wants of what is made of a fixed size, at most 1,000 places filled.
+/// The errors of everything that is created with a fixed size; vectors get at most 1,000 items.
 fn fixed<const SIZE: usize>(alloc: Global) -> [Want; 5] {
     [
         fixed_vector::<SIZE>(alloc, (SIZE / 2).min(1_000)),
@@ -150,7 +150,7 @@ fn ample_memory_is_enough_at_each_fixed_size(rt: HostRuntime) -> Result<(), Allo
     find_memory(wants.as_flattened())
 }
 
-/// The wants of what nothing has room for.
+/// The errors of what no memory can hold.
 fn too_much(alloc: Global) -> [Want; 3] {
     [
         text(alloc, usize::MAX, &[]),

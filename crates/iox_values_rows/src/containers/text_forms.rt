@@ -1,5 +1,5 @@
-//! The JSON of strings, vectors and options: what is read of it, from a text and from a tree; and that what is written comes back. The
-//! escape of each byte.
+//! The JSON of strings, vectors and options: what is read from it, as a text and as a tree, and that what is written is read back. It
+//! also has the escape of each byte.
 use crate::answers::{all, hold, is_shown};
 use iox_container::string::{StaticString, String, as_escaped_string};
 use iox_container::vector::Vector;
@@ -9,13 +9,13 @@ use serde_json::{Error, Value};
 use std::alloc::{AllocError, Global};
 use std::fmt::Debug;
 
-/// Whether a refusal has these words; where they are `refused`, it is one for another reason than length.
+/// Whether the error has these words; `refused` means any reason except the length.
 fn is_refused(alloc: Global, error: &Error, words: &str) -> Result<bool, AllocError> {
     let told = format!(in alloc; "refused: {error}")?;
     Ok(told.contains(words) && (words != "refused" || !told.contains("longer than capacity")))
 }
 
-/// Whether a value was read that is debugged so, or a refusal has these words.
+/// Whether a value was read that `Debug` shows as `answer`, or the error has these words.
 fn is_told<T: Debug + Drop>(
     alloc: Global,
     read: Result<T, Error>,
@@ -31,7 +31,7 @@ fn from_tree<T: DeserializeOwned>(alloc: Global, json: &str) -> Result<T, Error>
     serde_json::from_value(alloc, Value::from_str(alloc, json)?)
 }
 
-/// Whether the JSON is answered so, read as a text and read as a tree.
+/// Whether the JSON has this answer, read as a text and read as a tree.
 fn is_read<'de, T: Deserialize<'de> + DeserializeOwned + Debug>(
     alloc: Global,
     json: &'de str,
@@ -43,7 +43,7 @@ fn is_read<'de, T: Deserialize<'de> + DeserializeOwned + Debug>(
     ])
 }
 
-/// Whether each row goes so: JSON, and how it is answered.
+/// Whether each row holds: JSON, and its answer.
 fn are_read<'de, T: Deserialize<'de> + DeserializeOwned + Debug>(
     alloc: Global,
     rows: &[(&'de str, &str)],
@@ -112,7 +112,7 @@ const LISTS_OF_STRINGS: [(&str, &str); 3] = [
     ("[\"names\"]", "text longer than capacity"),
 ];
 
-/// Each byte as it is escaped, 16 of them a row.
+/// Each byte as it is escaped, 16 of them in a row.
 const ESCAPES: [&str; 16] = [
     "\\x00\\x01\\x02\\x03\\x04\\x05\\x06\\x07\\x08\\t\\n\\x0b\\x0c\\r\\x0e\\x0f",
     "\\x10\\x11\\x12\\x13\\x14\\x15\\x16\\x17\\x18\\x19\\x1a\\x1b\\x1c\\x1d\\x1e\\x1f",
@@ -132,7 +132,7 @@ const ESCAPES: [&str; 16] = [
     "\\xf0\\xf1\\xf2\\xf3\\xf4\\xf5\\xf6\\xf7\\xf8\\xf9\\xfa\\xfb\\xfc\\xfd\\xfe\\xff",
 ];
 
-/// Whether the 16 bytes of a row are escaped so.
+/// Whether the 16 bytes of a row are escaped as this text.
 fn are_escaped(alloc: Global, row: usize, text: &str) -> Result<bool, AllocError> {
     let mut bytes = [0u8; 16];
     for (place, byte) in bytes.iter_mut().enumerate() {
@@ -141,7 +141,7 @@ fn are_escaped(alloc: Global, row: usize, text: &str) -> Result<bool, AllocError
     Ok(as_escaped_string(alloc, &bytes)?.as_str() == text)
 }
 
-/// Whether each byte is escaped so.
+/// Whether each byte is escaped as its row says.
 fn escapes(alloc: Global) -> Result<bool, AllocError> {
     for (row, text) in ESCAPES.iter().enumerate() {
         if !are_escaped(alloc, row, text)? {
@@ -154,7 +154,7 @@ fn escapes(alloc: Global) -> Result<bool, AllocError> {
 /// A list and a text of the same length.
 type Pair = (StaticVec<u8, 1_000>, StaticString<1_000>);
 
-/// Whether a pair is written, and read as it was.
+/// Whether a pair that is written is read back.
 fn comes_back(alloc: Global, pair: &Pair) -> Result<bool, AllocError> {
     let literal = format!(in alloc; "{pair:?}")?;
     match serde_json::to_string(alloc, pair) {
@@ -163,7 +163,7 @@ fn comes_back(alloc: Global, pair: &Pair) -> Result<bool, AllocError> {
     }
 }
 
-/// Whether so many sevens and so many letters are.
+/// Whether a pair of `len` sevens and `len` letters is.
 fn are_of(alloc: Global, len: usize) -> Result<bool, AllocError> {
     let mut pair = (StaticVec::new(alloc)?, StaticString::new());
     let _ = pair.0.resize(len, 7);

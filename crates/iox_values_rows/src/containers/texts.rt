@@ -1,4 +1,4 @@
-//! What values are displayed and debugged as.
+//! What `Display` and `Debug` show of values.
 use crate::answers::{hold, is_shown};
 use crate::containers::semantic;
 use iox_container::byte_cells::{ByteAnswer, ByteStep};
@@ -10,7 +10,8 @@ use iox_container::{
 use std::alloc::{AllocError, Global};
 use std::fmt::{Debug, Display};
 
-/// Whether a string of `a"`, a newline and a byte 127 is displayed in six places, at both ends of them, and debugged as a literal.
+/// Whether `Display` shows a string of `a"`, a newline and byte 127 in a width of six, aligned to the right and to the left, and
+/// `Debug` shows it as a literal.
 fn is_printed<S: String + Display + Debug>(
     alloc: Global,
     text: &mut S,
@@ -24,7 +25,7 @@ fn string(alloc: Global) -> Result<bool, AllocError> {
     is_printed(alloc, &mut PolymorphicString::new(alloc, 9)?)
 }
 
-/// Whether an empty vector of two places is debugged as its items, once they are there.
+/// Whether `Debug` shows a vector of two places as its items, after they were added.
 fn is_listed<V: Vector<u8> + Debug + Drop>(
     alloc: Global,
     made: Result<V, AllocError>,

@@ -8,16 +8,16 @@ use std::alloc::{AllocError, Global};
 
 /// A queue of numbers.
 pub(crate) trait Numbers: SharedQueue {
-    /// Whether a full queue hands its oldest number out, or refuses the new one.
+    /// Whether a full queue removes its oldest number and returns it; otherwise it refuses the new one.
     const OVERFLOWS: bool;
 
-    /// The largest number that a value says; a value without words says 0 of each.
+    /// The largest number that a value can state; a value without words states 0 for each number.
     const LARGEST: u64;
 
-    /// Puts a number behind the rest before the queue is shared.
+    /// Appends a number before the queue is shared.
     fn put_before(&mut self, value: u64);
 
-    /// Puts a number behind the rest; the answer is the number that doesn't stay.
+    /// Appends a number; the answer is the number that isn't in the queue then, if there is one.
     fn put(producer: &mut Producer<'_, Self>, value: u64) -> Option<u64>;
 
     fn take_next(consumer: &mut Consumer<'_, Self>) -> Option<u64>;
@@ -59,7 +59,7 @@ impl<const CAPACITY: usize> Numbers for FixedSizeIndexQueue<CAPACITY> {
     }
 }
 
-/// The value whose first word says this number, and each other one says it otherwise; None where it has more than sixteen.
+/// The value whose words are made of this number, all of them different; None if it has more than sixteen words.
 pub(crate) fn wide<T: Words>(number: u64) -> Option<T> {
     let mut words = [number; 16];
     for (place, word) in words.iter_mut().enumerate() {
@@ -133,12 +133,12 @@ impl<const CAPACITY: usize> Numbers for FixedSizeSafelyOverflowingIndexQueue<CAP
     }
 }
 
-/// A number for each of those from 0 on: 0, and then those above 2^33, of which no two have the same low half.
+/// A number for each of those from 0 on: 0 for 0, and for the others numbers above 2^33, no two of which have the same low half.
 pub(crate) fn spread(value: u64) -> u64 {
     value.saturating_mul((1 << 33) + 1)
 }
 
-/// The queue, shared, in which the first of these numbers wait, so many of them.
+/// The queue in which the first `waiting` of these numbers wait, after it was shared.
 pub(crate) fn shared<Q: Numbers>(
     alloc: Global,
     queue: Result<Q, AllocError>,
@@ -151,7 +151,7 @@ pub(crate) fn shared<Q: Numbers>(
     queue.share(alloc).ok().ok_or(AllocError)
 }
 
-/// Both ends of a shared queue, where neither is held.
+/// Both ends of a shared queue, if neither is held.
 pub(crate) fn ends<Q: SharedQueue>(
     shared: &Shared<Q>,
 ) -> Option<(Producer<'_, Q>, Consumer<'_, Q>)> {

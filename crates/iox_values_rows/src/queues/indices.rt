@@ -1,4 +1,4 @@
-//! Sets of indices that threads share: each answer that they give, and guards in two threads.
+//! Index sets that threads share: each answer that they give, and guards in two threads.
 use crate::answers::{all, hold};
 use iox_index::{
     HeadDetails, ReleaseMode, SharedIndexSet, UniqueIndex, UniqueIndexSet,
@@ -11,7 +11,8 @@ use std::thread::Threads;
 
 const NONE_LEFT: UniqueIndexSetAcquireFailure = UniqueIndexSetAcquireFailure::OutOfIndices;
 
-/// A set of so many indices, shared, of which the first ones are held but for these, which were released in this order.
+/// A shared set of `capacity` indices, of which the first `held` are held, except for those of `released`, which were released in
+/// this order.
 pub(crate) fn shared(
     alloc: Global,
     capacity: usize,
@@ -30,7 +31,7 @@ pub(crate) fn shared(
     set.share(alloc).ok().ok_or(AllocError)
 }
 
-/// The number of an index that is taken and given back at once.
+/// The number of an index that is acquired and released at once.
 fn next(set: &SharedIndexSet) -> Result<usize, UniqueIndexSetAcquireFailure> {
     match set.acquire() {
         Ok(index) => Ok(index.value() as usize),
@@ -38,7 +39,7 @@ fn next(set: &SharedIndexSet) -> Result<usize, UniqueIndexSetAcquireFailure> {
     }
 }
 
-/// Whether a set hands out the index behind those that are held, if there is one, twice over.
+/// Whether a set hands out, twice, the index after those that are held, if there is one.
 fn hands_out(alloc: Global, capacity: usize, held: usize) -> Result<bool, AllocError> {
     let set = shared(alloc, capacity, held, &[])?;
     let wanted = if held < capacity {
@@ -49,7 +50,7 @@ fn hands_out(alloc: Global, capacity: usize, held: usize) -> Result<bool, AllocE
     Ok([next(&set), next(&set)] == [wanted; 2] && set.borrowed_indices() == held)
 }
 
-/// Whether sets of a size do of which none, half and all are held.
+/// Whether this is so for sets of a size of which no index, half of them and all of them are held.
 fn all_hand_out(alloc: Global, size: usize) -> Result<bool, AllocError> {
     all(&[
         hands_out(alloc, size, 0),
@@ -58,7 +59,8 @@ fn all_hand_out(alloc: Global, size: usize) -> Result<bool, AllocError> {
     ])
 }
 
-/// Takes each index of a set of so many, of which none is held, and gives all back; whether none was left then.
+/// Acquires every index of a set of `capacity`, of which none is held, and releases all of them. Answers whether no further index was
+/// left.
 fn takes_all(alloc: Global, set: &SharedIndexSet, capacity: usize) -> Result<bool, AllocError> {
     let mut held = Vec::new(alloc);
     for _ in 0..capacity {
@@ -70,14 +72,14 @@ fn takes_all(alloc: Global, set: &SharedIndexSet, capacity: usize) -> Result<boo
     Ok(next(set) == Err(NONE_LEFT) && set.borrowed_indices() == capacity)
 }
 
-/// The same twice over, of a new set, of which none is held then.
+/// Whether this is so twice for a new set, of which no index is held in the end.
 fn all_are_taken(alloc: Global, capacity: usize) -> Result<bool, AllocError> {
     let set = shared(alloc, capacity, 0, &[])?;
     let are_taken = takes_all(alloc, &set, capacity)? && takes_all(alloc, &set, capacity)?;
     Ok(are_taken && set.borrowed_indices() == 0)
 }
 
-/// Whether so many indices are held, after so many changes, and this one comes next.
+/// Whether this number of indices is held, after this number of changes, and `head` is the next free index.
 fn is_at(set: &SharedIndexSet, borrowed_indices: u32, aba: u16, head: u32) -> bool {
     set.head()
         == HeadDetails {
@@ -87,10 +89,10 @@ fn is_at(set: &SharedIndexSet, borrowed_indices: u32, aba: u16, head: u32) -> bo
         }
 }
 
-/// The word behind the last index that is free.
+/// The link of the last free index, which marks the end.
 const END: u32 = (1 << 24) - 1;
 
-/// Whether index 2 comes next each time, until the number of changes has gone round.
+/// Whether index 2 is the next one each time, until the count of changes has wrapped around.
 fn goes_round(set: &SharedIndexSet) -> bool {
     for _ in 0..1 << 15 {
         if next(set) != Ok(2) {
@@ -100,7 +102,8 @@ fn goes_round(set: &SharedIndexSet) -> bool {
     true
 }
 
-/// Whether a set of three is at 1 once its two last indices are given back, the second one last, after 2 came again and again.
+/// Whether 1 is the next free index of a set of three after 2 and then 1 were released, and 2 was handed out again and again in
+/// between.
 fn counts_what_comes_back(
     set: &SharedIndexSet,
     first: UniqueIndex<'_>,
@@ -113,8 +116,8 @@ fn counts_what_comes_back(
     refused && released && is_at(set, 1, 4, 1)
 }
 
-/// Whether a set of three, of which index 0 is held and 1, then 2 were released, counts each change, and no refusal; and hands out the
-/// last index released.
+/// Whether a set of three, of which index 0 is held and 1, then 2 were released, counts each change and no refusal, and hands out the
+/// index released last.
 fn counts_its_changes(set: &SharedIndexSet) -> bool {
     let before = is_at(set, 1, 0, 2);
     let Some((first, second)) = set.acquire().ok().zip(set.acquire().ok()) else {
@@ -129,13 +132,13 @@ fn changes(alloc: Global) -> Result<bool, AllocError> {
     Ok(counts_its_changes(&shared(alloc, 3, 3, &[1, 2])?))
 }
 
-/// How often a thread takes two indices.
+/// How often a thread acquires two indices.
 const ROUNDS: usize = 1_000;
 
-/// How often a thread looks whether the other one is as far, before it gives up.
+/// How often a thread checks whether the other one has come as far, before it gives up.
 const LOOKS: u32 = 1 << 30;
 
-/// The mark of an index in a word that says which of four are held; 0 where it is none of them.
+/// The bit of an index in a word that says which of four are held; 0 if it is none of them.
 fn mark(index: &UniqueIndex<'_>) -> u64 {
     match index.value() {
         0 => 1,
@@ -146,7 +149,7 @@ fn mark(index: &UniqueIndex<'_>) -> u64 {
     }
 }
 
-/// One of the four indices, which nobody held. It is marked as held from now on.
+/// One of the four indices, if nobody held it. It is marked as held from now on.
 fn take<'a>(set: &'a SharedIndexSet, held: &AtomicU64) -> Option<UniqueIndex<'a>> {
     let index = set.acquire().ok()?;
     let mark = mark(&index);
@@ -157,13 +160,13 @@ fn take<'a>(set: &'a SharedIndexSet, held: &AtomicU64) -> Option<UniqueIndex<'a>
     }
 }
 
-/// Gives an index back, which isn't marked any longer.
+/// Releases an index, after its mark was cleared.
 fn give(index: UniqueIndex<'_>, held: &AtomicU64) {
     held.fetch_and(!mark(&index), Ordering::SeqCst);
     drop(index);
 }
 
-/// Waits until the other thread holds its two indices of this round; it gives up after many looks.
+/// Waits until the other thread holds its two indices of this round; gives up after `LOOKS` checks.
 fn meets(other: &AtomicUsize, round: usize) -> bool {
     for _ in 0..LOOKS {
         if other.load(Ordering::SeqCst) >= round {
@@ -173,8 +176,8 @@ fn meets(other: &AtomicUsize, round: usize) -> bool {
     false
 }
 
-/// Takes two of four indices again and again, and holds them until the other thread holds its two as well; whether none came that is
-/// held, or that the set doesn't have.
+/// Acquires two of four indices again and again, and holds them until the other thread holds its two as well. Answers whether no
+/// index was handed out that is held, or that the set doesn't have.
 fn holds_two(
     set: &SharedIndexSet,
     held: &AtomicU64,
@@ -195,7 +198,7 @@ fn holds_two(
     true
 }
 
-/// Whether two threads hold two indices each at one time, all of them different, and give back what they take.
+/// Whether two threads hold two indices each at the same time, all of them different, and release what they acquire.
 fn all_come_back(rt: &impl Threads, set: &SharedIndexSet) -> bool {
     let held = AtomicU64::new(0);
     let first = AtomicUsize::new(0);

@@ -1,4 +1,4 @@
-//! Each shared call by one thread through each answer that it can give, at each size; and who may hold an end.
+//! Every answer that each shared call can give to one thread, at each size; and who may hold an end.
 use crate::answers::{all, hold};
 use crate::queues::ends::{Numbers, ends, shared, spread};
 use iox_queues::{
@@ -8,8 +8,8 @@ use iox_queues::{
 };
 use std::alloc::{AllocError, Global};
 
-/// Whether numbers from the first on, all rising from 0, are put in up to three beyond the room, each answered as it must be; and then
-/// those that stayed come out in their order, and no other.
+/// Whether rising numbers, from the first on up to three beyond the capacity, are put in, each with the right answer, and those that
+/// stayed are then taken in their order, and no others.
 fn goes_through<Q: Numbers>(
     producer: &mut Producer<'_, Q>,
     consumer: &mut Consumer<'_, Q>,
@@ -35,7 +35,7 @@ fn goes_through<Q: Numbers>(
     Q::take_next(consumer) == None
 }
 
-/// The same three times, so that its positions go round, where the numbers below the first wait at the beginning.
+/// Whether this is so three times, so that the positions wrap around. The numbers below `waiting` wait at the start.
 fn goes_round<Q: Numbers>(shared: &Shared<Q>, waiting: u64, room: u64) -> bool {
     match ends(shared) {
         Some((mut producer, mut consumer)) => {
@@ -48,7 +48,7 @@ fn goes_round<Q: Numbers>(shared: &Shared<Q>, waiting: u64, room: u64) -> bool {
     }
 }
 
-/// Whether a queue of this room does, with so many numbers that wait when it is shared.
+/// Whether this is so for a queue of this capacity, in which `waiting` numbers wait when it is shared.
 fn goes<Q: Numbers>(
     alloc: Global,
     queue: Result<Q, AllocError>,
@@ -59,7 +59,7 @@ fn goes<Q: Numbers>(
     Ok(goes_round(&shared, waiting as u64, room as u64))
 }
 
-/// Whether queues of each kind do, with so many numbers that wait.
+/// Whether this is so for queues of each kind, in which `waiting` numbers wait.
 fn go<const ROOM: usize>(alloc: Global, waiting: usize) -> Result<bool, AllocError> {
     all(&[
         goes(alloc, IndexQueue::new(alloc, ROOM), waiting, ROOM),
@@ -75,7 +75,7 @@ fn go<const ROOM: usize>(alloc: Global, waiting: usize) -> Result<bool, AllocErr
     ])
 }
 
-/// Whether a queue of values that are too wide is refused.
+/// Whether a queue of values that are too wide can't be shared.
 fn is_too_wide(alloc: Global) -> Result<bool, AllocError> {
     match Queue::<[u64; 17], 2>::new(alloc) {
         Ok(queue) => Ok(queue.share(alloc).is_err()),
@@ -83,7 +83,7 @@ fn is_too_wide(alloc: Global) -> Result<bool, AllocError> {
     }
 }
 
-/// Values of six words, of which the first is there from the beginning.
+/// Values of six words; the first is the one that the cell holds at the start.
 const VALUES: [[u64; 6]; 5] = [
     [0, 0, 7, 0, 0, 1 << 33],
     [0; 6],
@@ -92,7 +92,7 @@ const VALUES: [[u64; 6]; 5] = [
     [8, 0, 0, 1 << 32, 1 << 63, 0],
 ];
 
-/// Whether a shared value is each one that is stored, and before that the first.
+/// Whether a load returns the value that was stored last, and before any store the first one.
 fn is_last_stored(shared: &Shared<UnrestrictedAtomic<[u64; 6]>>) -> bool {
     let Some(mut producer) = shared.acquire_producer() else {
         return false;
@@ -115,7 +115,8 @@ fn stores(alloc: Global) -> Result<bool, AllocError> {
     }
 }
 
-/// Whether a consumer comes, then a producer, and a consumer again, each of which is let go at once.
+/// Whether the role of the consumer is free, then that of the producer, and that of the consumer again; each guard is dropped at
+/// once.
 fn come(shared: &Shared<IndexQueue>) -> [bool; 3] {
     let first = shared.acquire_consumer().is_some();
     let producer = shared.acquire_producer().is_some();
@@ -123,12 +124,12 @@ fn come(shared: &Shared<IndexQueue>) -> [bool; 3] {
     [first, producer, second]
 }
 
-/// Whether the role was handed out, and just these come beside it.
+/// Whether the role was taken, and the roles that are free meanwhile are just these.
 fn is_alone<R: Drop>(shared: &Shared<IndexQueue>, role: Option<R>, beside: [bool; 3]) -> bool {
     role.is_some() && come(shared) == beside
 }
 
-/// Whether each role is handed out once at a time, and again once it came back.
+/// Whether each role can be taken by one guard at a time, and again once the guard is dropped.
 fn roles_are_alone(shared: &Shared<IndexQueue>) -> bool {
     is_alone(shared, shared.acquire_producer(), [true, false, true])
         && is_alone(shared, shared.acquire_consumer(), [false, true, false])

@@ -1,5 +1,5 @@
-//! Ample memory is always enough, at each size; and no more room is taken than there is. Queues and sets that threads share are made
-//! at each size in `shared` and `indices`.
+//! Ample memory is always enough, at each size; and a capacity that no memory can hold is refused. Queues and sets that threads share
+//! are created at each size in `shared` and `indices`.
 use crate::answers::{Want, are_refused, find_memory};
 use crate::queues::indices;
 use iox_index::{
@@ -15,15 +15,15 @@ use iox_queues::{
 };
 use std::alloc::{AllocError, Global};
 
-/// More places than anyone fills: the most that a set has that threads share.
+/// More places than any test fills: the maximum number of indices of a set that threads share.
 const MANY: usize = (1 << 24) - 1;
 
-/// The want of what isn't done unless memory is found.
+/// An error, unless the call was done, which fails only if memory runs out.
 fn want_unless(done: bool) -> Want {
     if done { None } else { Some(AllocError) }
 }
 
-/// Adds as many members as there is room for, up to this number.
+/// Adds `len` members, as long as the members may change.
 fn add_members(container: &mut Container<u64>, len: usize) {
     let Ok(owner) = OwnerId::new(1) else {
         return;
@@ -35,7 +35,7 @@ fn add_members(container: &mut Container<u64>, len: usize) {
     }
 }
 
-/// The want of a container with so many members, or of the copy of it.
+/// The error of a container with `len` members, or of its copy.
 fn container(alloc: Global, capacity: usize, len: usize) -> Want {
     match Container::<u64>::new(alloc, 1, capacity) {
         Ok(mut container) => {
@@ -55,7 +55,7 @@ const POP: [Move; 6] = [
     Move::GoOn(Party::Consumer),
 ];
 
-/// The want of so many pops on a ring that is made.
+/// The error of a ring, or of `size` pops on it.
 fn ring(made: Result<RingMachine, AllocError>, size: usize) -> Want {
     let mut machine = match made {
         Ok(machine) => machine,
@@ -69,7 +69,7 @@ fn ring(made: Result<RingMachine, AllocError>, size: usize) -> Want {
     want_unless(machine.pops().len() == size)
 }
 
-/// The wants of rings in which as many numbers wait as there is room for.
+/// The errors of rings in which as many numbers wait as their capacity permits.
 fn rings(alloc: Global, waiting: &[u64]) -> [Want; 2] {
     let limit = waiting.len() as u64;
     if limit == 0 {
@@ -84,7 +84,7 @@ fn rings(alloc: Global, waiting: &[u64]) -> [Want; 2] {
     ]
 }
 
-/// The same of so many numbers.
+/// The errors of rings in which `size` numbers wait.
 fn rings_of(alloc: Global, size: usize) -> [Want; 2] {
     match vec![in alloc; 7u64; size] {
         Ok(waiting) => rings(alloc, waiting.as_slice()),
@@ -92,7 +92,7 @@ fn rings_of(alloc: Global, size: usize) -> [Want; 2] {
     }
 }
 
-/// The want of the calls of so many parties in a set of as many bits, each of which sets its own.
+/// The error of the calls of `size` parties in a set of as many bits; each party sets its own bit.
 fn bits(alloc: Global, size: usize) -> Want {
     let mut machine = match SetMachine::new(alloc, 1, size, size) {
         Ok(machine) => machine,
@@ -106,7 +106,8 @@ fn bits(alloc: Global, size: usize) -> Want {
     want_unless(machine.finished().len() == size)
 }
 
-/// The want of the calls of so many parties in a set of as many indices, each of which takes the first one in its turn, and gives it back.
+/// The error of the calls of `size` parties in a set of as many indices; one party after the other acquires the first index and
+/// releases it.
 fn turns(alloc: Global, size: usize) -> Want {
     if size > MANY {
         return Some(AllocError);
@@ -124,12 +125,12 @@ fn turns(alloc: Global, size: usize) -> Want {
     want_unless(machine.finished().len() / 2 == size)
 }
 
-/// A single value of so many words.
+/// A single value of `size` words.
 fn value(alloc: Global, size: usize) -> Result<AtomicMachine, AllocError> {
     AtomicMachine::new(alloc, vec![in alloc; vec![in alloc; 7u64; size]?]?, 1)
 }
 
-/// The want of a store and a load of so many words.
+/// The error of a store and a load of `size` words.
 fn words(alloc: Global, size: usize) -> Want {
     let mut machine = match value(alloc, size) {
         Ok(machine) => machine,
@@ -144,7 +145,7 @@ fn words(alloc: Global, size: usize) -> Want {
     want_unless(machine.finished().len() == 2)
 }
 
-/// The wants of what is made empty.
+/// The errors of what is created empty.
 fn empty(alloc: Global, size: usize) -> [Want; 6] {
     [
         BitSet::new(alloc, size).err(),
@@ -156,7 +157,7 @@ fn empty(alloc: Global, size: usize) -> [Want; 6] {
     ]
 }
 
-/// The wants of what is filled, or of calls on it.
+/// The errors of what is filled, or of calls on it.
 fn filled(alloc: Global, size: usize) -> [Want; 7] {
     let [refusing, overflowing] = rings_of(alloc, size);
     [
@@ -194,7 +195,7 @@ fn ample_memory_is_enough_at_each_size(rt: HostRuntime) -> Result<(), AllocError
     find_memory(wants.as_flattened())
 }
 
-/// The want of a set of so many indices that is shared while half of them are held, as they are in the shared form.
+/// The error of a set of this capacity that is shared while half of its indices are held, which must be held in the shared form, too.
 fn half_held<const SIZE: usize>(
     alloc: Global,
     made: Result<FixedSizeUniqueIndexSet<SIZE>, AllocError>,
@@ -213,7 +214,7 @@ fn half_held<const SIZE: usize>(
     }
 }
 
-/// The wants of sets of fixed size that are shared, also of half the capacity.
+/// The errors of sets of fixed size that are shared, also with half the capacity.
 fn fixed_index_sets<const SIZE: usize>(alloc: Global) -> [Want; 2] {
     let half = FixedSizeUniqueIndexSet::<SIZE>::new_with_reduced_capacity(alloc, SIZE / 2);
     [
@@ -222,7 +223,7 @@ fn fixed_index_sets<const SIZE: usize>(alloc: Global) -> [Want; 2] {
     ]
 }
 
-/// The want of a container of fixed size that is half full, or of its copy.
+/// The error of a container of fixed size that is half full, or of its copy.
 fn fixed_container<const SIZE: usize>(alloc: Global) -> Want {
     let made = FixedSizeContainer::<u64, SIZE>::new(alloc, 1);
     let (mut container, owner) = match (made, OwnerId::new(1)) {
@@ -237,7 +238,7 @@ fn fixed_container<const SIZE: usize>(alloc: Global) -> Want {
     container.get_state(alloc).err()
 }
 
-/// The wants of what is made of a fixed size.
+/// The errors of everything that is created with a fixed size.
 fn fixed<const SIZE: usize>(alloc: Global) -> [Want; 7] {
     let [index_set, reduced_index_set] = fixed_index_sets::<SIZE>(alloc);
     [
@@ -265,7 +266,7 @@ fn ample_memory_is_enough_at_each_fixed_size(rt: HostRuntime) -> Result<(), Allo
     find_memory(wants.as_flattened())
 }
 
-/// The wants of what nothing has room for. The positions of such a ring would go too far apart.
+/// The errors of what no memory can hold, and of a ring whose positions would go too far apart.
 fn too_much(alloc: Global) -> [Want; 6] {
     [
         RobustUniqueIndexSet::new(alloc, usize::MAX).err(),

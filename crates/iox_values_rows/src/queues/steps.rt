@@ -1,4 +1,4 @@
-//! Calls one access at a time: two schedules of a push and a pop that are known beforehand; and that calls end which are made one
+//! Calls one access at a time: two schedules of a push and a pop whose results are known; and that calls end if they are made one
 //! after the other.
 use crate::answers::hold;
 use iox_index::ReleaseMode;
@@ -15,19 +15,19 @@ const POP: Move = Move::Begin(Call::Pop);
 
 const POP_ON: Move = Move::GoOn(Party::Consumer);
 
-/// On an overflowing ring of one place, in which 1 waits, the pop takes the number before the push looks.
+/// On an overflowing ring of capacity 1, in which the number 1 waits, the pop takes the number before the push loads it.
 const TAKEN_BEFORE: [Move; 16] = [
     PUSH, PUSH_ON, PUSH_ON, PUSH_ON, PUSH_ON, POP, POP_ON, POP_ON, POP_ON, POP_ON, POP_ON, PUSH_ON,
     PUSH_ON, PUSH_ON, POP_ON, POP_ON,
 ];
 
-/// The push takes it before the pop exchanges.
+/// The push removes the number before the exchange of the pop.
 const TAKEN_BY_PUSH: [Move; 16] = [
     POP, POP_ON, POP_ON, POP_ON, PUSH, PUSH_ON, PUSH_ON, PUSH_ON, PUSH_ON, PUSH_ON, PUSH_ON,
     PUSH_ON, POP_ON, POP_ON, POP_ON, POP_ON,
 ];
 
-/// Whether the push is answered so.
+/// Whether the push has this result.
 fn is_answered(
     alloc: Global,
     schedule: &[Move; 16],
@@ -45,27 +45,27 @@ const UNMARKED: ReleaseMode = ReleaseMode::Default;
 
 const LOCKING: ReleaseMode = ReleaseMode::LockIfLastIndex;
 
-/// Calls on a set of two indices, each with its party. What doesn't fit does nothing.
+/// Calls on a set of two indices, each with its party. A call that isn't possible does nothing.
 const SET_CALLS: [(usize, robust::Call); 12] = [
     (0, robust::Call::Acquire(313)),
     (1, robust::Call::Acquire(7)),
     (0, robust::Call::Acquire(313)),
-    // Another index is out, so the set isn't locked.
+    // Another index is held, so the set isn't locked.
     (0, robust::Call::Release(313, 0, LOCKING)),
-    // The lowest free index comes.
+    // The lowest free index is handed out.
     (0, robust::Call::Acquire(313)),
-    // Nobody acts for an owner that is recovered.
+    // Nobody acts for an owner whose recovery began.
     (0, robust::Call::Recover(7, 0, LOCKING)),
     (1, robust::Call::Acquire(7)),
     (1, robust::Call::Acquire(9)),
     (1, robust::Call::Release(9, 1, UNMARKED)),
-    // The last index is given back, and the set locked.
+    // The last index is released, so the set is locked.
     (0, robust::Call::Release(313, 0, LOCKING)),
     (1, robust::Call::Acquire(9)),
     (1, robust::Call::Recover(5, 0, LOCKING)),
 ];
 
-// Whether all calls end on this set but the one that doesn't fit. None has more steps behind its begin.
+// Whether all calls on this set end, except the one that isn't possible. No call has more than 16 steps after its begin.
 fn calls_end(set: &mut RobustSetMachine) -> bool {
     for row in &SET_CALLS {
         let _ = set.step(robust::Move::Begin(row.0, row.1));
@@ -74,12 +74,12 @@ fn calls_end(set: &mut RobustSetMachine) -> bool {
     set.finished().len() == SET_CALLS.len() - 1
 }
 
-// Recoveries each take what their owner has at both places.
+// Each recovery selects both places.
 fn decisions(alloc: Global) -> Result<Vec<Vec<bool>>, AllocError> {
     Ok(vec![in alloc; vec![in alloc; true; 2]?]?)
 }
 
-// The same of a new set that knows its holders.
+// Whether this is so for a new set that knows the owner of each held index.
 fn set_calls_end(alloc: Global) -> Result<bool, AllocError> {
     Ok(calls_end(&mut RobustSetMachine::new(alloc, 2, 2, decisions(alloc)?)?))
 }
@@ -104,7 +104,7 @@ const MEMBER_CALLS: [(usize, MemberCall); 14] = [
     (1, UPDATE),
 ];
 
-// Whether all calls end on this container. None has more steps behind its begin.
+// Whether all calls on this container end. No call has more than 60 steps after its begin.
 fn changes_end(container: &mut ContainerMachine) -> bool {
     for row in &MEMBER_CALLS {
         let _ = container.step(MemberMove::Begin(row.0, row.1));
@@ -113,7 +113,7 @@ fn changes_end(container: &mut ContainerMachine) -> bool {
     container.finished().len() == MEMBER_CALLS.len()
 }
 
-// The same of a container for three parties, to which two values of two words may be added.
+// Whether this is so for a container with three parties, to which two values of two words may be added.
 fn member_calls_end(alloc: Global) -> Result<bool, AllocError> {
     let values = vec![in alloc; vec![in alloc; 1; 2]?, vec![in alloc; 2; 2]?]?;
     Ok(changes_end(&mut ContainerMachine::new(alloc, 2, 3, values, decisions(alloc)?)?))

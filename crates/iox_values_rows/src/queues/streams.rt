@@ -1,4 +1,4 @@
-//! 100,000 numbers through two threads.
+//! 100,000 numbers that pass from one thread to another.
 use crate::answers::hold;
 use crate::queues::ends::{Numbers, ends, shared, wide};
 use iox_queues::{
@@ -12,7 +12,7 @@ use std::thread::Threads;
 
 const COUNT: u64 = 100_000;
 
-// Numbers that rise: how many, and their sum.
+// A list of numbers: whether it rises, how many there are, and their sum.
 #[derive(Clone, Copy)]
 struct Rising {
     rises: bool,
@@ -36,7 +36,7 @@ impl Rising {
         self.sum = self.sum.saturating_add(value);
     }
 
-    // This one and the other saw all numbers together: each list rises, so none came twice in one.
+    // Whether both lists together have all numbers: each list rises, so no number is twice in one.
     fn is_all_with(&self, other: &Rising) -> bool {
         self.rises
             && other.rises
@@ -45,7 +45,7 @@ impl Rising {
     }
 }
 
-// Puts all numbers in, each again and again until it isn't refused. The answer is what was handed out for them.
+// Puts all numbers in, and repeats a put that is refused. The answer has the numbers that puts returned.
 fn put_all<Q: Numbers>(producer: &mut Producer<'_, Q>) -> Rising {
     let mut out = NONE;
     let mut next = 0u64;
@@ -65,7 +65,7 @@ fn put_all<Q: Numbers>(producer: &mut Producer<'_, Q>) -> Rising {
     out
 }
 
-// Takes numbers until the last one came, which is never handed out.
+// Takes numbers until the last one, which no put returns.
 fn take_all<Q: Numbers>(consumer: &mut Consumer<'_, Q>) -> Rising {
     let mut got = NONE;
     for _ in 0..1_000_000_000u64 {
@@ -80,7 +80,7 @@ fn take_all<Q: Numbers>(consumer: &mut Consumer<'_, Q>) -> Rising {
     got
 }
 
-// Whether each number came out at one of both ends, where it was taken in order.
+// Whether each number came out at one of the two ends, and each end returned its numbers in order.
 fn none_is_lost<Q: Numbers + Send>(rt: &impl Threads, shared: &Shared<Q>) -> bool {
     let Some((mut producer, mut consumer)) = ends(shared) else {
         return false;
@@ -97,7 +97,7 @@ fn goes<Q: Numbers + Send>(
     Ok(none_is_lost(rt, &shared(alloc, queue, 0)?))
 }
 
-// Stores a value of each number.
+// Stores one value for each number.
 fn store_all(producer: &mut Producer<'_, UnrestrictedAtomic<u128>>) -> bool {
     for number in 0..COUNT {
         if let Some(value) = wide(number) {
@@ -107,7 +107,7 @@ fn store_all(producer: &mut Producer<'_, UnrestrictedAtomic<u128>>) -> bool {
     true
 }
 
-// Each load is whole and never older than the one before, up to the last.
+// Whether each load is whole and never older than the one before, up to the last value.
 fn load_all(shared: &Shared<UnrestrictedAtomic<u128>>) -> bool {
     let mut seen = 0u64;
     for _ in 0..1_000_000_000u64 {
@@ -125,7 +125,7 @@ fn load_all(shared: &Shared<UnrestrictedAtomic<u128>>) -> bool {
     false
 }
 
-// Whether all were stored, and each load was whole.
+// Whether all values were stored, and each load was whole.
 fn is_loaded_whole(rt: &impl Threads, shared: &Shared<UnrestrictedAtomic<u128>>) -> bool {
     let Some(mut producer) = shared.acquire_producer() else {
         return false;

@@ -9,22 +9,22 @@ use iox_queues_steps::Stepped;
 use std::alloc::{AllocError, Global};
 use std::str::SplitWhitespace;
 
-// No call of a case has so many steps.
+// No call of a case has this many steps.
 const MOST: u64 = 100_000;
 
 // What each word of a user header is, where a line names none.
 const USER_HEADER: u64 = 6;
 
-/// What a line of a party came to.
+/// The outcome of a line that names a party.
 #[derive(Clone, Copy)]
 pub(crate) enum CameTo {
-    /// A step that is none, or not the last of its call.
+    /// A step that was skipped, or that isn't the last one of its call.
     Step(Stepped),
-    /// The end of a call, or of none: the call that ended last has the answer.
+    /// The end of a call. The answer is that of the call that ended last, if any did.
     End,
-    /// A read, whose words begin at this place.
+    /// The end of a read, whose words begin at this place.
     Words(usize),
-    /// Nothing, since the line isn't understood.
+    /// Nothing, because the line isn't understood.
     Nothing,
 }
 
@@ -44,7 +44,7 @@ fn ended(lanes: &LaneMachine) -> Said<'_> {
     }
 }
 
-/// What is said where a line came to this.
+/// The answer to a line with this outcome.
 pub(crate) fn said(lanes: &LaneMachine, came_to: CameTo) -> Said<'_> {
     match came_to {
         CameTo::Step(stepped) => Said::Stepped(stepped),
@@ -66,7 +66,7 @@ fn step(lanes: &mut LaneMachine, party: Party, next: Move) -> Stepped {
     lanes.step(party, &next)
 }
 
-// Makes so many steps at most of the call that a party is in; what the last one came to.
+// Makes this many steps at most of the call that a party is in; what the last one came to.
 fn goes_on(lanes: &mut LaneMachine, party: Party, steps: u64) -> Stepped {
     for _ in 0..steps {
         let stepped = step(lanes, party, Move::GoOn);
@@ -77,7 +77,7 @@ fn goes_on(lanes: &mut LaneMachine, party: Party, steps: u64) -> Stepped {
     Stepped::Went
 }
 
-// Makes a call of so many steps at most, its begin among them; what its last one came to.
+// Makes a call of this many steps at most, its begin among them; what its last one came to.
 fn called(lanes: &mut LaneMachine, party: Party, call: Call, steps: u64) -> Stepped {
     match step(lanes, party, Move::Begin(call)) {
         Stepped::Went => goes_on(lanes, party, steps.saturating_sub(1)),
@@ -90,7 +90,7 @@ fn ends(lanes: &mut LaneMachine, party: Party, call: Call) -> bool {
     called(lanes, party, call, MOST) == Stepped::Finished
 }
 
-// So many words of this value.
+// This many words of this value.
 fn filled(alloc: Global, value: u64, count: u64) -> Result<Vec<u64>, AllocError> {
     let mut words = Vec::new(alloc);
     for _ in 0..count {
@@ -110,7 +110,7 @@ fn filling(alloc: Global, lanes: &LaneMachine, loan: u64, value: u64) -> Result<
     })
 }
 
-// So many numbers of a line, or as many as it has left.
+// This many numbers of a line, or as many as it has left.
 fn numbers(
     alloc: Global,
     words: &mut SplitWhitespace<'_>,
@@ -126,7 +126,7 @@ fn numbers(
     Ok(numbers)
 }
 
-// The call that writes the words that a line names: so many of the user header first, and the payload behind them.
+// The call that writes the words that a line names: this many of the user header first, and the payload after them.
 fn write(alloc: Global, words: &mut SplitWhitespace<'_>) -> Result<Call, AllocError> {
     let loan = number(words);
     let count = number(words);
@@ -178,7 +178,7 @@ fn given(lanes: &mut LaneMachine, party: Party, call: Call) -> Option<u64> {
     }
 }
 
-// Lends, writes this value and sends; whether it came to the end of the send.
+// Loans, writes this value and sends; whether it came to the end of the send.
 fn put(
     alloc: Global,
     lanes: &mut LaneMachine,
@@ -242,7 +242,7 @@ fn repeated(
     })
 }
 
-// What so many of a verb come to.
+// What this many of a verb come to.
 fn counted(
     alloc: Global,
     lanes: &mut LaneMachine,
@@ -264,7 +264,7 @@ fn counted(
     }
 }
 
-// A call, of so many steps at most if that is named; else so many of a verb.
+// A call, of this many steps at most if that is named; else this many of a verb.
 fn within(
     alloc: Global,
     lanes: &mut LaneMachine,
@@ -279,7 +279,7 @@ fn within(
     }
 }
 
-/// What a line of a party comes to.
+/// Carries out a line that names a party, and returns its outcome.
 pub(crate) fn answer(
     alloc: Global,
     lanes: &mut LaneMachine,

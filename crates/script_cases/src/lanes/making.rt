@@ -29,7 +29,7 @@ fn sizes(line: &str) -> LaneSizes {
     }
 }
 
-/// Lanes of the sizes that a line names; none where no message could wait.
+/// Lanes of the sizes that a line names; None if no message could wait.
 pub(crate) fn lanes(alloc: Global, line: &str) -> Result<Option<LaneMachine>, AllocError> {
     let sizes = sizes(line);
     if sizes.buffer == 0 {

@@ -1,7 +1,7 @@
 //! How a line names a port.
 use iox_lanes_parties::Party;
 
-// The place behind a letter.
+// The place after a letter.
 fn place(word: &str, letter: char) -> Option<usize> {
     word.strip_prefix(letter)?.parse::<usize>().ok()
 }

@@ -94,7 +94,7 @@ fn find<'a>(
     }
 }
 
-// The first so many slots wait at the first connection; how many of them were taken in.
+// The first `count` slots wait at the first connection; how many of them were taken in.
 fn find_first<'a>(lanes: &mut LaneMachine, count: u64) -> Result<Said<'a>, AllocError> {
     for slot in 0..count {
         if !lanes.find(Found::Waiting {
@@ -165,7 +165,7 @@ fn called<'a>(
     Ok(calling::said(lanes, came_to))
 }
 
-/// What a line of lanes answers.
+/// The answer to a line about the state of lanes.
 pub(crate) fn answer<'a>(
     alloc: Global,
     lanes: &'a mut LaneMachine,

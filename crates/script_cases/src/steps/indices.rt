@@ -41,7 +41,7 @@ pub(crate) fn left(state: ReleaseState) -> Said<'static> {
     }
 }
 
-// `release 5 0 lock` gives index 5 back, and locks the set if it is the last that is out.
+// `release 5 0 lock` releases index 5, and locks the set if it is the last that is out.
 fn call(asked: Asked<'_>) -> Option<Call> {
     match asked.verb {
         "acquire" => Some(Call::Acquire),

@@ -6,7 +6,7 @@ use std::alloc::{AllocError, Global};
 // How many values there are; the number of one is the digit of its words.
 const VALUES: u64 = 10;
 
-// The value of a digit, in so many words: its first word is the digit, and each further one ten times the one before it.
+// The value of a digit, in this many words: its first word is the digit, and each further one ten times the one before it.
 fn value(alloc: Global, digit: u64, words: u64) -> Result<Vec<u64>, AllocError> {
     let mut value = Vec::new(alloc);
     let mut word = digit;
@@ -17,7 +17,7 @@ fn value(alloc: Global, digit: u64, words: u64) -> Result<Vec<u64>, AllocError> 
     Ok(value)
 }
 
-/// A value of each digit. So the digits of the sum of its words are those of the values that these are of.
+/// A value for each digit. The digits of the sum of some words show which values these words belong to.
 pub(crate) fn values(alloc: Global, words: u64) -> Result<Vec<Vec<u64>>, AllocError> {
     let mut values = Vec::new(alloc);
     for digit in 0..VALUES {
@@ -34,7 +34,7 @@ fn loaded_by(event: &Event, from: u64) -> u64 {
     }
 }
 
-/// The sum of what a party loaded of the cells from this one on, from its step of this number on.
+/// The sum of the words that a party loaded, from this cell on and from the step with this number on.
 pub(crate) fn loaded(events: &[Event], party: usize, first: u64, from: u64) -> u64 {
     let mut sum = 0u64;
     for event in events.get(first as usize..).unwrap_or(&[]) {

@@ -14,7 +14,7 @@ use iox_robust_steps::container::{
 };
 use std::alloc::{AllocError, Global};
 
-// Whether a container of so many places with values of so many words has cells below the end of their numbers.
+// Whether a container of this many places with values of this many words has cells below the end of their numbers.
 fn has_cells(capacity: usize, width: usize) -> bool
     ensures { result ≡ true → capacity + (capacity * width + 1) < 2 ^ 62 }
 {
@@ -64,7 +64,7 @@ fn call(asked: Asked<'_>) -> Option<MemberCall> {
     }
 }
 
-// A copy is told by what it found of all values, with what it found where it had to look anew.
+// The answer of a call. That of a copy is what it found of all values, with what it found where it had to look anew.
 fn told(container: &ContainerMachine, call: &MemberFinished) -> Said<'static> {
     match call.answer {
         MemberAnswer::Added(Ok(index)) => Said::Number(index),

@@ -15,7 +15,7 @@ pub(crate) fn ring(alloc: Global, line: &str) -> Result<RingMachine, AllocError>
     }
 }
 
-// No case counts so many moments that there is no next one.
+// No case counts so far that there is no next moment.
 fn stepped(ring: &mut RingMachine, step: Move) -> Stepped {
     if ring.moments() < 1 << 63 {
         ring.step(step)

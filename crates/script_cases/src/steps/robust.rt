@@ -16,8 +16,8 @@ fn multiples(alloc: Global, capacity: u64, number: u64) -> Result<Vec<bool>, All
     Ok(are_freed)
 }
 
-/// What recoveries decide: by list 0 each index is freed, by list 1 each that 2 divides, and by list 2 each that 3 divides. There are no
-/// others, and by those none is.
+/// Which indices recoveries free, by the number of the list: 0, all; 1, the even ones; 2, those that 3 divides. By any other number none is
+/// freed.
 pub(crate) fn decisions(alloc: Global, capacity: u64) -> Result<Vec<Vec<bool>>, AllocError> {
     let mut decisions = Vec::new(alloc);
     for number in 1..4 {
@@ -37,7 +37,7 @@ pub(crate) fn set(alloc: Global, line: &str) -> Result<RobustSetMachine, AllocEr
     RobustSetMachine::new(alloc, capacity as usize, parties, decisions)
 }
 
-// `release 7 5 lock` gives index 5 of owner 7 back, `recover 7 1` those of owner 7 that list 1 says.
+// `release 7 5 lock` releases index 5 of owner 7, `recover 7 1` those of owner 7 that list 1 says.
 fn call(asked: Asked<'_>) -> Option<Call> {
     let owner = asked.first;
     match asked.verb {

@@ -1,4 +1,4 @@
-//! A storage that gives the answers of a line, whatever lies in it.
+//! A storage that gives the answers of a line, and stores nothing.
 use iox_describe::ServiceHash;
 use iox_negotiate_base::{
     LeaveAnswer, LockAnswer, LookAnswer, MakeSegmentAnswer, OpenSegmentAnswer, PublishAnswer,
@@ -10,10 +10,10 @@ use std::str::SplitWhitespace;
 /// The number of each service that is found or locked.
 const NUMBER: u64 = 1;
 
-/// Its number where `TakenLast` or `FoundLast` is answered.
+/// The number of a service for the answers `TakenLast` and `FoundLast`.
 const LAST: u64 = u64::MAX;
 
-// What the words of a line answer to each access.
+// What the words of a line answer to each storage operation.
 const LOCKS: [(&str, LockAnswer); 7] = [
     ("Taken", LockAnswer::Taken(NUMBER)),
     ("TakenLast", LockAnswer::Taken(LAST)),
@@ -56,8 +56,8 @@ const REMOVALS: [(&str, RemoveAnswer); 2] = [
     ("Fault", RemoveAnswer::Fault),
 ];
 
-/// Gives the answers of a line, one an access. An access that has no answer left, or not one of its own, has failed, and is
-/// counted as amiss; so is one by another number than that of the service that was found or locked last.
+/// Gives the answers of a line, one for each storage operation. An operation fails, and is counted as amiss, if no answer is left, if the
+/// answer is one of another kind of operation, or if its number isn't that of the service that was found or locked last.
 #[derive(Drop)]
 pub(crate) struct Answering<'a> {
     alloc: Global,
@@ -72,7 +72,7 @@ pub(crate) struct Answering<'a> {
 }
 
 impl<'a> Answering<'a> {
-    /// Gives these answers. `line` and `other` are found as the service's line, and as that of another.
+    /// A storage that gives these answers. Lookups find `line` as the service's line, and `other` as the line of another service.
     pub(crate) fn new(alloc: Global, answers: &'a str, line: &'a [u8], other: &'a [u8]) -> Self {
         Answering {
             alloc,
@@ -91,12 +91,12 @@ impl<'a> Answering<'a> {
         self.published
     }
 
-    /// Whether a close is to follow.
+    /// Whether the line asks for a close after the call.
     pub(crate) fn closes(&mut self) -> bool {
         self.answers.next().unwrap_or("") == "close"
     }
 
-    /// How many accesses there were, and how many answers were amiss; those that are left count as one.
+    /// How many storage operations there were, and how many answers were amiss. All answers that are left over count as one.
     pub(crate) fn counts(&mut self) -> (u64, u64) {
         if self.answers.next().is_some() {
             self.count_amiss();
@@ -216,9 +216,14 @@ impl Storage for Answering<'_> {
         self.chosen(&MADE_SEGMENTS, MakeSegmentAnswer::Fault)
     }
 
-    fn publish(&mut self, _hash: &ServiceHash, number: u64, bytes: &[u8]) -> PublishAnswer {
+    fn publish(
+        &mut self,
+        _hash: &ServiceHash,
+        number: u64,
+        bytes: StoredDescription,
+    ) -> PublishAnswer {
         self.expect(number);
-        self.keep(bytes);
+        self.keep(bytes.as_bytes());
         self.chosen(&PUBLISHES, PublishAnswer::Fault)
     }
 

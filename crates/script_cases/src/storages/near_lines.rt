@@ -1,4 +1,4 @@
-//! What lies near the line of a service: its parts, and lines with another byte or a space more.
+//! Texts that are nearly the line of a service: its parts, and lines with one byte changed or a space inserted.
 use super::answering::Answering;
 use super::{NAME, called, published_line};
 use iox_describe::{ServiceHash, decode, encode_v1};

@@ -1,14 +1,14 @@
-//! What may lie under the hash of a service in place of its line.
+//! What may be stored under the hash of a service instead of its line.
 use super::{NAME, published_line};
 use std::alloc::{AllocError, Global};
 
-// No description has so many bytes.
+// No description has this many bytes.
 const TOO_LONG: usize = 32_769;
 
 // What stands before a line's hash.
 const KEY: &str = "\"service_hash\":\"";
 
-// What stands before the hash of a line, the hash, and what stands behind it.
+// What stands before the hash of a line, the hash, and what stands after it.
 fn at_hash(line: &[u8]) -> Option<(&str, &str, &str)> {
     let (before, rest) = str::from_utf8(line).ok()?.split_once(KEY)?;
     let (hash, behind) = rest.split_once('"')?;
@@ -43,9 +43,9 @@ fn types_beside(pattern: &str, answers: &str) -> &'static str {
     }
 }
 
-/// What is found where a line says so. `FoundOther` is the line of another service. Under the hash of the service `FoundName` has another
-/// name, `FoundPattern` another pattern; `FoundTypes`, `FoundAligned`, `FoundRequests` and `FoundResponses` have other types, and
-/// `FoundLong` has no description.
+/// What a lookup finds, by the answer that a line names. `FoundOther` is the line of another service. All others have the hash of the
+/// service: `FoundName` has another name, `FoundPattern` another pattern; `FoundTypes`, `FoundAligned`, `FoundRequests` and
+/// `FoundResponses` have other types; and `FoundLong` has no description.
 pub(crate) fn other_line(
     alloc: Global,
     pattern: &str,

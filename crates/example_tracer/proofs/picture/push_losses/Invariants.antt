@@ -6,7 +6,7 @@ use Rattle.example_tracer.specs.Picture.{across}
 use Rattle.example_tracer.specs.Trace.{sent_at, is_lost}
 use Rattle.example_tracer.proofs.picture.push_losses.Given as goal
 
--- behind what was there, a stroke for each of the lines so far that is lost
+-- after what was there, a stroke for each of the lines so far that is lost
 abbrev pub invariant-loop-line : goal.invariant-loop-line
 invariant-loop-line l =
     ways_in l.shapes.items ≡ ways_in l.fn.shapes.items

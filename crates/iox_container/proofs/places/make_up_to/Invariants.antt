@@ -1,7 +1,7 @@
 use Rattle.std.proofs.Common.{◌≡◌, ◌+◌, ◌-◌, ◌≤◌, ◌++◌, length, None, replicate, vec_capacity}
 use Rattle.iox_container.proofs.places.make_up_to.Given as goal
 
--- so many empty cells came behind those that there were
+-- this number of empty cells was added after the existing ones
 abbrev pub invariant-loop-cells : goal.invariant-loop-cells
 invariant-loop-cells g l =
     (l.cells.items ≡ l.fn.cells.items ++ replicate (length l.cells.items - length l.fn.cells.items) None)

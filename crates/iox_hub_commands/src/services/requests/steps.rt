@@ -1,4 +1,4 @@
-//! The actions of other nodes before each access.
+//! The actions of other nodes before each storage operation.
 ghost use Rattle.std.specs.Prelude.{◌≡◌, ℕ, [], map, min, IfOk, IsOk};
 ghost use Rattle.std.specs.List.{AllByRecursion};
 ghost use Rattle.iox_hub_commands.specs.Steps.{PublishesInForm, step_of, list_of, list_before, last_access, acts_first, lists_of};
@@ -9,7 +9,7 @@ use iox_describe_base::{MessageTypeDetails, ServiceName};
 use iox_negotiate_table::{ForeignStep, StepList};
 use std::alloc::{AllocError, Global};
 
-/// The maximum number of lists of actions of a call: no call makes more accesses before which other nodes act.
+/// The maximum number of lists of actions of a call: no call makes more storage operations before which other nodes act.
 pub const MOST_LISTS: u64 = 16;
 
 /// The actions on the service of a name, in their order; what they publish has the form of a description.
@@ -32,7 +32,8 @@ pub fn step_list(
     Ok(StepList::new(list))
 }
 
-/// The actions before each access, up to the last that has any, and at most the sixteenth; what they publish has the form of a description.
+/// The actions of other nodes before each storage operation, up to the last operation that has any, but at most the sixteenth. What the
+/// actions publish has the form of a description.
 ///
 /// Refused only if an allocation fails; without actions no memory is taken.
 pub fn step_lists(
@@ -56,7 +57,7 @@ pub fn step_lists(
     Ok(lists)
 }
 
-// The actions before one access.
+// The actions before one storage operation.
 fn list_before(
     alloc: Global,
     access: u64,
@@ -76,7 +77,7 @@ fn list_before(
     Ok(StepList::new(list))
 }
 
-// The last access before which there are actions; 0 if there are none.
+// The last storage operation before which there are actions; 0 if there are none.
 fn last_access(steps: &[StepBefore]) -> u64
     ensures { result ≡ last_access steps.now }
 {
@@ -89,7 +90,7 @@ fn last_access(steps: &[StepBefore]) -> u64
     last
 }
 
-/// Whether an action is named before the first access.
+/// Whether an action is named before the first storage operation.
 /// Example: `let is_first = acts_first(&steps);`
 pub fn acts_first(steps: &[StepBefore]) -> bool
     ensures { result ≡ acts_first steps.now }

@@ -3,7 +3,7 @@ use Rattle.std.specs.List.{range_with_len}
 use Rattle.std.specs.Vec.{vec_capacity}
 use Rattle.iox_container.proofs.unique.UniqueIndexSet.new.Given as goal
 
--- so many indices are in, counted down from the highest
+-- n indices are in, counted down from the highest
 abbrev pub invariant-loop-count : goal.invariant-loop-count
 invariant-loop-count l =
     (reverse l.free.items ≡ range_with_len (l.fn.capacity - l.count) l.count)

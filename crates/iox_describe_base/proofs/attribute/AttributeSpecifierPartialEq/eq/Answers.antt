@@ -1,4 +1,4 @@
--- The test tells whether the lists of pairs are one.
+-- The test reports whether the two lists of pairs are equal.
 use Rattle.std.proofs.Common.{sym, ◌≡◌, ◌∙◌}
 use Rattle.iox_describe_base.specs.SameAttributes.{same_attributes, same_attributes_decides}
 use Rattle.iox_describe_base.proofs.attribute.AttributeSpecifierPartialEq.eq.Goals as goal

@@ -1,4 +1,4 @@
--- The test tells whether they are one.
+-- The test reports whether the two descriptions are equal.
 use Rattle.std.proofs.Common.{sym, ◌∙◌}
 use Rattle.iox_describe_settings.specs.SameAgreement.{same_agreement_decides}
 use Rattle.iox_describe_settings.proofs.description.DescriptionPartialEq.eq.Goals as goal

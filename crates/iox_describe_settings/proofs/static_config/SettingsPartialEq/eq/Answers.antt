@@ -1,4 +1,4 @@
--- The test tells whether they are one.
+-- The test reports whether the two settings are equal.
 use Rattle.std.proofs.Common.{sym, ◌∙◌}
 use Rattle.iox_describe_settings.specs.SameAgreement.{same_settings_decides}
 use Rattle.iox_describe_settings.proofs.static_config.SettingsPartialEq.eq.Goals as goal

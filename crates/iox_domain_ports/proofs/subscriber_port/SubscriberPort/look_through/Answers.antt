@@ -4,7 +4,7 @@ use Rattle.iox_domain_ports.proofs.Asking.{looked_none, looked_on, looked_past}
 use Rattle.iox_domain_ports.proofs.First.{none_first}
 use Rattle.iox_domain_ports.proofs.Unmet.{no_data_left, none_gives_left, one_of_all}
 use Rattle.iox_domain_ports.proofs.subscriber_port.SubscriberPort.look_through.Goals as goal
-use Rattle.iox_domain_ports.proofs.subscriber_port.SubscriberPort.look_through.Goals.{then-not-is_flagged+else-asked, else-not-is_flagged}
+use Rattle.iox_domain_ports.proofs.subscriber_port.SubscriberPort.look_through.Goals.{then-not-has+else-asked, else-not-has}
 
 pub loop-key-init : goal.loop-key-init
 loop-key-init g c = record {
@@ -14,14 +14,14 @@ loop-key-init g c = record {
 
 pub loop-key-preserved : goal.loop-key-preserved
 loop-key-preserved g c = record {
-  looked = elim c.if-not-is_flagged.branch [
-    | then-not-is_flagged+else-asked w ↦
-        looked_on c.args.self.now c.args.publishers.now c.args.met.count c.loop-key.key c.loop-key.unread c.if-not-is_flagged.unread
+  looked = elim c.if-not-has.branch [
+    | then-not-has+else-asked w ↦
+        looked_on c.args.self.now c.args.publishers.now c.args.met.count c.loop-key.key c.loop-key.unread c.if-not-has.unread
         w.asked-asked.result.gives w.asked-asked.result.data c.loop-key.invariant.looked w.asked-asked.ensures.gives w.if-asked.false
         w.asked-asked.ensures.data (w.unread-is ∙ w.first_of-unread.ensures)
-    | else-not-is_flagged w ↦
-        looked_past c.args.self.now c.args.publishers.now c.args.met.count c.loop-key.key c.loop-key.unread c.if-not-is_flagged.unread
-        c.loop-key.invariant.looked c.requires.met c.requires.all (c.is_flagged.ensures (search (rules, w.if-not-is_flagged.false)))
+    | else-not-has w ↦
+        looked_past c.args.self.now c.args.publishers.now c.args.met.count c.loop-key.key c.loop-key.unread c.if-not-has.unread
+        c.loop-key.invariant.looked c.requires.met c.requires.all (c.has.ensures.there (search (rules, w.if-not-has.false)))
         w.unread-is
   ];
   unmet = c.unmet_behind-unmet.ensures;

@@ -2,8 +2,9 @@ use Rattle.std.proofs.Common.{arith, ◌≡◌, ◌++◌, ◌∷◌, [], ◌∙�
 use Rattle.std.proofs.Math.ListN.{set}
 use Rattle.std.proofs.lemmas.List.{length-set}
 use Rattle.iox_container.specs.Unique.{is_among}
-use Rattle.iox_domain_slots.specs.Borrowed.{IsNear, slots_in}
-use Rattle.iox_domain_slots.proofs.Borrowing.{near_made, near_pushed, once_made, once_pushed, slots_made, slots_pushed}
+use Rattle.iox_domain_slots.specs.Borrowed.{IsNear, IsNearBelow, slots_in}
+use Rattle.iox_domain_slots.proofs.Borrowing.{near_made, near_pushed, below_made, below_pushed, once_made, once_pushed}
+use Rattle.iox_domain_slots.proofs.Borrowing.{slots_made, slots_pushed}
 use Rattle.iox_domain_slots.proofs.borrowed.Borrowed.push.Goals as goal
 
 pub invariant_of-self : goal.invariant_of-self
@@ -16,7 +17,9 @@ invariant_of-self c =
     let free : is_among c.cell_of-cell.result b.order.items ≡ false
     = ap (λ cell. is_among cell b.order.items) c.cell_of-cell.ensures.value ∙ c.free_step-step.ensures.free in
     let near : IsNear b.cells made.items b.order.items b.reach
-    = near_made b.cells b.slots.items made.items b.order.items b.reach same c.self.invariant.3 in (
+    = near_made b.cells b.slots.items made.items b.order.items b.reach same c.self.invariant.3 in
+    let below : IsNearBelow b.cells made.items b.order.items b.furthest b.examined
+    = below_made b.cells b.slots.items made.items b.order.items b.furthest b.examined same c.self.invariant.9 in (
       omega (arith, long, c.push.ensures.made, ap (λ o. o.made) c.make_up_to.ensures.order),
       c.self.invariant.1,
       c.further-reach.ensures.within,
@@ -31,6 +34,10 @@ invariant_of-self c =
       c.push.ensures.room ∙ ap (λ o. o.room) c.make_up_to.ensures.order ∙ c.self.invariant.5,
       c.make_up_to.ensures.memory,
       omega (arith, long, c.make_up_to.ensures.most),
+      c.further-furthest.ensures.within,
+      rw (c.push.ensures.items, order) (below_pushed b.cells made.items b.order.items b.furthest b.examined c.further-furthest.result
+          c.free_step-step.result c.cell_of-cell.result c.args.slot below free c.make_up_to.ensures.within c.cell_of-cell.ensures.value
+          c.further-furthest.ensures.now c.further-furthest.ensures.before),
     )
 
 pub returns : goal.returns

@@ -1,11 +1,12 @@
+use Rattle.std.proofs.Common.{arith, length, ap}
 use Rattle.iox_hub_base.specs.Room.{samples_left_in, samples_at_most_in}
 use Rattle.iox_hub_commands.proofs.PortRooms.{few_samples, more_pledges, anew_pledges}
 use Rattle.iox_hub_commands.proofs.numbered_hub.NumberedHub.pledge_samples.Goals as goal
 
 pub returns-in-Some-clause-room : goal.returns-in-Some-clause-room
-returns-in-Some-clause-room g c = λ room. more_pledges c.args.self.now.made.samples
-    (samples_left_in c.args.self.now.hub.services.domains) c.args.more c.args.self.now.pledged.samples c.in-Some.pledged
-    c.in-Some.ensures.0 c.in-Some.ensures.1 room.0
+returns-in-Some-clause-room g c = λ room. let same = ap length c.in-Some.ensures.same.0 in
+    more_pledges c.pledged_more.new.numbers (samples_left_in c.args.self.now.hub.services.domains) c.args.more
+    c.args.self.now.pledged.samples c.in-Some.pledged c.in-Some.ensures.some.0 c.in-Some.ensures.some.1 (omega (arith, same, room.0))
 
 pub returns-clause-room : goal.returns-clause-room
 returns-clause-room g c = λ room.

@@ -1,9 +1,16 @@
 use Rattle.std.proofs.Common.{◌∙◌, ap, sym, refl}
 use Rattle.iox_hub_commands.specs.Naming.{publisher_config}
 use Rattle.iox_hub_commands.proofs.Coming.{publisher_in_room}
-use Rattle.iox_hub_commands.proofs.PortRooms.{publisher_room}
+use Rattle.iox_hub_commands.proofs.PortRooms.{publisher_room, keeps_nowhere}
 use Rattle.iox_hub_commands.proofs.Rooms.{when_ok}
 use Rattle.iox_hub_commands.proofs.numbered_hub.NumberedHub.publisher_with.Goals as goal
+
+pub returns-then-refuses_publisher-clause-room : goal.returns-then-refuses_publisher-clause-room
+returns-then-refuses_publisher-clause-room g c = keeps_nowhere c.args.self.now
+
+pub returns-then-refuses_publisher-clause-comes : goal.returns-then-refuses_publisher-clause-comes
+returns-then-refuses_publisher-clause-comes g c
+    = (c.publisher_refused.ensures c.args.self.now.made c.args.handlers, refl)
 
 pub returns-then-is_err-clause-room : goal.returns-then-is_err-clause-room
 returns-then-is_err-clause-room g c = c.pledge_for_publisher.ensures.keeps
@@ -13,8 +20,8 @@ returns-then-is_err-clause-comes g c =
     let mid = c.pledge_for_publisher.new.self in (
       publisher_in_room g.U.Default.is_default (λ handlers. g.B.Degrades.degrades handlers) c.args.domain
           (publisher_config c.args.owner c.args.options.now) c.args.options.now.preallocated_samples c.args.handlers c.args.self.now mid
-          mid c.publisher_refused.result
-          c.pledge_for_publisher.ensures.same (c.publisher_refused.ensures mid.made c.args.handlers),
+          mid c.publisher_refused-then-is_err.result
+          c.pledge_for_publisher.ensures.same (c.publisher_refused-then-is_err.ensures mid.made c.args.handlers),
       ap (λ hub. hub.factories) c.pledge_for_publisher.ensures.same.1,
     )
 

@@ -3,9 +3,16 @@ use Rattle.iox_hub_base.specs.Room.{samples_left_in}
 use Rattle.iox_hub_commands.specs.Naming.{subscriber_config}
 use Rattle.iox_hub_commands.specs.PortRoom.{most_samples_at}
 use Rattle.iox_hub_commands.proofs.Coming.{subscriber_in_room}
-use Rattle.iox_hub_commands.proofs.PortRooms.{subscriber_room, samples_pledged, pledges_brought}
+use Rattle.iox_hub_commands.proofs.PortRooms.{subscriber_room, keeps_nowhere, samples_pledged, pledges_brought}
 use Rattle.iox_hub_commands.proofs.Rooms.{when_ok}
 use Rattle.iox_hub_commands.proofs.numbered_hub.NumberedHub.subscriber_with.Goals as goal
+
+pub returns-then-refuses_subscriber-clause-room : goal.returns-then-refuses_subscriber-clause-room
+returns-then-refuses_subscriber-clause-room g c = keeps_nowhere c.args.self.now
+
+pub returns-then-refuses_subscriber-clause-comes : goal.returns-then-refuses_subscriber-clause-comes
+returns-then-refuses_subscriber-clause-comes g c
+    = (c.subscriber_refused.ensures c.args.self.now.made c.args.handler, refl)
 
 pub returns-then-is_err-clause-room : goal.returns-then-is_err-clause-room
 returns-then-is_err-clause-room g c
@@ -16,8 +23,8 @@ pub returns-then-is_err-clause-comes : goal.returns-then-is_err-clause-comes
 returns-then-is_err-clause-comes g c =
     let mid = c.pledge_samples.new.self in (
       subscriber_in_room (λ handler. g.D.Degrades.degrades handler) c.args.domain (subscriber_config c.args.owner c.args.options.now)
-          c.args.handler c.args.self.now mid mid c.subscriber_refused.result
-          c.pledge_samples.ensures.same (c.subscriber_refused.ensures mid.made c.args.handler),
+          c.args.handler c.args.self.now mid mid c.subscriber_refused-then-is_err.result
+          c.pledge_samples.ensures.same (c.subscriber_refused-then-is_err.ensures mid.made c.args.handler),
       ap (λ hub. hub.factories) c.pledge_samples.ensures.same.1,
     )
 

@@ -1,14 +1,14 @@
-use Rattle.std.proofs.Common.{◌≡◌, true, false, Some, subst}
+use Rattle.std.proofs.Common.{◌≡◌, true, false, subst}
 use Rattle.iox_lanes_threads_ports.specs.Known.{KnowsGivenBack, KeepsGivenBack}
 use Rattle.iox_lanes_threads.specs.Ports.{BoardSubscriber}
 use Rattle.iox_lanes_threads.proofs.subscriber.LaneSubscriber.release.Goals as goal
 
 pub returns-clause-put : goal.returns-clause-put
 returns-clause-put c =
-    subst (λ (v : BoardSubscriber). c.release.result ≡ Some true
+    subst (λ (v : BoardSubscriber). c.release.result ≡ true
     → KnowsGivenBack v.own.port c.release.new.self.port v.own.lane c.args.sample) c.self.view_is c.release.ensures.put
 
 pub returns-clause-kept : goal.returns-clause-kept
 returns-clause-kept c =
-    subst (λ (v : BoardSubscriber). c.release.result ≡ Some false
+    subst (λ (v : BoardSubscriber). c.release.result ≡ false
     → KeepsGivenBack v.own.port c.release.new.self.port v.own.lane c.args.sample) c.self.view_is c.release.ensures.kept

@@ -3,8 +3,10 @@ use Rattle.iox_lanes_machine.specs.LanesParties.declared.call.Call.TheVariants a
 use Rattle.iox_lanes_machine.specs.LanesParties.declared.call.Move.TheVariants.{Begin}
 use Rattle.iox_lanes_threads_rule.specs.Acts.{port_of}
 use Rattle.iox_lanes_threads_ports.specs.Paces.{loan_steps}
+use Rattle.iox_lanes_threads_ports.specs.Ports.{PublisherStands}
 use Rattle.iox_lanes_threads_ports.specs.Values.{PublisherPort, PublisherDoes, Loans}
 use Rattle.iox_lanes_threads_ports.proofs.KnownLoans.{loan_called}
+use Rattle.iox_lanes_threads_ports.proofs.OtherLoans.{calls_keep_payloads}
 use Rattle.iox_lanes_threads_ports.proofs.publisher.ThreadedPublisher.loan_uninit.Goals as goal
 
 pub returns-clause-call : goal.returns-clause-call
@@ -18,3 +20,11 @@ returns-clause-call g c =
     subst (λ (v : PublisherPort). Loans v now c.lent.result) c.self.view_is
     (subst (Loans was now) (sym c.lent.ensures)
     (loan_called was now c.does-answer.result c.self.invariant.1 c.does-answer.ensures.table done))
+
+pub returns-clause-others : goal.returns-clause-others
+returns-clause-others g c other there =
+    let now : PublisherPort
+    = record { table = c.does-answer.new.seat.table_id; port = port_of c.does-answer.new.seat.me; lane = c.does-answer.new.lane } in
+    (calls_keep_payloads other c.args.self.now now
+    (subst (λ (v : PublisherPort). PublisherStands v.port v.lane) c.self.view_is c.self.invariant.1) there).0 c.lent.result
+    (returns-clause-call g c)

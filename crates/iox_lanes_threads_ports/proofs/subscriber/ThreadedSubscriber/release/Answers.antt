@@ -1,11 +1,13 @@
 use Rattle.std.proofs.Common.{refl, sym, ap, subst, ◌∙◌}
-use Rattle.iox_lanes_machine.specs.LanesParties.Parties.{words_read}
+use Rattle.iox_lanes_machine.specs.LanesParties.Parties.{SubscriberLaneState, subscriber_fits, words_read}
 use Rattle.iox_lanes_machine.specs.LanesParties.declared.call.Call.TheVariants as call
+use Rattle.iox_lanes_machine.specs.LanesParties.declared.call.Move.TheVariants.{Begin}
 use Rattle.iox_lanes_threads_rule.specs.Acts.{port_of}
 use Rattle.iox_lanes_threads_ports.specs.Ports.{SubscriberStands}
 use Rattle.iox_lanes_threads_ports.specs.Values.{SubscriberPort, settled, Releases}
 use Rattle.iox_lanes_threads_ports.proofs.Between as lemmas
 use Rattle.iox_lanes_threads_ports.proofs.KnownReleases.{release_known, release_kept}
+use Rattle.iox_lanes_threads_ports.proofs.NeverFull.{releases_by}
 use Rattle.iox_lanes_threads_ports.proofs.subscriber.ThreadedSubscriber.release.Goals as goal
 
 pub invariant_of-self : goal.invariant_of-self
@@ -38,13 +40,17 @@ returns-clause-call g c =
       lane = settled c.go_on.new.self;
       words = words_read c.go_on.new.self.port.call c.go_on.new.self.port.words;
     } in
+    let lane_is = ap (λ (v : SubscriberPort). v.lane) (sym c.self.view_is) ∙ sym c.settle.ensures.lane in
+    let fit = sym c.fits.ensures ∙ c.if-not-fits.false in
     let done = lemmas.release_done c.args.self.now new (port_of c.self.inside.seat.me) c.args.sample c.settle.new.lane c.begin.new.self
     c.finish.new.lane c.go_on.new.self c.go_on.result
-    (ap (λ (v : SubscriberPort). v.port) (sym c.self.view_is))
-    (ap (λ (v : SubscriberPort). v.lane) (sym c.self.view_is) ∙ sym c.settle.ensures.lane)
-    (sym c.fits.ensures ∙ c.if-not-fits.false) c.begin.ensures
+    (ap (λ (v : SubscriberPort). v.port) (sym c.self.view_is)) lane_is fit c.begin.ensures
     c.finish.ensures.goes c.finish.ensures.over c.go_on.ensures.lane refl c.go_on.ensures.answer in
-    subst (Releases c.args.self.now c.args.sample new) (sym c.released.ensures) done
+    subst (Releases c.args.self.now c.args.sample new) (sym c.is_released.ensures)
+    (releases_by c.args.self.now new c.args.sample c.go_on.result done.0
+    (subst (λ (v : SubscriberPort). SubscriberStands v.port v.lane) c.self.view_is
+    (lemmas.settled_stands (port_of c.self.inside.seat.me) c.self.inside.lane c.self.invariant.1))
+    (ap (λ (l : SubscriberLaneState). subscriber_fits l (Begin (call.Release c.args.sample))) lane_is ∙ fit) done.2 done.1)
 
 pub returns-clause-put : goal.returns-clause-put
 returns-clause-put g c = λ e.
@@ -54,7 +60,7 @@ returns-clause-put g c = λ e.
       lane = settled c.go_on.new.self;
       words = words_read c.go_on.new.self.port.call c.go_on.new.self.port.words;
     } in
-    release_known c.args.self.now new c.args.sample c.released.result
+    release_known c.args.self.now new c.args.sample c.is_released.result
     (subst (λ (v : SubscriberPort). SubscriberStands v.port v.lane) c.self.view_is
     (lemmas.settled_stands (port_of c.self.inside.seat.me) c.self.inside.lane c.self.invariant.1)) (returns-clause-call g c) e
 
@@ -66,7 +72,7 @@ returns-clause-kept g c = λ e.
       lane = settled c.go_on.new.self;
       words = words_read c.go_on.new.self.port.call c.go_on.new.self.port.words;
     } in
-    release_kept c.args.self.now new c.args.sample c.released.result
+    release_kept c.args.self.now new c.args.sample c.is_released.result
     (subst (λ (v : SubscriberPort). SubscriberStands v.port v.lane) c.self.view_is
     (lemmas.settled_stands (port_of c.self.inside.seat.me) c.self.inside.lane c.self.invariant.1)) (returns-clause-call g c) e
 

@@ -7,8 +7,8 @@ pub invariant_of-self : goal.invariant_of-self
 invariant_of-self g c = rw c.told-self-inside.ensures
     (dropped_recorded _ refl (c.typed_calls_are_a_run.ensures.goes_on Dynamic)
     (c.typed_publisher_calls_are_steps.ensures Dynamic).drop
-    c.self.inside.history.calls c.self.inside.hub c.drop_with.new.home c.args.loan.number.value
-    (record { port = c.args.loan.it.port; slot = c.args.loan.it.slot }) (rw (← c.self.view_is) at c.requires) c.drop_with.ensures
+    c.self.inside.history.calls c.self.inside.hub c.drop_loan_if.new.home c.args.loan.number.value
+    (record { port = c.args.loan.it.port; slot = c.args.loan.it.slot }) (rw (← c.self.view_is) at c.requires) c.drop_loan_if.ensures
     c.self.invariant)
 
 pub returns : goal.returns

@@ -9,12 +9,12 @@ pub invariant_of-self : goal.invariant_of-self
 invariant_of-self g c = rw c.told-self-inside.ensures
     (give_up_recorded _ refl (c.typed_calls_are_a_run.ensures.goes_on Dynamic)
     (c.typed_publisher_calls_are_steps.ensures Dynamic).give_up
-    c.self.inside.history.calls c.self.inside.hub c.drop_with-answer.new.home c.args.publisher.now.number.value
-    c.args.publisher.now.it.port c.drop_with-answer.result (rw (← c.self.view_is) at c.requires.made)
-    (rw c.requires.waits at c.drop_with-answer.ensures) c.self.invariant)
+    c.self.inside.history.calls c.self.inside.hub c.give_up_if-answer.new.home c.args.publisher.now.number.value
+    c.args.publisher.now.it.port c.give_up_if-answer.result (rw (← c.self.view_is) at c.requires.made)
+    (rw c.requires.waits at c.give_up_if-answer.ensures) c.self.invariant)
 
 pub returns : goal.returns
 returns g c = record {
   given_up = rw (← c.self.view_is, c.told-self-inside.ensures)
-      (given_up_so (command.GiveUp c.args.publisher.now.number.value) c.self.inside.history.calls c.drop_with-answer.result);
+      (given_up_so (command.GiveUp c.args.publisher.now.number.value) c.self.inside.history.calls c.give_up_if-answer.result);
 }

@@ -7,10 +7,10 @@ pub invariant_of-self : goal.invariant_of-self
 invariant_of-self g c = rw c.told-self-inside.ensures
     (release_recorded _ refl (c.typed_calls_are_a_run.ensures.goes_on Dynamic)
     (c.typed_subscriber_calls_are_steps.ensures Dynamic).release
-    c.self.inside.history.calls c.self.inside.hub c.drop_with-was_held.new.home c.args.sample.number.value
-    (record { port = c.args.sample.it.port; taken = c.args.sample.it.taken }) c.drop_with-was_held.result
+    c.self.inside.history.calls c.self.inside.hub c.release_if-was_held.new.home c.args.sample.number.value
+    (record { port = c.args.sample.it.port; taken = c.args.sample.it.taken }) c.release_if-was_held.result
     (rw (← c.self.view_is) at c.requires)
-    c.drop_with-was_held.ensures c.self.invariant)
+    c.release_if-was_held.ensures c.self.invariant)
 
 pub returns-clause-released : goal.returns-clause-released
 returns-clause-released g c = rw (← c.self.view_is, c.told-self-inside.ensures) refl
@@ -18,7 +18,7 @@ returns-clause-released g c = rw (← c.self.view_is, c.told-self-inside.ensures
 pub returns-clause-held : goal.returns-clause-held
 returns-clause-held g c = λ followed.
     release_held _ refl (c.what_is_held_may_be_used.ensures Dynamic)
-    c.self.inside.history.calls c.self.inside.hub c.drop_with-was_held.new.home c.args.sample.number.value
-    (record { port = c.args.sample.it.port; taken = c.args.sample.it.taken }) c.drop_with-was_held.result
+    c.self.inside.history.calls c.self.inside.hub c.release_if-was_held.new.home c.args.sample.number.value
+    (record { port = c.args.sample.it.port; taken = c.args.sample.it.taken }) c.release_if-was_held.result
     (rw (← c.self.view_is) at c.requires)
-    c.drop_with-was_held.ensures c.self.invariant (rw (← c.self.view_is) at followed)
+    c.release_if-was_held.ensures c.self.invariant (rw (← c.self.view_is) at followed)

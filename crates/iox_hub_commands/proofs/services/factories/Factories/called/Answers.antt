@@ -21,12 +21,12 @@ returns-in-Some-clause-calls g c =
     (detail FixedSize g.U.ZeroCopySend.name g.U.ZeroCopySend.size g.U.ZeroCopySend.alignment)
     (types_of g.T.ZeroCopySend.name g.T.ZeroCopySend.size g.T.ZeroCopySend.alignment g.U.ZeroCopySend.name g.U.ZeroCopySend.size
     g.U.ZeroCopySend.alignment)
-    c.args.asked.now c.args.steps.now c.args.self.now.made c.args.hub.now c.refusal_at_first_look.new.hub c.in-Some.refusal
-    c.asked_has_form.ensures.steps c.in-Some.ensures.same c.args.call c.asked_has_form.ensures.agreed c.in-Some.ensures.told)
+    c.args.asked.now c.args.steps.now c.args.self.now.made c.args.hub.now c.args.hub.now c.in-Some.refusal
+    c.asked_has_form.ensures.steps refl c.args.call c.asked_has_form.ensures.agreed c.in-Some.ensures)
 
 pub returns-in-Some-clause-told_first : goal.returns-in-Some-clause-told_first
 returns-in-Some-clause-told_first g c is_there refusal is =
-    (ap (λ why. Some (Err why)) (answers (is (Some c.in-Some.refusal) c.in-Some.ensures.told)), refl, c.in-Some.ensures.same)
+    (ap (λ why. Some (Err why)) (answers (is (Some c.in-Some.refusal) c.in-Some.ensures)), refl, refl)
 
 pub returns-in-None-clause-calls : goal.returns-in-None-clause-calls
 returns-in-None-clause-calls g c =
@@ -35,8 +35,8 @@ returns-in-None-clause-calls g c =
     (detail FixedSize g.U.ZeroCopySend.name g.U.ZeroCopySend.size g.U.ZeroCopySend.alignment)
     (types_of g.T.ZeroCopySend.name g.T.ZeroCopySend.size g.T.ZeroCopySend.alignment g.U.ZeroCopySend.name g.U.ZeroCopySend.size
     g.U.ZeroCopySend.alignment)
-    c.args.asked.now c.args.steps.now c.args.self.now.made c.args.hub.now _ _ _ c.args.call c.in-None.ensures.told
-    (rw c.in-None.ensures.same at c.looked.ensures))
+    c.args.asked.now c.args.steps.now c.args.self.now.made c.args.hub.now _ _ _ c.args.call c.in-None.ensures
+    c.looked.ensures)
 
 pub returns-in-None-clause-told_first : goal.returns-in-None-clause-told_first
-returns-in-None-clause-told_first g c is_there refusal is = absurd (none_told refl (sym (is None c.in-None.ensures.told)))
+returns-in-None-clause-told_first g c is_there refusal is = absurd (none_told refl (sym (is None c.in-None.ensures)))

@@ -1,0 +1,41 @@
+-- How many connections of a publisher are live.
+use Rattle.std.specs.Prelude.{ℕ, ◌*◌, ◌≤◌, ◌≡◌, true, List, find, is_some, Some}
+use Rattle.std.specs.List.{count_by}
+use Rattle.iox_command.specs.NegotiateBase.DescribeBase.declared.message_type.MessageTypeDetails.{MessageTypeDetails}
+use Rattle.iox_command.specs.declared.command.Command.{Command}
+use Rattle.iox_command.specs.declared.reply.Reply.{Reply}
+use Rattle.iox_domain.specs.DomainPorts.Ports.{goes_on}
+use Rattle.iox_domain.specs.DomainPorts.Publishers.{port_of}
+use Rattle.iox_domain.specs.DomainPorts.declared.attached.Taken.{Taken}
+use Rattle.iox_domain.specs.DomainPorts.declared.publisher_port.PublisherPort.{PublisherPort}
+use Rattle.iox_domain.specs.PortLawsLaws.{IsApart}
+use Rattle.iox_domain.specs.declared.ports.service_ports.ServicePorts.{ServicePorts}
+use Rattle.iox_domain_machine.specs.Naming.{Naming}
+use Rattle.iox_domain_machine.specs.Standing.{StandsFor}
+use Rattle.iox_domain_machine.specs.Tables.{LentSlot}
+use Rattle.iox_machine.specs.Choices.{Choices}
+use Rattle.iox_machine.specs.Ports.{publisher_in}
+use Rattle.iox_machine.specs.Run.{Runs}
+use Rattle.iox_machine.specs.Service.{Service}
+use Rattle.iox_machine.specs.State.{State, new_state}
+
+-- How many connections of the publisher are live.
+abbrev pub live_connections : {T U : Type 0} → PublisherPort T U → ℕ
+live_connections port = count_by (λ connection. goes_on connection.stage) port.sender.uses.connections
+
+-- How many connections of an open publisher may be live, where the ports represent a service.
+pub record ConnectionsAreFew (T U : Type 0) (choices : Choices T) : Type 0 where
+  -- At most twice as many as subscribers may be listed: each of them is read by a listed subscriber, or a place is tied to it.
+  pub always : (names : Naming) (lent : List (ℕ × LentSlot)) (held : List (ℕ × Taken)) (buffer : ℕ) (ports : ServicePorts T U)
+      (service : Service T) (number : ℕ) (port : PublisherPort T U) → StandsFor names lent held buffer ports service → IsApart ports
+      → port_of number ports.publishers ≡ Some port → port.stands ≡ true
+      → live_connections port ≤ 2 * ports.sizes.max_subscribers
+  -- At most as many as subscribers may be listed, if the publisher has seen all changes of the list, as after each update, and the service
+  -- is one of a run of the machine.
+  pub followed : (types : MessageTypeDetails) (buffer : ℕ) (asked : List (Command T)) (answers : List (Reply T)) (state : State T)
+      (names : Naming) (lent : List (ℕ × LentSlot)) (held : List (ℕ × Taken)) (ports : ServicePorts T U) (service : Service T)
+      (number : ℕ) (port : PublisherPort T U) → Runs types choices buffer asked new_state answers state
+      → find (λ other. is_some (publisher_in (names.publisher number) other)) state.services ≡ Some service
+      → StandsFor names lent held buffer ports service → IsApart ports
+      → port_of number ports.publishers ≡ Some port → port.stands ≡ true → port.seen ≡ ports.subscriber_list.changes
+      → live_connections port ≤ ports.sizes.max_subscribers

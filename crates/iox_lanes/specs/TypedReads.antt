@@ -1,0 +1,37 @@
+-- What subscribers read that know the types of their service.
+use Rattle.std.specs.Prelude.{ℕ, ◌≡◌, true, List, slice_index, Option, None, Some, Result, Ok, Err}
+use Rattle.iox_lanes_base.specs.declared.calls.subscriber.Receipt.{Receipt}
+use Rattle.iox_lanes_base.specs.declared.calls.subscriber.Receipt.TheVariants as receipt
+use Rattle.iox_lanes_threads_ports.specs.Holding.{HasRead, StandsBetween}
+use Rattle.iox_lanes_threads_ports.specs.Values.{Reads}
+use Rattle.iox_lanes.specs.HeldByNone.{StandsInSlot}
+use Rattle.iox_lanes.specs.Typed.{TypedSubscriber, Token, is_sample_of, HasValues}
+use Rattle.iox_lanes.specs.declared.threads.errors.ReceiveError.{ReceiveError}
+use Rattle.iox_lanes.specs.declared.threads.errors.ReceiveError.TheVariants as receive_error
+use Rattle.iox_lanes.specs.declared.threads.message.Message.{Message}
+
+-- A message is made of these words: three words of its header, its sequence number if messages have one, its user header and its value.
+pub record IsMessage {T U : Type 0} (value_of : List ℕ → T) (header_of : List ℕ → U) (payload_count header_count : ℕ) (words : List ℕ)
+    (message : Message T U) : Type 0 where
+  pub node_id : message.header.node_id ≡ slice_index words 0
+  pub publisher_id : message.header.publisher_id ≡ slice_index words 1
+  pub number_of_elements : message.header.number_of_elements ≡ slice_index words 2
+  pub values : HasValues value_of header_of payload_count header_count words message.header.sequence message.user_header message.value
+
+-- A subscriber read a sample, and the message is made of the words that it read. They are still the words of the sample's slot
+-- (`StandsInSlot`). `stood` and `has_read` are what two reads of one sample need to agree.
+pub record ReadsMessage {T U : Type 0} (value_of : List ℕ → T) (header_of : List ℕ → U) (payload_count header_count : ℕ)
+    (old : TypedSubscriber) (sample : Token) (new : TypedSubscriber) (message : Message T U) : Type 0 where
+  pub mine : is_sample_of old sample ≡ true
+  pub call : Reads old.port.own sample.slot new.port.own true
+  pub stood : StandsBetween old.port.own
+  pub has_read : HasRead new.port.own.port old.port.own.lane.port.extent sample.slot new.port.own.words
+  pub stands : StandsInSlot new.port.own.port old.port.own.lane.port.extent sample.slot new.port.own.words
+  pub message_is : IsMessage value_of header_of payload_count header_count new.port.own.words message
+
+-- What a typed receive returns for the receipt of the port: the sample of the slot that was taken, none if nothing waited, or the error.
+abbrev pub answer_to : TypedSubscriber → Receipt → Result (Option Token) ReceiveError
+answer_to subscriber receipt.Nothing = Ok None
+answer_to subscriber receipt.ExceedsMaxBorrows = Err receive_error.ExceedsMaxBorrows
+answer_to subscriber (receipt.Taken place slot) =
+    Ok (Some (record { slot = slot; board = subscriber.port.board; place = subscriber.port.place }))
