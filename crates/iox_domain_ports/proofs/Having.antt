@@ -1,6 +1,6 @@
 -- Whether one of the connections is there.
-use Rattle.std.proofs.Common.{rules, arith, ◌≡◌, ◌<◌, ◌+◌, ◌||◌, ◌∷◌, [], ℕ, zero, suc, Bool, true, false, nat_lt, List, length, get_or}
-use Rattle.std.proofs.Common.{refl, ap, ◌∙◌}
+use Rattle.std.proofs.Common.{rules, arith, ◌≡◌, ◌<◌, ◌≤◌, ◌+◌, ◌||◌, ◌∷◌, [], ℕ, zero, suc, Bool, true, false, nat_lt, List, length}
+use Rattle.std.proofs.Common.{get_or, refl, sym, ap, ◌∙◌}
 use Rattle.std.specs.List.{list_any}
 use Rattle.iox_domain_slots.specs.Uses.{Connection, nobody, is_there}
 
@@ -25,12 +25,13 @@ none_there (c ∷ rest) zero few none = absurd (omega (arith, few))
 none_there (c ∷ rest) (suc count) few none =
     rw (none zero (omega arith)) (none_there rest count (omega (arith, few)) (λ index below. none (suc index) (omega (arith, below))))
 
-pub one_more : {X : Type 0} (connections : List (Connection X)) (count : ℕ) → NoneBelow connections count
-    → is_there (get_or connections count nobody) ≡ false → NoneBelow connections (count + 1)
-one_more connections count none last index below = at (nat_lt index count) refl
-  where
-    at : (less : Bool) → nat_lt index count ≡ less → is_there (get_or connections index nobody) ≡ false
-    at true less = none index (grind (arith, less))
-    at false less =
-        let same : index ≡ count = grind (arith, less, below) in
-        ap (λ k. is_there (get_or connections k nobody)) same ∙ last
+-- a connection is there exactly if the index after the last one isn't 0
+pub any_there : {X : Type 0} (connections : List (Connection X)) (top : ℕ)
+    → ((index : ℕ) → top ≤ index → get_or connections index nobody ≡ nobody)
+    → ((index : ℕ) → index + 1 ≡ top → is_there (get_or connections index nobody) ≡ true)
+    → nat_lt 0 top ≡ list_any is_there connections
+any_there connections zero none last = sym (none_there connections (length connections) (omega arith)
+    (λ index below. ap is_there (none index (omega arith))))
+any_there connections (suc top) none last =
+    let some : nat_lt 0 (suc top) ≡ true = grind arith in
+    some ∙ sym (some_there connections top (last top (omega arith)))

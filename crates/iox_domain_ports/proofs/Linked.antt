@@ -1,6 +1,8 @@
 -- What a connection of slots says of the messages in them.
 use Rattle.std.proofs.Common.{◌≡◌, ℕ, Bool, true, false, Option, None, Some, option_copied, IfSome, IfNone, length, refl, sym, ap, ◌∙◌}
-use Rattle.std.proofs.Common.{if◌then◌else◌}
+use Rattle.std.proofs.Common.{if◌then◌else◌, ◌<◌, Result, Ok, Err}
+use Rattle.std.specs.Prelude.{IfOk}
+use Rattle.std.specs.declared.alloc.AllocError.{AllocError}
 use Rattle.std.proofs.lemmas.List.{length-map}
 use Rattle.std.specs.Borrow.{Bor}
 use Rattle.iox_domain_slots.specs.Uses.{Uses, connection_at, nobody, is_there, is_open}
@@ -75,3 +77,22 @@ borrowed_told store uses state index None is there = tt
 borrowed_told store uses state index (Some link) is there =
     sym (ap (λ c. length c.borrowed) (found_by_messages store uses state index link.now is there)
     ∙ length-map link.now.borrowed (message_in store))
+
+-- past the last connection there is none
+pub none_named : {T U : Type 0} (store : Store T U) (uses : Uses ℕ ℕ) (state : SenderState T U) (index : ℕ) → seen_sender store uses ≡ state
+    → connection_at index uses ≡ nobody → connection_at index state.uses ≡ nobody
+none_named store uses state index is none = by_messages store uses state index is ∙ ap (connection_by (message_in store)) none
+
+-- where a connection of slots exists, one of messages does
+pub there_named : {T U : Type 0} (store : Store T U) (uses : Uses ℕ ℕ) (state : SenderState T U) (index : ℕ)
+    → seen_sender store uses ≡ state → is_there (connection_at index uses) ≡ true → is_there (connection_at index state.uses) ≡ true
+there_named store uses state index is there = ap is_there (by_messages store uses state index is) ∙ there
+
+-- below the index of a new connection each index has one
+pub lowest_told : {T U : Type 0} (store : Store T U) (uses : Uses ℕ ℕ) (state : SenderState T U) (result : Result ℕ AllocError)
+    → seen_sender store uses ≡ state
+    → IfOk result (λ index. (lower : ℕ) → lower < index → is_there (connection_at lower uses) ≡ true)
+    → IfOk result (λ index. (lower : ℕ) → lower < index → is_there (connection_at lower state.uses) ≡ true)
+lowest_told store uses state (Err error) is lowest = lowest
+lowest_told store uses state (Ok index) is lowest = λ lower below.
+    there_named store uses state lower is (lowest lower below)

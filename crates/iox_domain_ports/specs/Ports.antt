@@ -1,9 +1,9 @@
 -- The connections of a publisher are made and ended.
-use Rattle.std.specs.Prelude.{ℕ, ◌+◌, ◌≡◌, ◌≤◌, Bool, true, false, List, [], length, get_or, set, Option, None, Some, Result, Ok, Err}
+use Rattle.std.specs.Prelude.{ℕ, ◌+◌, ◌≡◌, ◌<◌, ◌≤◌, Bool, true, false, List, [], length, get_or, set, Option, None, Some, Result, Ok, Err}
 use Rattle.std.specs.Prelude.{if◌then◌else◌}
 use Rattle.std.specs.List.{position}
 use Rattle.std.specs.declared.alloc.AllocError.{AllocError}
-use Rattle.iox_domain_slots.specs.Uses.{Connection, connection_at, with_connection, connected, placed, nobody, ended, welcomed}
+use Rattle.iox_domain_slots.specs.Uses.{Connection, connection_at, with_connection, connected, placed, nobody, ended, welcomed, is_there}
 use Rattle.iox_domain_slots.specs.declared.stage.Stage.{Stage}
 use Rattle.iox_domain_slots.specs.declared.stage.Stage.TheVariants as stage
 use Rattle.iox_domain_ports.specs.Messages.{Message}
@@ -39,6 +39,10 @@ with_connections connections port = record port { sender = with_uses (record por
 -- The index of the first connection that leads to this subscriber.
 abbrev pub connection_to : {T U : Type 0} → ℕ → PublisherPort T U → Option ℕ
 connection_to subscriber port = position (leads_to subscriber) port.readers
+
+-- A connection exists at each index below this one.
+abbrev pub IsFullBelow : {T U : Type 0} → ℕ → PublisherPort T U → Type 0
+IsFullBelow index port = (lower : ℕ) → lower < index → is_there (connection_of lower port) ≡ true
 
 -- A new connection in which `limit` messages may wait is made at an index without one, and leads to this reader. If memory runs
 -- out nothing changes.

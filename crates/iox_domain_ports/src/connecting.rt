@@ -1,8 +1,8 @@
 //! The connections of a publisher are made and ended.
-ghost use Rattle.std.specs.Prelude.{◌≡◌, ◌+◌, ◌<◌, ◌≤◌, ◌^◌, ◌&&◌, ◌==◌, length, get_or, None, Some, true};
+ghost use Rattle.std.specs.Prelude.{◌≡◌, ◌+◌, ◌<◌, ◌≤◌, ◌^◌, ◌&&◌, ◌==◌, length, get_or, None, Some, true, IfOk};
 ghost use Rattle.iox_domain_slots.specs.declared.stage.Stage.TheVariants as stage;
 ghost use Rattle.iox_domain_ports.specs.Ports.{connection_of, is_live, connection_to, Connects, Joins, Attaches, attached_at};
-ghost use Rattle.iox_domain_ports.specs.Ports.{detached_at, ended_at, welcomed_at};
+ghost use Rattle.iox_domain_ports.specs.Ports.{detached_at, ended_at, welcomed_at, IsFullBelow};
 ghost use Rattle.iox_domain_ports.specs.Places.{reached};
 
 use crate::publisher_port::PublisherPort;
@@ -22,10 +22,11 @@ impl<T: Copy, U: Copy> PublisherPort<T, U> {
         }
     }
 
-    // Makes a connection in which at most `limit` messages may wait.
+    // Makes a connection in which at most `limit` messages may wait, at the lowest index that has none.
     fn connect(&mut self, alloc: Global, limit: usize, reader: Reader) -> Result<usize, AllocError>
         requires { limit ≤ self.old.sender.uses.most_waiting }
-        ensures { Connects limit reader self.old result self.new }
+        ensures connects { Connects limit reader self.old result self.new }
+        ensures lowest { IfOk result (λ index. IsFullBelow index self.old) }
     {
         let before = self.readers.len();
         self.readers.reach(self.sender.indices() + 1)?;
@@ -41,8 +42,9 @@ impl<T: Copy, U: Copy> PublisherPort<T, U> {
         }
     }
 
-    /// The index of the connection that leads to this subscriber. If there is none, one is made, from which the subscriber
-    /// doesn't read yet. The call fails only if an allocation fails; then nothing has changed.
+    /// The index of the connection that leads to this subscriber. If there is none, one is made at the lowest index without a
+    /// connection, and the subscriber doesn't read from it yet. The call fails only if an allocation fails; then nothing has
+    /// changed.
     pub fn join(
         &mut self,
         alloc: Global,
@@ -50,7 +52,8 @@ impl<T: Copy, U: Copy> PublisherPort<T, U> {
         limit: usize,
     ) -> Result<usize, AllocError>
         requires { limit ≤ self.old.sender.uses.most_waiting }
-        ensures { Joins subscriber limit (connection_to subscriber self.old) self.old result self.new }
+        ensures joins { Joins subscriber limit (connection_to subscriber self.old) self.old result self.new }
+        ensures lowest { connection_to subscriber self.old ≡ None → IfOk result (λ index. IsFullBelow index self.old) }
     {
         match self.readers.connection_to(subscriber) {
             Some(index) => Ok(index),
@@ -65,8 +68,8 @@ impl<T: Copy, U: Copy> PublisherPort<T, U> {
         }
     }
 
-    /// Attaches the subscriber to its connection, which is made if there is none, and answers the connection's index. The call
-    /// fails only if there is none and an allocation fails; then nothing has changed.
+    /// Attaches the subscriber to its connection, and answers the connection's index. If there is none, one is made at the lowest
+    /// index without a connection. The call fails only if there is none and an allocation fails; then nothing has changed.
     pub fn attach(
         &mut self,
         alloc: Global,
@@ -74,7 +77,8 @@ impl<T: Copy, U: Copy> PublisherPort<T, U> {
         limit: usize,
     ) -> Result<usize, AllocError>
         requires { limit ≤ self.old.sender.uses.most_waiting }
-        ensures { Attaches subscriber limit self.old result self.new }
+        ensures attaches { Attaches subscriber limit self.old result self.new }
+        ensures lowest { connection_to subscriber self.old ≡ None → IfOk result (λ index. IsFullBelow index self.old) }
     {
         let index = self.join(alloc, subscriber, limit)?;
         self.readers.put(

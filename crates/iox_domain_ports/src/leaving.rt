@@ -66,7 +66,8 @@ impl<T: Copy, U: Copy> PublisherPort<T, U> {
         ensures { self.new ≡ departed self.old }
     {
         self.stands = false;
-        for index in 0..self.sender.indices() {
+        let end = self.sender.top();
+        for index in 0..end {
             self.part(index);
         }
     }

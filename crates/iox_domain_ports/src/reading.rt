@@ -160,20 +160,5 @@ pub fn is_over<T: Copy, U: Copy>(port: &PublisherPort<T, U>) -> bool
 fn has_connections<T: Copy, U: Copy>(port: &PublisherPort<T, U>) -> bool
     ensures { result ≡ list_any is_there port.now.sender.uses.connections }
 {
-    for index in 0..port.sender.indices() {
-        if is_there_at(port, index) {
-            return true;
-        }
-    }
-    false
-}
-
-// Whether a connection exists at this index.
-fn is_there_at<T: Copy, U: Copy>(port: &PublisherPort<T, U>, index: usize) -> bool
-    ensures { result ≡ is_there (connection_of index port.now) }
-{
-    match port.sender.link(index) {
-        Some(_) => true,
-        None => false,
-    }
+    port.sender.top() > 0
 }

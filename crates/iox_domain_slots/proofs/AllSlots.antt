@@ -1,9 +1,10 @@
 -- The slots of all connections of a publisher, counted.
 use Rattle.std.proofs.Common.{rules, arith, ◌≡◌, ◌+◌, ◌*◌, ◌^◌, ◌==◌, ◌<◌, ◌≤◌, ◌∷◌, [], ◌++◌, ℕ, zero, suc, Bool, true, false, is_some}
+use Rattle.std.proofs.Common.{inl, inr}
 use Rattle.std.proofs.Common.{if◌then◌else◌, remove, List, length, get_or, set, map, Option, Some, None, refl, sym, subst, ap, ◌∙◌}
 use Rattle.iox_domain_slots.specs.Counting.{SlotsState, Moves, Covers, times, uses_of}
 use Rattle.std.proofs.lemmas.List.{map-set, set-get_or, get_or-set_same, get_or-set_other, length-map, length-set}
-use Rattle.iox_domain_slots.specs.Uses.{Connection, placed, given_back, settled, nobody, held, held_by}
+use Rattle.iox_domain_slots.specs.Uses.{Connection, placed, given_back, settled, nobody, held, held_by, is_there, is_open}
 use Rattle.iox_domain_slots.specs.declared.stage.Stage.TheVariants as stage
 use Rattle.iox_domain_slots.specs.Links.{LinkState, all_of, all_slots, slots_at, seen, connection_of, IsOf, IsGone, IsTakenBack}
 use Rattle.iox_domain_slots.specs.Links.{LinksState, taken_back}
@@ -11,6 +12,7 @@ use Rattle.std.proofs.Math.Logic.{⊎_elim}
 use Rattle.std.proofs.Math.Dec.{eqb}
 use Rattle.std.proofs.lemmas.List.Sums.{count_by-le-length}
 use Rattle.std.proofs.lemmas.Bool.Decides.{eqb_tells}
+use Rattle.std.proofs.lemmas.Bool.{cases_lt}
 use Rattle.iox_domain_slots.proofs.Counts.{times_append}
 use Rattle.iox_domain_slots.proofs.Linking.{times_all, moves_on}
 
@@ -127,6 +129,24 @@ pub seen_at : (links : List (Option LinkState)) (index : ℕ) → seen (get_or l
 seen_at [] index = refl
 seen_at (x ∷ rest) zero = refl
 seen_at (x ∷ rest) (suc index) = seen_at rest index
+
+-- an index with a connection is seen to have one
+pub seen_there : (links : List (Option LinkState)) (index : ℕ) → is_some (get_or links index None) ≡ true
+    → is_there (get_or (map seen links) index nobody) ≡ true
+seen_there links index there = subst (λ it. is_there it ≡ true) (seen_at links index) (stands (get_or links index None) there)
+  where
+    open_either : (ended : Bool) → is_open (if ended then stage.Ended else stage.Live) ≡ true
+    open_either true = refl
+    open_either false = refl
+
+    stands : (it : Option LinkState) → is_some it ≡ true → is_there (seen it) ≡ true
+    stands None there = search (rules, there)
+    stands (Some link) there = open_either link.ended
+
+-- where no connection stands none is seen
+pub seen_nobody : (links : List (Option LinkState)) (index : ℕ) → get_or links index None ≡ None
+    → get_or (map seen links) index nobody ≡ nobody
+seen_nobody links index none = sym (seen_at links index) ∙ ap seen none
 
 pub set_twice : {X : Type 0} (xs : List X) (index : ℕ) (a b : X) → set (set xs index a) index b ≡ set xs index b
 set_twice [] index a b = refl
@@ -349,6 +369,24 @@ put_some links index link within lowest other below = ⊎_elim
     (rw (get_or-set_same links index (Some link) None within) refl))
     (λ apart. rw (get_or-set_other links index other (Some link) None apart.1) (lowest other (omega (arith, below, apart.1))))
     (eqb_tells other index)
+
+-- the connection that is put is the last, or the last one stays the last
+pub put_last : (links : List (Option LinkState)) (index top new_top : ℕ) (link : LinkState) → index < length links
+    → ((other : ℕ) → other + 1 ≡ top → is_some (get_or links other None) ≡ true)
+    → index + 1 ≤ new_top → ((most : ℕ) → top ≤ most → index + 1 ≤ most → new_top ≤ most) → top ≤ new_top
+    → (other : ℕ) → other + 1 ≡ new_top → is_some (get_or (set links index (Some link)) other None) ≡ true
+put_last links index top new_top link within last behind least low other is = ⊎_elim
+    (λ same. subst (λ i. is_some (get_or (set links index (Some link)) i None) ≡ true) (sym same.1)
+    (rw (get_or-set_same links index (Some link) None within) refl))
+    (λ apart. rw (get_or-set_other links index other (Some link) None apart.1) (last other (stays apart.1)))
+    (eqb_tells other index)
+  where
+    stays : (other ≡ index → ⊥) → other + 1 ≡ top
+    stays apart = elim (cases_lt index top) [
+      | inl below ↦ omega (arith, is, low, least top (omega arith) (omega (arith, below)))
+      | inr past ↦
+          absurd (apart (omega (arith, is, behind, least (index + 1) (omega (arith, past)) (omega arith))))
+    ]
 
 -- one comes after the last, where each index has one
 pub end_kinds : (links : List (Option LinkState)) (overflows : Bool) (most_waiting most_borrowed : ℕ) (link : LinkState)

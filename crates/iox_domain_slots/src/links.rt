@@ -23,7 +23,7 @@ pub struct Links {
     items: Vec<Option<Link>>,
     // Each index below this one has a connection.
     full: usize,
-    // No connection exists at this index or at a higher one.
+    // The index after the last connection; 0 if there is none.
     top: usize,
     overflows: bool,
     most_waiting: usize,
@@ -47,7 +47,8 @@ impl Model for Links {
         × ((index : ℕ) → IsOf l.overflows l.most_waiting l.most_borrowed (get_or l.items.items index None))
         × (l.most_waiting < 2 ^ 32) × (l.most_borrowed < 2 ^ 32)
         × (l.top ≤ length l.items.items) × ((index : ℕ) → l.top ≤ index → get_or l.items.items index None ≡ None)
-        × (l.full ≤ length l.items.items) × ((index : ℕ) → index < l.full → is_some (get_or l.items.items index None) ≡ true) };
+        × (l.full ≤ length l.items.items) × ((index : ℕ) → index < l.full → is_some (get_or l.items.items index None) ≡ true)
+        × ((index : ℕ) → index + 1 ≡ l.top → is_some (get_or l.items.items index None) ≡ true) };
 }
 
 impl Links {
@@ -278,6 +279,15 @@ impl Links {
         self.items.len()
     }
 
+    /// The index after the last connection; 0 if there is none.
+    pub fn top(&self) -> usize
+        ensures within { result ≤ length self.now.links }
+        ensures none { (index : ℕ) → result ≤ index → get_or self.now.links index None ≡ None }
+        ensures last { (index : ℕ) → index + 1 ≡ result → is_some (get_or self.now.links index None) ≡ true }
+    {
+        self.top
+    }
+
     // The first index without a connection. If each index has one, this is the index after the last.
     fn vacancy(&self) -> usize
         ensures within { result ≤ length self.now.links }
@@ -404,12 +414,13 @@ fn larger(one: usize, other: usize) -> usize
     if one < other { other } else { one }
 }
 
-// The index after the last connection, if no connection exists at `top` or at a higher index.
+// The index after the last connection, or 0 if there is none; no connection exists at `top` or at a higher index.
 fn lowered(items: &[Option<Link>], top: usize) -> usize
     requires within { top ≤ length items.now }
     requires none { (index : ℕ) → top ≤ index → get_or items.now index None ≡ None }
     ensures within { result ≤ top }
     ensures none { (index : ℕ) → result ≤ index → get_or items.now index None ≡ None }
+    ensures last { (index : ℕ) → index + 1 ≡ result → is_some (get_or items.now index None) ≡ true }
 {
     for count in 0..top {
         let index = top - 1 - count;

@@ -174,12 +174,13 @@ impl SlotUses {
         self.links.lose_waiting(index, &mut self.slots);
     }
 
-    /// Makes a connection in which at most `limit` messages may wait, and answers its index, at which none existed. The call
-    /// fails only if an allocation fails or if there are 2^29 connections; then nothing has changed.
+    /// Makes a connection in which at most `limit` messages may wait, and answers its index, the lowest at which none existed.
+    /// The call fails only if an allocation fails or if there are 2^29 connections; then nothing has changed.
     pub fn connect(&mut self, alloc: Global, limit: usize) -> Result<usize, AllocError>
         requires { limit ≤ self.old.most_waiting }
         ensures vacant { IfOk result (λ index. connection_at index self.old ≡ nobody) }
         ensures within { IfOk result (λ index. index ≤ length self.old.connections) }
+        ensures lowest { IfOk result (λ index. (lower : ℕ) → lower < index → is_there (connection_at lower self.old) ≡ true) }
         ensures new { IfOk result (λ index. self.new
             ≡ record self.old { connections = placed index (connected limit) self.old.connections }) }
         ensures refused { OnErr result (self.new ≡ self.old) }
@@ -293,6 +294,15 @@ impl SlotUses {
         ensures indices { length result.now.links ≡ length self.now.connections }
     {
         &self.links
+    }
+
+    /// The index after the last connection; 0 if there is none.
+    pub fn top(&self) -> usize
+        ensures within { result ≤ length self.now.connections }
+        ensures none { (index : ℕ) → result ≤ index → connection_at index self.now ≡ nobody }
+        ensures last { (index : ℕ) → index + 1 ≡ result → is_there (connection_at index self.now) ≡ true }
+    {
+        self.links.top()
     }
 
     /// The connection at an index, if one exists.

@@ -461,12 +461,14 @@ impl<T: Copy, U: Copy> Sender<T, U> {
         self.uses.lose_waiting(index);
     }
 
-    /// Makes a connection in which at most `limit` messages may wait, and answers its index, at which none existed. The call
-    /// fails only if an allocation fails or if there are 2^29 connections; then nothing has changed.
+    /// Makes a connection in which at most `limit` messages may wait, and answers its index, the lowest at which none existed.
+    /// The call fails only if an allocation fails or if there are 2^29 connections; then nothing has changed.
     pub fn connect(&mut self, alloc: Global, limit: usize) -> Result<usize, AllocError>
         requires { limit ≤ self.old.uses.most_waiting }
         ensures vacant { IfOk result (λ index. connection_at index self.old.uses ≡ nobody) }
         ensures within { IfOk result (λ index. index ≤ length self.old.uses.connections) }
+        ensures lowest { IfOk result (λ index. (lower : ℕ) → lower < index
+            → is_there (connection_at lower self.old.uses) ≡ true) }
         ensures new { IfOk result (λ index. self.new
             ≡ with_uses (record self.old.uses { connections = placed index (connected limit) self.old.uses.connections }) self.old) }
         ensures refused { OnErr result (self.new ≡ self.old) }
@@ -540,6 +542,15 @@ impl<T: Copy, U: Copy> Sender<T, U> {
         ensures few { result ≤ 2 ^ 29 }
     {
         self.uses.links().len()
+    }
+
+    /// The index after the last connection; 0 if none exists.
+    pub fn top(&self) -> usize
+        ensures within { result ≤ length self.now.uses.connections }
+        ensures none { (index : ℕ) → result ≤ index → connection_at index self.now.uses ≡ nobody }
+        ensures last { (index : ℕ) → index + 1 ≡ result → is_there (connection_at index self.now.uses) ≡ true }
+    {
+        self.uses.top()
     }
 
     /// The maximum number of values of a new loan.

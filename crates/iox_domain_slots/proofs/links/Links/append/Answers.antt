@@ -23,4 +23,5 @@ invariant_of-self-2 c =
       λ index past. get_or_past items index None (omega (arith, past, c.len-self-inside-2.ensures)),
       omega (arith, c.len-self-inside.ensures),
       λ index below. rw after (end_some b.items.items c.args.link lowest index (omega (arith, below, long, c.len-self-inside.ensures))),
+      λ index last. rw after (end_some b.items.items c.args.link lowest index (omega (arith, last, long, c.len-self-inside-2.ensures))),
     )

@@ -2,7 +2,7 @@ use Rattle.std.proofs.Common.{arith, ◌≡◌, ◌<◌, ℕ, length, get_or, So
 use Rattle.std.specs.Prelude.{is_some}
 use Rattle.std.proofs.lemmas.List.{length-set}
 use Rattle.iox_domain_slots.specs.Links.{IsOf}
-use Rattle.iox_domain_slots.proofs.AllSlots.{put_kinds, put_none, put_some}
+use Rattle.iox_domain_slots.proofs.AllSlots.{put_kinds, put_none, put_some, put_last}
 use Rattle.iox_domain_slots.proofs.links.Links.replace.Goals as goal
 
 pub invariant_of-self : goal.invariant_of-self
@@ -26,4 +26,6 @@ invariant_of-self c =
           c.larger-top.ensures.other,
       omega (arith, length-set b.items.items c.args.index (Some c.args.link), within),
       put_some b.items.items c.args.index c.args.link within lowest,
+      put_last b.items.items c.args.index b.top c.larger-top.result c.args.link within c.self.invariant.8
+          c.larger-top.ensures.other c.larger-top.ensures.least c.larger-top.ensures.one,
     )
