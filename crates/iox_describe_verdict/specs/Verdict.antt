@@ -1,13 +1,11 @@
 -- The verdict of a list of clauses, and when a single clause is met.
-use Rattle.std.specs.Prelude.{ℕ, ◌≡◌, ◌≤◌, List, [], ◌∷◌, Bool, true, false, not, nat_le, Option, Some, None, option_map, IfSome, Result}
+use Rattle.std.specs.Prelude.{ℕ, ◌≡◌, ◌≤◌, List, [], ◌∷◌, Bool, true, false, not, nat_le, Option, Some, None, Result}
 use Rattle.std.specs.Prelude.{Ok, Err}
 use Rattle.std.specs.List.{find}
 use Rattle.iox_describe_settings.specs.DescribeBase.Compatible.{is_compatible}
-use Rattle.iox_describe_settings.specs.declared.setting.Rule.{Rule}
-use Rattle.iox_describe_settings.specs.declared.setting.Rule.TheVariants as rule
 use Rattle.iox_describe_settings.specs.declared.setting.SettingValue.{SettingValue}
 use Rattle.iox_describe_settings.specs.declared.setting.SettingValue.TheVariants.{Switch, Number, OptionalNumber, Types}
-use Rattle.iox_describe_settings.specs.Setting.{changed_to, same_option, same_switch, IsOfKind}
+use Rattle.iox_describe_settings.specs.Setting.{changed_to, same_option, same_switch}
 
 -- The verdict if this clause is the first unmet one, or if there is none.
 abbrev pub verdict_at : {E : Type 0} → Option (Bool × E) → Result (Unit {0}) E
@@ -55,28 +53,3 @@ abbrev pub AsksLess : Option SettingValue → Option SettingValue → Type 0
 AsksLess None strong = Unit {0}
 AsksLess (Some weak) None = ⊥
 AsksLess (Some weak) (Some strong) = IsAtMost weak strong
-
--- If the rule is one of a switch, the value of a named switch is of the rule's kind.
-pub switch_is_of_kind : (r : Rule) → IsOfKind r (Switch true) → (o : Option Bool) → IfSome (option_map Switch o) (IsOfKind r)
-switch_is_of_kind r h None = tt
-switch_is_of_kind (rule.Switch default) h (Some b) = tt
-switch_is_of_kind (rule.Number range) h (Some b) = h
-switch_is_of_kind (rule.OptionalNumber default) h (Some b) = h
-switch_is_of_kind rule.Types h (Some b) = h
-
--- If the rule is one of a number, the value of a named number is of the rule's kind.
-pub number_is_of_kind : (r : Rule) → IsOfKind r (Number 0) → (o : Option ℕ) → IfSome (option_map Number o) (IsOfKind r)
-number_is_of_kind r h None = tt
-number_is_of_kind (rule.Switch default) h (Some n) = h
-number_is_of_kind (rule.Number range) h (Some n) = tt
-number_is_of_kind (rule.OptionalNumber default) h (Some n) = h
-number_is_of_kind rule.Types h (Some n) = h
-
--- If the rule is one of an optional number, the value of a named optional number is of the rule's kind.
-pub optional_number_is_of_kind : (r : Rule) → IsOfKind r (OptionalNumber None) → (o : Option (Option ℕ))
-    → IfSome (option_map OptionalNumber o) (IsOfKind r)
-optional_number_is_of_kind r h None = tt
-optional_number_is_of_kind (rule.Switch default) h (Some n) = h
-optional_number_is_of_kind (rule.Number range) h (Some n) = h
-optional_number_is_of_kind (rule.OptionalNumber default) h (Some n) = tt
-optional_number_is_of_kind rule.Types h (Some n) = h

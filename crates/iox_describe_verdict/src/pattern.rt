@@ -4,15 +4,12 @@ ghost use Rattle.std.specs.Prelude.{IsOk, IfOk, IsSome, IsTrue, refl};
 ghost use Rattle.iox_describe_settings.specs.DescribeBase.declared.pattern.MessagingPattern.{MessagingPattern};
 ghost use Rattle.iox_describe_settings.specs.DescribeBase.declared.pattern.MessagingPattern.TheVariants as messaging_pattern;
 ghost use Rattle.iox_describe_settings.specs.DescribeBase.Attributes.{Required, required};
-ghost use Rattle.iox_describe_settings.specs.DescribeBase.Hash.{service_hash_of};
 ghost use Rattle.iox_describe_settings.specs.declared.static_config.Settings.{Settings};
 ghost use Rattle.iox_describe_settings.specs.declared.static_config.Settings.TheVariants as settings_of;
-ghost use Rattle.iox_describe_settings.specs.Agreement.{Agreement, agreement, max_nodes_of, pattern_of, AreWithinLimits};
+ghost use Rattle.iox_describe_settings.specs.Agreement.{Agreement, max_nodes_of, pattern_of, AreWithinLimits};
 ghost use Rattle.iox_describe_settings.specs.Agreement.{HasNoRoomForHistory};
 ghost use Rattle.iox_describe_verdict.specs.Patterns as patterns;
 
-use iox_describe_base::attribute::AttributeSpecifier;
-use iox_describe_base::name::ServiceName;
 use iox_describe_base::pattern::MessagingPattern;
 use iox_describe_base::verifier::AttributeVerifier;
 use iox_describe_settings::description::Description;
@@ -147,17 +144,6 @@ pub trait Pattern: RequiredPattern {
     {
         Self::settings(*config).is_history_too_long()
     }
-}
-
-/// The description of a service of this pattern, with the hash that belongs to the pattern and the name.
-pub fn describe<P: Pattern>(
-    name: ServiceName,
-    config: P::StaticConfig,
-    attributes: AttributeSpecifier,
-) -> Description
-    ensures { result ≡ agreement name (service_hash_of P.pattern name) (P.settings config) attributes }
-{
-    Description::new(name, P::settings(config), attributes)
 }
 
 /// The settings of the described service, if it is of this pattern; else `None`.

@@ -1,15 +1,15 @@
 //! What an opener requires of a service, and the compatibility check of a description.
-ghost use Rattle.std.specs.Prelude.{◌≡◌, ◌∷◌, List, Bool, true, Option, None, Some, if◌then◌else◌, map, IfSome};
+ghost use Rattle.std.specs.Prelude.{◌≡◌, ◌∷◌, List, Bool, true, Option, None, Some, if◌then◌else◌, map, option_map};
 ghost use Rattle.iox_describe_verdict.specs.Earliest.{earlier, earliest, AreSame, rise};
 ghost use Rattle.iox_describe_settings.specs.declared.setting.SettingValue.{SettingValue};
-ghost use Rattle.iox_describe_settings.specs.Setting.{IsOfKind};
-ghost use Rattle.iox_describe_verdict.specs.Verdict.{first_unmet, is_met, meets, overlaid};
+ghost use Rattle.iox_describe_settings.specs.declared.setting.SettingValue.TheVariants.{Switch, Number, OptionalNumber};
+ghost use Rattle.iox_describe_verdict.specs.Verdict.{first_unmet, is_met};
 
 pub mod event;
 pub mod publish_subscribe;
 pub mod request_response;
 
-use iox_describe_settings::{PatternSetting, SettingValue};
+use iox_describe_settings::PatternSetting;
 
 /// A setting of a messaging pattern that a requirement may name.
 ///
@@ -27,30 +27,13 @@ trait RequiredSetting: PatternSetting {
     // the error if the service's settings don't meet that
     ghost error: { Self → Self.ClauseError };
 
-    /// The value that is asked of the setting, if it is named.
-    fn named(self, requirement: &Self::Requirement) -> Option<SettingValue>
-        ensures { result ≡ named self requirement.now };
+    /// Whether the value of the setting meets what is asked of it, if it is named.
+    fn is_met(self, requirement: &Self::Requirement, given: &Self::Config) -> bool
+        ensures { result ≡ is_met (named self requirement.now) (Self.value self given.now) };
 
     /// The error if the service's settings don't meet that.
     fn error(self) -> Self::ClauseError
         ensures { result ≡ error self };
-
-    // the asked value is of the setting's kind
-    ghost named_is_of_kind: { (setting : Self) (requirement : Self.Requirement)
-        → IfSome (named setting requirement) (IsOfKind (Self.rule setting)) };
-}
-
-/// The configuration after each named setting is changed to the asked value.
-fn asked<S: RequiredSetting>(requirement: &S::Requirement, config: S::Config) -> S::Config
-    ensures { result ≡ overlaid S.changed (λ setting. S.named setting requirement.now) S.all config }
-{
-    let mut config = config;
-    for setting in S::all() {
-        if let Some(value) = setting.named(requirement) {
-            setting.set(&mut config, value);
-        }
-    }
-    config
 }
 
 /// The error of the first clause that isn't met, among the one on the attributes and those on the settings, in the order of their errors.
@@ -88,7 +71,7 @@ fn earliest_unmet<S: RequiredSetting>(
 {
     let mut first = before;
     for setting in S::all() {
-        if !is_met(setting.named(requirement), setting.value(given)) {
+        if !setting.is_met(requirement, given) {
             first = Some(earlier(first, setting.error()));
         }
     }
@@ -105,27 +88,32 @@ fn earlier<E: Copy + Ord>(first: Option<E>, error: E) -> E
     }
 }
 
-/// Whether a value meets what is asked, if something is asked.
-fn is_met(asked: Option<SettingValue>, given: SettingValue) -> bool
-    ensures { result ≡ is_met asked given }
+/// Whether a switch equals the asked one, if one is asked.
+fn is_switch_met(asked: Option<bool>, given: bool) -> bool
+    ensures { result ≡ is_met (option_map Switch asked) (Switch given) }
 {
     match asked {
         None => true,
-        Some(asked) => meets(asked, given),
+        Some(asked) => asked == given,
     }
 }
 
-/// Whether a value meets what is asked: a number is at least the asked one, the asked types are compatible with the given ones, and a
-/// switch or an option is equal.
-fn meets(asked: SettingValue, given: SettingValue) -> bool
-    ensures { result ≡ meets asked given }
+/// Whether a number is at least the asked one, if one is asked.
+fn is_number_met(asked: Option<u64>, given: u64) -> bool
+    ensures { result ≡ is_met (option_map Number asked) (Number given) }
 {
-    match (asked, given) {
-        (SettingValue::Switch(asked), SettingValue::Switch(given)) => asked == given,
-        (SettingValue::Number(asked), SettingValue::Number(given)) => asked <= given,
-        (SettingValue::OptionalNumber(asked), SettingValue::OptionalNumber(given)) => asked
-            == given,
-        (SettingValue::Types(asked), SettingValue::Types(given)) => asked.is_compatible_to(&given),
-        _ => false,
+    match asked {
+        None => true,
+        Some(asked) => asked <= given,
+    }
+}
+
+/// Whether a number or none equals the asked one, if one is asked.
+fn is_optional_number_met(asked: Option<Option<u64>>, given: Option<u64>) -> bool
+    ensures { result ≡ is_met (option_map OptionalNumber asked) (OptionalNumber given) }
+{
+    match asked {
+        None => true,
+        Some(asked) => asked == given,
     }
 }

@@ -57,7 +57,7 @@ pub trait HubBuilder<P: Negotiated>: Sized {
 
     /// Creates the service, with no attributes except those that were asked for. See `create_with_attributes_in`.
     /// Example: `let factory = builder.create_in(alloc, &mut hub, Vec::new(alloc))?;`
-    fn create_in<T: Words + ZeroCopySend, U: Copy + ZeroCopySend, B: Drop, D: Drop>(
+    final fn create_in<T: Words + ZeroCopySend, U: Copy + ZeroCopySend, B: Drop, D: Drop>(
         self,
         alloc: Global,
         hub: &mut Hub<T, U, B, D>,
@@ -77,7 +77,12 @@ pub trait HubBuilder<P: Negotiated>: Sized {
     ///
     /// Refused with the errors of `ServiceBuilder::create_with_attributes`.
     /// Example: `let factory = builder.create_with_attributes_in(alloc, &attributes, &mut hub, Vec::new(alloc))?;`
-    fn create_with_attributes_in<T: Words + ZeroCopySend, U: Copy + ZeroCopySend, B: Drop, D: Drop>(
+    final fn create_with_attributes_in<
+        T: Words + ZeroCopySend,
+        U: Copy + ZeroCopySend,
+        B: Drop,
+        D: Drop,
+    >(
         self,
         alloc: Global,
         attributes: &AttributeSpecifier,
@@ -96,7 +101,7 @@ pub trait HubBuilder<P: Negotiated>: Sized {
 
     /// Opens the service if it meets the builder's requirement. See `open_with_attributes_in`.
     /// Example: `let factory = builder.open_in(alloc, &mut hub, Vec::new(alloc))?;`
-    fn open_in<T: Words + ZeroCopySend, U: Copy + ZeroCopySend, B: Drop, D: Drop>(
+    final fn open_in<T: Words + ZeroCopySend, U: Copy + ZeroCopySend, B: Drop, D: Drop>(
         self,
         alloc: Global,
         hub: &mut Hub<T, U, B, D>,
@@ -114,7 +119,12 @@ pub trait HubBuilder<P: Negotiated>: Sized {
     ///
     /// Refused with the errors of `ServiceBuilder::open_with_attributes`.
     /// Example: `let factory = builder.open_with_attributes_in(alloc, attributes, &mut hub, Vec::new(alloc))?;`
-    fn open_with_attributes_in<T: Words + ZeroCopySend, U: Copy + ZeroCopySend, B: Drop, D: Drop>(
+    final fn open_with_attributes_in<
+        T: Words + ZeroCopySend,
+        U: Copy + ZeroCopySend,
+        B: Drop,
+        D: Drop,
+    >(
         self,
         alloc: Global,
         attributes: AttributeVerifier,
@@ -133,7 +143,7 @@ pub trait HubBuilder<P: Negotiated>: Sized {
     /// Opens the service if it meets the builder's requirement, or creates it with the required pairs if it doesn't exist. See
     /// `open_or_create_with_attributes_in`.
     /// Example: `let factory = builder.open_or_create_in(alloc, &mut hub, Vec::new(alloc))?;`
-    fn open_or_create_in<T: Words + ZeroCopySend, U: Copy + ZeroCopySend, B: Drop, D: Drop>(
+    final fn open_or_create_in<T: Words + ZeroCopySend, U: Copy + ZeroCopySend, B: Drop, D: Drop>(
         self,
         alloc: Global,
         hub: &mut Hub<T, U, B, D>,
@@ -155,7 +165,7 @@ pub trait HubBuilder<P: Negotiated>: Sized {
     ///
     /// Refused with the errors of `ServiceBuilder::open_or_create_with_attributes`.
     /// Example: `let factory = builder.open_or_create_with_attributes_in(alloc, attributes, &mut hub, Vec::new(alloc))?;`
-    fn open_or_create_with_attributes_in<
+    final fn open_or_create_with_attributes_in<
         T: Words + ZeroCopySend,
         U: Copy + ZeroCopySend,
         B: Drop,

@@ -2,10 +2,9 @@
 ghost use Rattle.std.specs.Prelude.{◌≡◌};
 
 use crate::pattern::{Event, RequiredPattern};
-use crate::requirement::{RequiredSetting, asked, first_unmet};
+use crate::requirement::{RequiredSetting, first_unmet, is_number_met, is_optional_number_met};
 use iox_describe_base::verifier::AttributeVerifier;
 use iox_describe_settings::description::Description;
-use iox_describe_settings::setting::SettingValue;
 use iox_describe_settings::static_config::Settings;
 use iox_describe_settings::static_config::event::{Setting, StaticConfig};
 use std::alloc::{AllocError, Global};
@@ -121,7 +120,25 @@ impl RequiredPattern for Event {
         ensures over_the_list { result ≡ asked requirement.now }
         ensures fields { result ≡ asked_fields requirement.now }
     {
-        asked::<Setting>(requirement, StaticConfig::new())
+        let defaults = StaticConfig::new();
+        StaticConfig {
+            deadline: requirement.deadline.unwrap_or(defaults.deadline),
+            event_id_max_value: requirement
+                .event_id_max_value
+                .unwrap_or(defaults.event_id_max_value),
+            max_listeners: requirement.max_listeners.unwrap_or(defaults.max_listeners),
+            max_nodes: requirement.max_nodes.unwrap_or(defaults.max_nodes),
+            max_notifiers: requirement.max_notifiers.unwrap_or(defaults.max_notifiers),
+            notifier_created_event: requirement
+                .notifier_created_event
+                .unwrap_or(defaults.notifier_created_event),
+            notifier_dead_event: requirement
+                .notifier_dead_event
+                .unwrap_or(defaults.notifier_dead_event),
+            notifier_dropped_event: requirement
+                .notifier_dropped_event
+                .unwrap_or(defaults.notifier_dropped_event),
+        }
     }
 
     #[tactic(auto, unfolding(crate::specs::Verdict::unmet_clause))]
@@ -157,9 +174,6 @@ impl RequiredPattern for Event {
 }
 
 impl RequiredSetting for Setting {
-    ghost use Rattle.iox_describe_settings.specs.EventSettings.{rule};
-    ghost use Rattle.iox_describe_settings.specs.declared.static_config.event.Setting.TheVariants as setting;
-    ghost use Rattle.iox_describe_verdict.specs.Verdict.{number_is_of_kind, optional_number_is_of_kind};
     ghost use Rattle.iox_describe_verdict.specs.EventClauses.{error_of, named};
 
     type Requirement = Requirement;
@@ -170,22 +184,28 @@ impl RequiredSetting for Setting {
 
     ghost error = { error_of };
 
-    fn named(self, requirement: &Requirement) -> Option<SettingValue> {
+    fn is_met(self, requirement: &Requirement, given: &StaticConfig) -> bool {
         match self {
-            Setting::Deadline => requirement.deadline.map(SettingValue::OptionalNumber),
-            Setting::EventIdMaxValue => requirement.event_id_max_value.map(SettingValue::Number),
-            Setting::MaxListeners => requirement.max_listeners.map(SettingValue::Number),
-            Setting::MaxNodes => requirement.max_nodes.map(SettingValue::Number),
-            Setting::MaxNotifiers => requirement.max_notifiers.map(SettingValue::Number),
-            Setting::NotifierCreatedEvent => requirement
-                .notifier_created_event
-                .map(SettingValue::OptionalNumber),
-            Setting::NotifierDeadEvent => requirement
-                .notifier_dead_event
-                .map(SettingValue::OptionalNumber),
-            Setting::NotifierDroppedEvent => requirement
-                .notifier_dropped_event
-                .map(SettingValue::OptionalNumber),
+            Setting::Deadline => is_optional_number_met(requirement.deadline, given.deadline),
+            Setting::EventIdMaxValue => is_number_met(
+                requirement.event_id_max_value,
+                given.event_id_max_value,
+            ),
+            Setting::MaxListeners => is_number_met(requirement.max_listeners, given.max_listeners),
+            Setting::MaxNodes => is_number_met(requirement.max_nodes, given.max_nodes),
+            Setting::MaxNotifiers => is_number_met(requirement.max_notifiers, given.max_notifiers),
+            Setting::NotifierCreatedEvent => is_optional_number_met(
+                requirement.notifier_created_event,
+                given.notifier_created_event,
+            ),
+            Setting::NotifierDeadEvent => is_optional_number_met(
+                requirement.notifier_dead_event,
+                given.notifier_dead_event,
+            ),
+            Setting::NotifierDroppedEvent => is_optional_number_met(
+                requirement.notifier_dropped_event,
+                given.notifier_dropped_event,
+            ),
         }
     }
 
@@ -201,7 +221,4 @@ impl RequiredSetting for Setting {
             Setting::NotifierDroppedEvent => ClauseError::IncompatibleNotifierDroppedEvent,
         }
     }
-
-    ghost named_is_of_kind = { elim
-        [ setting.Deadline ↦ λ r. optional_number_is_of_kind (rule setting.Deadline) tt r.deadline | setting.EventIdMaxValue ↦ λ r. number_is_of_kind (rule setting.EventIdMaxValue) tt r.event_id_max_value | setting.MaxListeners ↦ λ r. number_is_of_kind (rule setting.MaxListeners) tt r.max_listeners | setting.MaxNodes ↦ λ r. number_is_of_kind (rule setting.MaxNodes) tt r.max_nodes | setting.MaxNotifiers ↦ λ r. number_is_of_kind (rule setting.MaxNotifiers) tt r.max_notifiers | setting.NotifierCreatedEvent ↦ λ r. optional_number_is_of_kind (rule setting.NotifierCreatedEvent) tt r.notifier_created_event | setting.NotifierDeadEvent ↦ λ r. optional_number_is_of_kind (rule setting.NotifierDeadEvent) tt r.notifier_dead_event | setting.NotifierDroppedEvent ↦ λ r. optional_number_is_of_kind (rule setting.NotifierDroppedEvent) tt r.notifier_dropped_event ] };
 }

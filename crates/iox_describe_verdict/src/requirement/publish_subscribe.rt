@@ -2,11 +2,10 @@
 ghost use Rattle.std.specs.Prelude.{◌≡◌};
 
 use crate::pattern::{PublishSubscribe, RequiredPattern};
-use crate::requirement::{RequiredSetting, asked, first_unmet};
+use crate::requirement::{RequiredSetting, first_unmet, is_number_met, is_switch_met};
 use iox_describe_base::message_type::MessageTypeDetails;
 use iox_describe_base::verifier::AttributeVerifier;
 use iox_describe_settings::description::Description;
-use iox_describe_settings::setting::SettingValue;
 use iox_describe_settings::static_config::Settings;
 use iox_describe_settings::static_config::publish_subscribe::{Setting, StaticConfig};
 use std::alloc::{AllocError, Global};
@@ -127,7 +126,30 @@ impl RequiredPattern for PublishSubscribe {
         ensures over_the_list { result ≡ asked requirement.now }
         ensures fields { result ≡ asked_fields requirement.now }
     {
-        asked::<Setting>(requirement, StaticConfig::new(requirement.types))
+        let defaults = StaticConfig::new(requirement.types);
+        StaticConfig {
+            enable_safe_overflow: requirement
+                .enable_safe_overflow
+                .unwrap_or(defaults.enable_safe_overflow),
+            history_size: requirement.history_size.unwrap_or(defaults.history_size),
+            max_nodes: requirement.max_nodes.unwrap_or(defaults.max_nodes),
+            max_publishers: requirement
+                .max_publishers
+                .unwrap_or(defaults.max_publishers),
+            max_subscribers: requirement
+                .max_subscribers
+                .unwrap_or(defaults.max_subscribers),
+            sequence_numbers: requirement
+                .sequence_numbers
+                .unwrap_or(defaults.sequence_numbers),
+            subscriber_max_borrowed_samples: requirement
+                .subscriber_max_borrowed_samples
+                .unwrap_or(defaults.subscriber_max_borrowed_samples),
+            subscriber_max_buffer_size: requirement
+                .subscriber_max_buffer_size
+                .unwrap_or(defaults.subscriber_max_buffer_size),
+            types: requirement.types,
+        }
     }
 
     #[tactic(auto, unfolding(crate::specs::Verdict::unmet_clause))]
@@ -164,9 +186,6 @@ impl RequiredPattern for PublishSubscribe {
 }
 
 impl RequiredSetting for Setting {
-    ghost use Rattle.iox_describe_settings.specs.PublishSubscribeSettings.{rule};
-    ghost use Rattle.iox_describe_settings.specs.declared.static_config.publish_subscribe.Setting.TheVariants as setting;
-    ghost use Rattle.iox_describe_verdict.specs.Verdict.{number_is_of_kind, switch_is_of_kind};
     ghost use Rattle.iox_describe_verdict.specs.PublishSubscribeClauses.{error_of, named};
 
     type Requirement = Requirement;
@@ -177,23 +196,35 @@ impl RequiredSetting for Setting {
 
     ghost error = { error_of };
 
-    fn named(self, requirement: &Requirement) -> Option<SettingValue> {
+    fn is_met(self, requirement: &Requirement, given: &StaticConfig) -> bool {
         match self {
-            Setting::EnableSafeOverflow => requirement
-                .enable_safe_overflow
-                .map(SettingValue::Switch),
-            Setting::HistorySize => requirement.history_size.map(SettingValue::Number),
-            Setting::MaxNodes => requirement.max_nodes.map(SettingValue::Number),
-            Setting::MaxPublishers => requirement.max_publishers.map(SettingValue::Number),
-            Setting::MaxSubscribers => requirement.max_subscribers.map(SettingValue::Number),
-            Setting::SequenceNumbers => requirement.sequence_numbers.map(SettingValue::Switch),
-            Setting::SubscriberMaxBorrowedSamples => requirement
-                .subscriber_max_borrowed_samples
-                .map(SettingValue::Number),
-            Setting::SubscriberMaxBufferSize => requirement
-                .subscriber_max_buffer_size
-                .map(SettingValue::Number),
-            Setting::Types => Some(SettingValue::Types(requirement.types)),
+            Setting::EnableSafeOverflow => is_switch_met(
+                requirement.enable_safe_overflow,
+                given.enable_safe_overflow,
+            ),
+            Setting::HistorySize => is_number_met(requirement.history_size, given.history_size),
+            Setting::MaxNodes => is_number_met(requirement.max_nodes, given.max_nodes),
+            Setting::MaxPublishers => is_number_met(
+                requirement.max_publishers,
+                given.max_publishers,
+            ),
+            Setting::MaxSubscribers => is_number_met(
+                requirement.max_subscribers,
+                given.max_subscribers,
+            ),
+            Setting::SequenceNumbers => is_switch_met(
+                requirement.sequence_numbers,
+                given.sequence_numbers,
+            ),
+            Setting::SubscriberMaxBorrowedSamples => is_number_met(
+                requirement.subscriber_max_borrowed_samples,
+                given.subscriber_max_borrowed_samples,
+            ),
+            Setting::SubscriberMaxBufferSize => is_number_met(
+                requirement.subscriber_max_buffer_size,
+                given.subscriber_max_buffer_size,
+            ),
+            Setting::Types => requirement.types.is_compatible_to(&given.types),
         }
     }
 
@@ -211,7 +242,4 @@ impl RequiredSetting for Setting {
             Setting::Types => ClauseError::IncompatibleTypes,
         }
     }
-
-    ghost named_is_of_kind = { elim
-        [ setting.EnableSafeOverflow ↦ λ r. switch_is_of_kind (rule setting.EnableSafeOverflow) tt r.enable_safe_overflow | setting.HistorySize ↦ λ r. number_is_of_kind (rule setting.HistorySize) tt r.history_size | setting.MaxNodes ↦ λ r. number_is_of_kind (rule setting.MaxNodes) tt r.max_nodes | setting.MaxPublishers ↦ λ r. number_is_of_kind (rule setting.MaxPublishers) tt r.max_publishers | setting.MaxSubscribers ↦ λ r. number_is_of_kind (rule setting.MaxSubscribers) tt r.max_subscribers | setting.SequenceNumbers ↦ λ r. switch_is_of_kind (rule setting.SequenceNumbers) tt r.sequence_numbers | setting.SubscriberMaxBorrowedSamples ↦ λ r. number_is_of_kind (rule setting.SubscriberMaxBorrowedSamples) tt r.subscriber_max_borrowed_samples | setting.SubscriberMaxBufferSize ↦ λ r. number_is_of_kind (rule setting.SubscriberMaxBufferSize) tt r.subscriber_max_buffer_size | setting.Types ↦ λ r. tt ] };
 }

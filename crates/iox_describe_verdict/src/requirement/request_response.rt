@@ -2,11 +2,10 @@
 ghost use Rattle.std.specs.Prelude.{◌≡◌};
 
 use crate::pattern::{RequestResponse, RequiredPattern};
-use crate::requirement::{RequiredSetting, asked, first_unmet};
+use crate::requirement::{RequiredSetting, first_unmet, is_number_met, is_switch_met};
 use iox_describe_base::message_type::MessageTypeDetails;
 use iox_describe_base::verifier::AttributeVerifier;
 use iox_describe_settings::description::Description;
-use iox_describe_settings::setting::SettingValue;
 use iox_describe_settings::static_config::Settings;
 use iox_describe_settings::static_config::request_response::{Setting, StaticConfig};
 use std::alloc::{AllocError, Global};
@@ -146,10 +145,35 @@ impl RequiredPattern for RequestResponse {
         ensures over_the_list { result ≡ asked requirement.now }
         ensures fields { result ≡ asked_fields requirement.now }
     {
-        asked::<Setting>(
-            requirement,
-            StaticConfig::new(requirement.request_types, requirement.response_types),
-        )
+        let defaults = StaticConfig::new(requirement.request_types, requirement.response_types);
+        StaticConfig {
+            enable_fire_and_forget_requests: requirement
+                .enable_fire_and_forget_requests
+                .unwrap_or(defaults.enable_fire_and_forget_requests),
+            enable_safe_overflow_for_requests: requirement
+                .enable_safe_overflow_for_requests
+                .unwrap_or(defaults.enable_safe_overflow_for_requests),
+            enable_safe_overflow_for_responses: requirement
+                .enable_safe_overflow_for_responses
+                .unwrap_or(defaults.enable_safe_overflow_for_responses),
+            max_active_requests_per_client: requirement
+                .max_active_requests_per_client
+                .unwrap_or(defaults.max_active_requests_per_client),
+            max_borrowed_responses_per_pending_response: requirement
+                .max_borrowed_responses_per_pending_response
+                .unwrap_or(defaults.max_borrowed_responses_per_pending_response),
+            max_clients: requirement.max_clients.unwrap_or(defaults.max_clients),
+            max_loaned_requests: requirement
+                .max_loaned_requests
+                .unwrap_or(defaults.max_loaned_requests),
+            max_nodes: requirement.max_nodes.unwrap_or(defaults.max_nodes),
+            max_response_buffer_size: requirement
+                .max_response_buffer_size
+                .unwrap_or(defaults.max_response_buffer_size),
+            max_servers: requirement.max_servers.unwrap_or(defaults.max_servers),
+            request_types: requirement.request_types,
+            response_types: requirement.response_types,
+        }
     }
 
     #[tactic(auto, unfolding(crate::specs::Verdict::unmet_clause))]
@@ -189,9 +213,6 @@ impl RequiredPattern for RequestResponse {
 }
 
 impl RequiredSetting for Setting {
-    ghost use Rattle.iox_describe_settings.specs.RequestResponseSettings.{rule};
-    ghost use Rattle.iox_describe_settings.specs.declared.static_config.request_response.Setting.TheVariants as setting;
-    ghost use Rattle.iox_describe_verdict.specs.Verdict.{number_is_of_kind, switch_is_of_kind};
     ghost use Rattle.iox_describe_verdict.specs.RequestResponseClauses.{error_of, named};
 
     type Requirement = Requirement;
@@ -202,32 +223,45 @@ impl RequiredSetting for Setting {
 
     ghost error = { error_of };
 
-    fn named(self, requirement: &Requirement) -> Option<SettingValue> {
+    fn is_met(self, requirement: &Requirement, given: &StaticConfig) -> bool {
         match self {
-            Setting::EnableFireAndForgetRequests => requirement
-                .enable_fire_and_forget_requests
-                .map(SettingValue::Switch),
-            Setting::EnableSafeOverflowForRequests => requirement
-                .enable_safe_overflow_for_requests
-                .map(SettingValue::Switch),
-            Setting::EnableSafeOverflowForResponses => requirement
-                .enable_safe_overflow_for_responses
-                .map(SettingValue::Switch),
-            Setting::MaxActiveRequestsPerClient => requirement
-                .max_active_requests_per_client
-                .map(SettingValue::Number),
-            Setting::MaxBorrowedResponsesPerPendingResponse => requirement
-                .max_borrowed_responses_per_pending_response
-                .map(SettingValue::Number),
-            Setting::MaxClients => requirement.max_clients.map(SettingValue::Number),
-            Setting::MaxLoanedRequests => requirement.max_loaned_requests.map(SettingValue::Number),
-            Setting::MaxNodes => requirement.max_nodes.map(SettingValue::Number),
-            Setting::MaxResponseBufferSize => requirement
-                .max_response_buffer_size
-                .map(SettingValue::Number),
-            Setting::MaxServers => requirement.max_servers.map(SettingValue::Number),
-            Setting::RequestTypes => Some(SettingValue::Types(requirement.request_types)),
-            Setting::ResponseTypes => Some(SettingValue::Types(requirement.response_types)),
+            Setting::EnableFireAndForgetRequests => is_switch_met(
+                requirement.enable_fire_and_forget_requests,
+                given.enable_fire_and_forget_requests,
+            ),
+            Setting::EnableSafeOverflowForRequests => is_switch_met(
+                requirement.enable_safe_overflow_for_requests,
+                given.enable_safe_overflow_for_requests,
+            ),
+            Setting::EnableSafeOverflowForResponses => is_switch_met(
+                requirement.enable_safe_overflow_for_responses,
+                given.enable_safe_overflow_for_responses,
+            ),
+            Setting::MaxActiveRequestsPerClient => is_number_met(
+                requirement.max_active_requests_per_client,
+                given.max_active_requests_per_client,
+            ),
+            Setting::MaxBorrowedResponsesPerPendingResponse => is_number_met(
+                requirement.max_borrowed_responses_per_pending_response,
+                given.max_borrowed_responses_per_pending_response,
+            ),
+            Setting::MaxClients => is_number_met(requirement.max_clients, given.max_clients),
+            Setting::MaxLoanedRequests => is_number_met(
+                requirement.max_loaned_requests,
+                given.max_loaned_requests,
+            ),
+            Setting::MaxNodes => is_number_met(requirement.max_nodes, given.max_nodes),
+            Setting::MaxResponseBufferSize => is_number_met(
+                requirement.max_response_buffer_size,
+                given.max_response_buffer_size,
+            ),
+            Setting::MaxServers => is_number_met(requirement.max_servers, given.max_servers),
+            Setting::RequestTypes => requirement
+                .request_types
+                .is_compatible_to(&given.request_types),
+            Setting::ResponseTypes => requirement
+                .response_types
+                .is_compatible_to(&given.response_types),
         }
     }
 
@@ -254,7 +288,4 @@ impl RequiredSetting for Setting {
             Setting::ResponseTypes => ClauseError::IncompatibleResponseType,
         }
     }
-
-    ghost named_is_of_kind = { elim
-        [ setting.EnableFireAndForgetRequests ↦ λ r. switch_is_of_kind (rule setting.EnableFireAndForgetRequests) tt r.enable_fire_and_forget_requests | setting.EnableSafeOverflowForRequests ↦ λ r. switch_is_of_kind (rule setting.EnableSafeOverflowForRequests) tt r.enable_safe_overflow_for_requests | setting.EnableSafeOverflowForResponses ↦ λ r. switch_is_of_kind (rule setting.EnableSafeOverflowForResponses) tt r.enable_safe_overflow_for_responses | setting.MaxActiveRequestsPerClient ↦ λ r. number_is_of_kind (rule setting.MaxActiveRequestsPerClient) tt r.max_active_requests_per_client | setting.MaxBorrowedResponsesPerPendingResponse ↦ λ r. number_is_of_kind (rule setting.MaxBorrowedResponsesPerPendingResponse) tt r.max_borrowed_responses_per_pending_response | setting.MaxClients ↦ λ r. number_is_of_kind (rule setting.MaxClients) tt r.max_clients | setting.MaxLoanedRequests ↦ λ r. number_is_of_kind (rule setting.MaxLoanedRequests) tt r.max_loaned_requests | setting.MaxNodes ↦ λ r. number_is_of_kind (rule setting.MaxNodes) tt r.max_nodes | setting.MaxResponseBufferSize ↦ λ r. number_is_of_kind (rule setting.MaxResponseBufferSize) tt r.max_response_buffer_size | setting.MaxServers ↦ λ r. number_is_of_kind (rule setting.MaxServers) tt r.max_servers | setting.RequestTypes ↦ λ r. tt | setting.ResponseTypes ↦ λ r. tt ] };
 }
