@@ -88,7 +88,8 @@ module _ {T U B D : Type 0} (payload user_header : Detail) (types : MessageTypeD
       (table after : FactoryTable) (old new : Hub T U B D) (answer : Option (Result ℕ Refusal))
       → OpensNumbered is_node payload user_header types asked attributes steps table old answer after new → ChangesOne table after
   open_changes false asked attributes steps table after old new answer opens = same_changes table after opens.1
-  open_changes true asked attributes steps table after old new answer (prepared, roomier, reply, prepares, opens, is) =
+  open_changes true asked attributes steps table after old new answer (inl (told, finds, (is, same, hub))) = same_changes table after same
+  open_changes true asked attributes steps table after old new answer (inr (prepared, roomier, reply, prepares, opens, is)) =
       stays_and_changes table roomier after (prepared_same asked.name types steps table roomier prepared prepares)
       (open_prepared prepared asked attributes roomier after old new reply opens)
 
@@ -113,7 +114,9 @@ module _ {T U B D : Type 0} (payload user_header : Detail) (types : MessageTypeD
       (table after : FactoryTable) (old new : Hub T U B D) (answer : Option (Result ℕ Refusal))
       → EitherNumbered is_node payload user_header types asked attributes steps table old answer after new → ChangesOne table after
   either_changes false asked attributes steps table after old new answer either = same_changes table after either.1
-  either_changes true asked attributes steps table after old new answer (prepared, roomier, reply, prepares, either, is) =
+  either_changes true asked attributes steps table after old new answer (inl (refused, told, fit, finds, (is, same, hub)))
+      = same_changes table after same
+  either_changes true asked attributes steps table after old new answer (inr (prepared, roomier, reply, prepares, either, is)) =
       stays_and_changes table roomier after (prepared_same asked.name types steps table roomier prepared prepares)
       (either_prepared prepared asked attributes roomier after old new reply either)
 

@@ -1,6 +1,6 @@
 -- Factories are found under the numbers that are answered, until they are closed.
 use Rattle.std.proofs.Common.{◌≡◌, ◌∙◌, ℕ, Bool, true, false, List, Option, None, Some, Result, Ok, Err, option_map, refl, sym, ap}
-use Rattle.std.proofs.Common.{arith}
+use Rattle.std.proofs.Common.{arith, inl, inr}
 use Rattle.std.specs.Prelude.{nat_eq}
 use Rattle.std.specs.Map.{lookup}
 use Rattle.std.specs.declared.alloc.AllocError.{AllocError}
@@ -154,7 +154,9 @@ module _ {T U B D : Type 0} (payload user_header : Detail) (types : MessageTypeD
       after new → IsFound (pattern_of asked.options) table answer after
   opened false asked attributes steps table old answer after new rises (is, same, hub)
       = skipped_found (pattern_of asked.options) table after answer is same
-  opened true asked attributes steps table old answer after new rises (prepared, roomier, reply, prepares, opens, is) =
+  opened true asked attributes steps table old answer after new rises (inl (told, finds, (is, same, hub))) =
+      rw is (refused_found (pattern_of asked.options) told table after (Err told) refl same)
+  opened true asked attributes steps table old answer after new rises (inr (prepared, roomier, reply, prepares, opens, is)) =
       answered_found (pattern_of asked.options) table roomier after reply answer
       (prepared_rises asked.name types steps table roomier prepared prepares) rises is
       (λ rises. open_prepared prepared asked attributes roomier after old new reply rises opens)
@@ -185,7 +187,9 @@ module _ {T U B D : Type 0} (payload user_header : Detail) (types : MessageTypeD
       after new → IsFound (pattern_of asked.options) table answer after
   opened_or_created false asked attributes steps table old answer after new rises (is, same, hub)
       = skipped_found (pattern_of asked.options) table after answer is same
-  opened_or_created true asked attributes steps table old answer after new rises (prepared, roomier, reply, prepares, either, is) =
+  opened_or_created true asked attributes steps table old answer after new rises (inl (refused, told, fit, finds, (is, same, hub))) =
+      rw is (refused_found (pattern_of asked.options) told table after (Err told) refl same)
+  opened_or_created true asked attributes steps table old answer after new rises (inr (prepared, roomier, reply, prepares, either, is)) =
       answered_found (pattern_of asked.options) table roomier after reply answer
       (prepared_rises asked.name types steps table roomier prepared prepares) rises is
       (λ rises. either_prepared prepared asked attributes roomier after old new reply rises either)

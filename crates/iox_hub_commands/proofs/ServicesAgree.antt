@@ -491,8 +491,10 @@ module _ {T U B D : Type 0} where
       → AreOfOneAgreement after new
   open_agrees false payload user_header types asked attributes steps table after old new answer does
       = same_agrees table after old new (ap (λ t. t.entries) does.1) does.2
+  open_agrees true payload user_header types asked attributes steps table after old new answer (inl (told, finds, (is, same, hub)))
+      = same_agrees table after old new (ap (λ t. t.entries) same) hub
   open_agrees true payload user_header types asked attributes steps table after old new answer
-      (prepared, roomier, reply, prepares, does, is) = λ are.
+      (inr (prepared, roomier, reply, prepares, does, is)) = λ are.
       open_prepared prepared payload user_header types asked attributes roomier after old new reply does
       (prepared_agrees asked.name types steps table roomier prepared old prepares are)
 
@@ -528,7 +530,9 @@ module _ {T U B D : Type 0} where
   either_agrees false payload user_header types asked attributes steps table after old new answer does
       = same_agrees table after old new (ap (λ t. t.entries) does.1) does.2
   either_agrees true payload user_header types asked attributes steps table after old new answer
-      (prepared, roomier, reply, prepares, does, is) = λ are.
+      (inl (refused, told, fit, finds, (is, same, hub))) = same_agrees table after old new (ap (λ t. t.entries) same) hub
+  either_agrees true payload user_header types asked attributes steps table after old new answer
+      (inr (prepared, roomier, reply, prepares, does, is)) = λ are.
       either_prepared prepared payload user_header types asked attributes roomier after old new reply does
       (prepared_agrees asked.name types steps table roomier prepared old prepares are)
 

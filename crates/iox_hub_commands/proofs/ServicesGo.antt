@@ -113,7 +113,10 @@ module _ {T U B D : Type 0} (Goes : OpenServices T U B D → OpenServices T U B 
       (answer : Option (Result ℕ Refusal))
       → OpensNumbered is_node payload user_header types asked attributes steps table old answer after new → Goes old.services new.services
   open_go false payload user_header types asked attributes steps table after old new answer opens = none old new opens.2
-  open_go true payload user_header types asked attributes steps table after old new answer (prepared, roomier, reply, prepares, opens, is) =
+  open_go true payload user_header types asked attributes steps table after old new answer (inl (told, finds, (is, same, hub)))
+      = none old new hub
+  open_go true payload user_header types asked attributes steps table after old new answer
+      (inr (prepared, roomier, reply, prepares, opens, is)) =
       open_prepared prepared payload user_header types asked attributes roomier after old new reply opens
 
   either_as : (named : ServiceOptions) (payload user_header : Detail) (types : MessageTypeDetails) (node : ℕ) (name : List ℕ)
@@ -140,7 +143,9 @@ module _ {T U B D : Type 0} (Goes : OpenServices T U B D → OpenServices T U B 
       → EitherNumbered is_node payload user_header types asked attributes steps table old answer after new → Goes old.services new.services
   either_go false payload user_header types asked attributes steps table after old new answer either = none old new either.2
   either_go true payload user_header types asked attributes steps table after old new answer
-      (prepared, roomier, reply, prepares, either, is) =
+      (inl (refused, told, fit, finds, (is, same, hub))) = none old new hub
+  either_go true payload user_header types asked attributes steps table after old new answer
+      (inr (prepared, roomier, reply, prepares, either, is)) =
       either_prepared prepared payload user_header types asked attributes roomier after old new reply either
 
   one_less_at : (number : ℕ) (hub : Hub T U B D) (last : Bool) (fewer less : Hub T U B D)

@@ -30,7 +30,7 @@ use Rattle.iox_negotiate_table.specs.Stepped.{SteppedSight}
 use Rattle.iox_negotiate_table.specs.declared.step.ForeignStep.{ForeignStep}
 use Rattle.iox_hub_commands.specs.Asking.{hash_of, agreed_of}
 use Rattle.iox_hub_commands.specs.Refusing.{IsRefusedFirst, IsUncreated, create_refused, first_look}
-use Rattle.iox_hub_commands.specs.ServicesNumbering.{Prepares, GetsNumber, IsSkipped, IsRefusedWith}
+use Rattle.iox_hub_commands.specs.ServicesNumbering.{Prepares, GetsNumber, IsRefusedAtOnce, IsSkipped, IsRefusedWith}
 use Rattle.iox_hub_commands.specs.ServicesTables.{FactoryTable}
 use Rattle.iox_hub_commands.specs.declared.services.asked.ServiceAsked.{ServiceAsked}
 
@@ -80,7 +80,7 @@ CreatesPrepared (Ok lists) payload user_header types asked attributes table old 
 abbrev pub CreatesUnlessRefused : {T U B D : Type 0} → Option CreateFailure → Detail → Detail → MessageTypeDetails → ServiceAsked
     → List Attribute → List StepBefore → FactoryTable → Hub T U B D → Option (Result ℕ Refusal) → FactoryTable → Hub T U B D → Type 0
 CreatesUnlessRefused (Some failure) payload user_header types asked attributes steps table old answer after new
-    = (answer ≡ Some (Err (create_refused asked.options failure))) × (after ≡ table) × (new ≡ old)
+    = IsRefusedAtOnce (create_refused asked.options failure) table old answer after new
 CreatesUnlessRefused None payload user_header types asked attributes steps table old answer after new =
     (prepared : Result (List (List ForeignStep)) AllocError) × (roomier : FactoryTable) × (reply : Result ℕ Refusal)
     × Prepares asked.name types steps table prepared roomier
@@ -88,7 +88,8 @@ CreatesUnlessRefused None payload user_header types asked attributes steps table
 
 -- The service that is asked for is created with these attributes, with these actions of other nodes before the storage operations, and its
 -- factory gets a number. The creation is refused before anything is allocated if the settings are impossible; or if they are possible and
--- the first lookup finds that the service exists. Otherwise the creation is carried out. Nothing happens if the node wasn't made.
+-- the first lookup finds that the service exists, or that another node is about to create it. Otherwise the creation is carried out.
+-- Nothing happens if the node wasn't made.
 abbrev pub CreatesNumbered : {T U B D : Type 0} → Bool → Detail → Detail → MessageTypeDetails → ServiceAsked → List Attribute
     → List StepBefore → FactoryTable → Hub T U B D → Option (Result ℕ Refusal) → FactoryTable → Hub T U B D → Type 0
 CreatesNumbered false payload user_header types asked attributes steps table old answer after new = IsSkipped table old answer after new

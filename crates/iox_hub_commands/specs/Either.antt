@@ -1,5 +1,5 @@
 -- How a service is opened or created as options ask, and its factory gets a number.
-use Rattle.std.specs.Prelude.{ℕ, ◌≡◌, Bool, true, false, List, Option, Some, Result, Ok, Err}
+use Rattle.std.specs.Prelude.{ℕ, ◌≡◌, ◌⊎◌, Bool, true, false, List, Option, Some, Result, Ok, Err}
 use Rattle.std.specs.declared.alloc.AllocError.{AllocError}
 use Rattle.iox_command.specs.declared.refusal.Refusal.{Refusal}
 use Rattle.iox_command.specs.declared.refusal.Refusal.TheVariants as refusal
@@ -33,12 +33,15 @@ use Rattle.iox_command.specs.NegotiateBase.declared.errors.request_response.Requ
     request_response_unopened
 use Rattle.iox_command.specs.NegotiateBase.declared.errors.request_response.RequestResponseOpenOrCreateError.TheVariants as
     request_response_either
+use Rattle.iox_command.specs.NegotiateBase.declared.failure.CreateFailure.{CreateFailure}
 use Rattle.iox_command.specs.NegotiateBase.declared.failure.OpenOrCreateFailure.{OpenOrCreateFailure}
+use Rattle.iox_machine.specs.Asked.{settings_of}
 use Rattle.iox_negotiate_table.specs.Stepped.{SteppedSight}
 use Rattle.iox_negotiate_table.specs.declared.step.ForeignStep.{ForeignStep}
 use Rattle.iox_hub_commands.specs.Asked.{required_event, required_publish_subscribe, required_request_response}
 use Rattle.iox_hub_commands.specs.Asking.{agreed_of, hash_of}
-use Rattle.iox_hub_commands.specs.ServicesNumbering.{Prepares, GetsNumber, IsSkipped, IsRefusedWith}
+use Rattle.iox_hub_commands.specs.Refusing.{IsUncreated, either_told, first_look}
+use Rattle.iox_hub_commands.specs.ServicesNumbering.{Prepares, GetsNumber, IsRefusedAtOnce, IsSkipped, IsRefusedWith}
 use Rattle.iox_hub_commands.specs.ServicesTables.{FactoryTable}
 use Rattle.iox_hub_commands.specs.declared.services.asked.ServiceAsked.{ServiceAsked}
 
@@ -91,11 +94,15 @@ EitherPrepared (Ok lists) payload user_header types asked attributes table old a
     = EitherAs asked.options payload user_header types asked.node asked.name attributes lists table old answer after new
 
 -- The service that is asked for is opened if it has these attributes, or created with the required pairs, with these actions of other nodes
--- before the storage operations, and its factory gets a number. Nothing happens if the node wasn't made.
+-- before the storage operations, and its factory gets a number. Or the call is refused at once, since its first lookup decides it: the
+-- service doesn't exist, and can't be created with these settings; or another node is about to create it. Nothing happens if the node
+-- wasn't made.
 abbrev pub EitherNumbered : {T U B D : Type 0} → Bool → Detail → Detail → MessageTypeDetails → ServiceAsked → Required → List StepBefore
     → FactoryTable → Hub T U B D → Option (Result ℕ Refusal) → FactoryTable → Hub T U B D → Type 0
 EitherNumbered false payload user_header types asked attributes steps table old answer after new = IsSkipped table old answer after new
 EitherNumbered true payload user_header types asked attributes steps table old answer after new =
-    (prepared : Result (List (List ForeignStep)) AllocError) × (roomier : FactoryTable) × (reply : Result ℕ Refusal)
+    ((refused : Option CreateFailure) × (told : Refusal) × IsUncreated (settings_of types asked.options) refused
+    × (either_told asked.options refused (first_look asked steps old) ≡ Some told) × IsRefusedAtOnce told table old answer after new)
+    ⊎ ((prepared : Result (List (List ForeignStep)) AllocError) × (roomier : FactoryTable) × (reply : Result ℕ Refusal)
     × Prepares asked.name types steps table prepared roomier
-    × EitherPrepared prepared payload user_header types asked attributes roomier old reply after new × (answer ≡ Some reply)
+    × EitherPrepared prepared payload user_header types asked attributes roomier old reply after new × (answer ≡ Some reply))

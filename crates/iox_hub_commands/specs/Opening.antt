@@ -1,5 +1,5 @@
 -- How a service is opened as options ask, and its factory gets a number.
-use Rattle.std.specs.Prelude.{ℕ, ◌≡◌, Bool, true, false, List, Option, Some, Result, Ok, Err}
+use Rattle.std.specs.Prelude.{ℕ, ◌≡◌, ◌⊎◌, Bool, true, false, List, Option, Some, Result, Ok, Err}
 use Rattle.std.specs.declared.alloc.AllocError.{AllocError}
 use Rattle.iox_command.specs.declared.refusal.Refusal.{Refusal}
 use Rattle.iox_command.specs.declared.refusal.Refusal.TheVariants as refusal
@@ -27,7 +27,8 @@ use Rattle.iox_command.specs.NegotiateBase.declared.errors.request_response.Requ
 use Rattle.iox_negotiate_table.specs.declared.step.ForeignStep.{ForeignStep}
 use Rattle.iox_hub_commands.specs.Asked.{required_event, required_publish_subscribe, required_request_response}
 use Rattle.iox_hub_commands.specs.Asking.{hash_of}
-use Rattle.iox_hub_commands.specs.ServicesNumbering.{Prepares, GetsNumber, IsSkipped, IsRefusedWith}
+use Rattle.iox_hub_commands.specs.Refusing.{first_look, open_told}
+use Rattle.iox_hub_commands.specs.ServicesNumbering.{Prepares, GetsNumber, IsRefusedAtOnce, IsSkipped, IsRefusedWith}
 use Rattle.iox_hub_commands.specs.ServicesTables.{FactoryTable}
 use Rattle.iox_hub_commands.specs.declared.services.asked.ServiceAsked.{ServiceAsked}
 
@@ -65,11 +66,14 @@ OpensPrepared (Ok lists) payload user_header types asked attributes table old an
     = OpensAs asked.options payload user_header types asked.node asked.name attributes lists table old answer after new
 
 -- The service that is asked for is opened if it has these attributes, with these actions of other nodes before the storage operations, and
--- its factory gets a number. Nothing happens if the node wasn't made.
+-- its factory gets a number. Or the opening is refused at once, since its first lookup decides it: the service doesn't exist, or another
+-- node is about to create it. Nothing happens if the node wasn't made.
 abbrev pub OpensNumbered : {T U B D : Type 0} → Bool → Detail → Detail → MessageTypeDetails → ServiceAsked → Required → List StepBefore
     → FactoryTable → Hub T U B D → Option (Result ℕ Refusal) → FactoryTable → Hub T U B D → Type 0
 OpensNumbered false payload user_header types asked attributes steps table old answer after new = IsSkipped table old answer after new
 OpensNumbered true payload user_header types asked attributes steps table old answer after new =
-    (prepared : Result (List (List ForeignStep)) AllocError) × (roomier : FactoryTable) × (reply : Result ℕ Refusal)
+    ((told : Refusal) × (open_told asked.options (first_look asked steps old) ≡ Some told)
+    × IsRefusedAtOnce told table old answer after new)
+    ⊎ ((prepared : Result (List (List ForeignStep)) AllocError) × (roomier : FactoryTable) × (reply : Result ℕ Refusal)
     × Prepares asked.name types steps table prepared roomier
-    × OpensPrepared prepared payload user_header types asked attributes roomier old reply after new × (answer ≡ Some reply)
+    × OpensPrepared prepared payload user_header types asked attributes roomier old reply after new × (answer ≡ Some reply))

@@ -80,12 +80,19 @@ create_told named None (Some state.Locked) = Some (create_refused named uncreate
 create_told named None (Some state.Described) = Some (create_refused named uncreated.AlreadyExists)
 create_told named None found = None
 
+-- Why a creation with possible settings is refused by what its first lookup found: the service exists, or another node is about to create
+-- it.
+abbrev pub IsInTheWay : Option HashState → CreateFailure → Type 0
+IsInTheWay found failure =
+    ((found ≡ Some state.Described) × (failure ≡ uncreated.AlreadyExists))
+    ⊎ ((found ≡ Some state.Locked) × (failure ≡ uncreated.HangsInCreation))
+
 -- Why the creation is refused before anything is allocated: the settings are impossible; or they are possible, and the first lookup finds
--- that the service exists. None exactly if the settings are possible and the first lookup doesn't find that the service exists.
+-- that the service exists, or that another node is about to create it. If it is None, the settings are possible, and the first lookup
+-- doesn't find that the service exists.
 abbrev pub IsRefusedFirst : Settings → Option HashState → Option CreateFailure → Type 0
 IsRefusedFirst settings found (Some failure) =
-    IsUncreated settings (Some failure)
-    ⊎ (IsUncreated settings None × (found ≡ Some state.Described) × (failure ≡ uncreated.AlreadyExists))
+    IsUncreated settings (Some failure) ⊎ (IsUncreated settings None × IsInTheWay found failure)
 IsRefusedFirst settings found None = IsUncreated settings None × (found ≡ Some state.Described → ⊥)
 
 -- Why nothing is opened or created, if the first lookup decides it: the service doesn't exist, and can't be created with these settings; or

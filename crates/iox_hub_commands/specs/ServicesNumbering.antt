@@ -1,5 +1,5 @@
 -- How a factory gets a number, and what is prepared before the first storage operation.
-use Rattle.std.specs.Prelude.{ℕ, ◌≡◌, ◌<◌, ◌≤◌, ◌⊎◌, List, [], length, Option, None, Result, Ok, Err}
+use Rattle.std.specs.Prelude.{ℕ, ◌≡◌, ◌<◌, ◌≤◌, ◌⊎◌, List, [], length, Option, None, Some, Result, Ok, Err}
 use Rattle.std.specs.List.{AllByRecursion}
 use Rattle.std.specs.declared.alloc.AllocError.{AllocError}
 use Rattle.iox_command.specs.declared.refusal.Refusal.{Refusal}
@@ -46,6 +46,10 @@ GetsNumber {H} {E} pattern refusal opens table old answer after new = (opened : 
 -- Nothing happens, and nothing is answered.
 abbrev pub IsSkipped : {H A : Type 0} → FactoryTable → H → Option A → FactoryTable → H → Type 0
 IsSkipped table old answer after new = (answer ≡ None) × (after ≡ table) × (new ≡ old)
+
+-- The call is refused at once for this reason, and nothing else happens.
+abbrev pub IsRefusedAtOnce : {H : Type 0} → Refusal → FactoryTable → H → Option (Result ℕ Refusal) → FactoryTable → H → Type 0
+IsRefusedAtOnce refusal table old answer after new = (answer ≡ Some (Err refusal)) × (after ≡ table) × (new ≡ old)
 
 -- A refusal is answered, and nothing else happens.
 abbrev pub IsRefusedWith : {H : Type 0} → Refusal → FactoryTable → H → Result ℕ Refusal → FactoryTable → H → Type 0

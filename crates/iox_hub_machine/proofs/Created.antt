@@ -2,7 +2,7 @@
 use Rattle.std.proofs.Common.{◌≡◌, ◌+◌, ◌&&◌, ℕ, Bool, true, false, List, [], ◌∷◌, Option, None, Some, Result, Ok, Err, length}
 use Rattle.std.proofs.Common.{inl, inr, refl, sym, ap, subst, ◌∙◌, arith}
 use Rattle.std.specs.List.{AllByRecursion, IsAmong}
-use Rattle.std.specs.Prelude.{nat_le, MatchBool, MatchOption}
+use Rattle.std.specs.Prelude.{nat_le, MatchBool}
 use Rattle.std.specs.declared.alloc.AllocError.{AllocError}
 use Rattle.iox_command.specs.NegotiateBase.DescribeBase.declared.attribute.Attribute.{Attribute}
 use Rattle.iox_command.specs.NegotiateBase.DescribeBase.declared.message_type.MessageTypeDetails.{MessageTypeDetails}
@@ -29,11 +29,11 @@ use Rattle.iox_domain.specs.declared.ports.service_ports.ServicePorts.{ServicePo
 use Rattle.iox_domain_machine.specs.Naming.{Naming}
 use Rattle.iox_hub_base.proofs.SameTable.{went-keeps}
 use Rattle.iox_hub_base.specs.Hubs.{is_node}
-use Rattle.iox_hub_base.specs.declared.hub.HashState.TheVariants as lying
+use Rattle.iox_hub_base.specs.declared.hub.HashState.{HashState}
 use Rattle.iox_hub_commands.specs.Asking.{agreed_of, hash_of}
 use Rattle.iox_hub_commands.specs.CommandSteps as hub
 use Rattle.iox_hub_commands.specs.Creating.{CreatesAgreed, CreatesAs, CreatesNumbered, CreatesPrepared, create_lacking}
-use Rattle.iox_hub_commands.specs.Refusing.{IsUncreated, create_refused, first_look}
+use Rattle.iox_hub_commands.specs.Refusing.{IsInTheWay, IsUncreated, create_refused, first_look}
 use Rattle.iox_hub_commands.specs.Replies.{factory_reply}
 use Rattle.iox_hub_commands.specs.ServicesNumbering.{GetsNumber, IsRefusedWith, Prepares}
 use Rattle.iox_hub_commands.specs.ServicesTables.{FactoryTable, SameNumbers}
@@ -44,7 +44,8 @@ use Rattle.iox_hub_machine.proofs.EnteredStands.{stands_entered}
 use Rattle.iox_hub_machine.proofs.Entering.{created_enters, uncreated_keeps}
 use Rattle.iox_hub_machine.proofs.FittingThen.{FitsHere, new_fits}
 use Rattle.iox_hub_machine.proofs.Formed.{AreMade, formed_so, listed_so}
-use Rattle.iox_hub_machine.proofs.FoundStanding.{described_so, look_finds, refuses_to_create, same_phase}
+use Rattle.iox_hub_machine.proofs.AtOnce.{at_once}
+use Rattle.iox_hub_machine.proofs.FoundStanding.{by_some, found_so, look_finds, refuses_to_create}
 use Rattle.iox_hub_machine.proofs.Skipping.{by_none, skipped_matches, stands_still}
 use Rattle.iox_hub_machine.specs.CreateLaws.{CreateMatches}
 use Rattle.iox_hub_machine.specs.OpenLaws.{HasNumbersFor}
@@ -100,10 +101,6 @@ refusal_is : (named : ServiceOptions) (why : CreateFailure) → create_refused n
 refusal_is (options.PublishSubscribe named) why = publish-subscribe-create-told named why
 refusal_is (options.Event named) why = event-create-told named why
 refusal_is (options.RequestResponse named) why = request-response-create-told named why
-
--- what is done where this is found
-by_some : {V : Type 0} (P : Type 0) (Q : V → Type 0) (found : Option V) (v : V) → found ≡ Some v → Q v → MatchOption found P Q
-by_some P Q found v is q = subst (λ o. MatchOption o P Q) (sym is) q
 
 -- what is done where a test passes
 by_true : (P Q : Type 0) (b : Bool) → b ≡ true → P → MatchBool b P Q
@@ -243,33 +240,27 @@ module _ {T U B D : Type 0} (variant : TypeVariant) (terms : Terms T U B D) wher
     StepsTo answer = hub.Step (record terms_so { is_default = choices.is_default }) (command.Create node name named attributes steps) old
         (Ok answer) new
 
-    -- where the first lookup finds the service the machine refuses, too
-    standing_so : (failure : CreateFailure) → failure ≡ uncreated.AlreadyExists
-        → first_look (record { node = node; name = name; options = named }) steps old.hub ≡ Some lying.Described
+    -- where the first lookup finds what is in the way the machine refuses, too
+    standing_so : (failure : CreateFailure)
+        → IsInTheWay (first_look (record { node = node; name = name; options = named }) steps old.hub) failure
         → IsUncreated (settings_of types named) None → new.hub ≡ old.hub → new.factories.made ≡ old.factories.made
         → new.made ≡ old.made → Replied (factory_reply (Some (Err (create_refused named failure))))
-    standing_so failure is finds fits still same same_made =
-        let it = look_finds (record { node = node; name = name; options = named }) steps old.hub lying.Described finds in
-        record {
-          taken_then = taken;
-          naming_then = naming;
-          order_then = order;
-          after = state;
-          came = inr (
-            Err uncreated.AlreadyExists,
-            record { phase = state.phases (pattern_of named) name; accesses = 1 },
-            refuses_to_create types (pattern_of named) steps (Own node) agreed_on (state.phases (pattern_of named) name)
-                (described_so (pattern_of named) name old.hub.table (state.phases (pattern_of named) name)
-                (taken (pattern_of named) name) (stands.table.phases (pattern_of named) name asked).lies it.1) it.0
-                (unfit-is types named None fits),
-            (
-              ap (λ (why : Refusal). factory_reply {T = T} (Some (Err why)))
-                  (refusal_is named failure ∙ ap (create_refusal named) is),
-              sym (same_phase (pattern_of named) name state),
-            ),
-          );
-          stands_then = stands_still terms_so choices names taken naming order old new state stands still same same_made;
-        }
+    standing_so failure way fits still same same_made =
+        among (first_look (record { node = node; name = name; options = named }) steps old.hub) refl way
+      where
+        among : (found : Option HashState) → first_look (record { node = node; name = name; options = named }) steps old.hub ≡ found
+            → IsInTheWay found failure → Replied (factory_reply (Some (Err (create_refused named failure))))
+        among None finds (inl (is, told)) = absurd cc
+        among None finds (inr (is, told)) = absurd cc
+        among (Some it) finds so =
+            let (none, is) = look_finds (record { node = node; name = name; options = named }) steps old.hub it finds in
+            let stands_so = found_so (pattern_of named) name old.hub.table (state.phases (pattern_of named) name)
+            (taken (pattern_of named) name) (stands.table.phases (pattern_of named) name asked).lies in
+            at_once terms choices names own (pattern_of named) name asked taken naming order node old new state stands Calls
+            (create_refusal named) (λ is_new. uncreated.OutOfMemory) failure (create_refused named failure) (refusal_is named failure)
+            (refuses_to_create types (pattern_of named) steps (Own node) agreed_on (state.phases (pattern_of named) name) failure
+            (subst (λ (s : HashState). IsInTheWay (Some s) failure) (sym is ∙ stands_so) so) none (unfit-is types named None fits))
+            still same same_made
 
     -- where it isn't refused first, the machine goes on as the call does
     pub creation_followed : is_node node old.hub.nodes ≡ true → IsUncreated (settings_of types named) None
@@ -308,8 +299,8 @@ module _ {T U B D : Type 0} (variant : TypeVariant) (terms : Terms T U B D) wher
           ));
       stands = stands_still terms_so choices names taken naming order old new state stands still same same_made;
     }
-    by_node true is made (Some failure, inr (fits, finds, told), (made_is, same, still)) same_made answer replied does =
-        let it = standing_so failure told finds fits still same same_made in
+    by_node true is made (Some failure, inr (fits, way), (made_is, same, still)) same_made answer replied does =
+        let it = standing_so failure way fits still same same_made in
         record {
           taken = it.taken_then;
           naming = it.naming_then;

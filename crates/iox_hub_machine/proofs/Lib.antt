@@ -93,6 +93,7 @@ pub mod Verdicts
 pub mod Answered
 pub mod EnteredStands
 mod FoundStanding
+mod AtOnce
 pub mod Created
 pub mod FewHeld
 pub mod Openings

@@ -394,14 +394,16 @@ module _ {T U B D : Type 0} where
         → OpensNumbered is_node payload user_header types asked attributes steps table old answer after new
         → TakesFew (most_taken (length steps)) old new
     open_takes false attributes answer opens = takes_none _ old new opens.2
-    open_takes true attributes answer (prepared, roomier, reply, prepares, opens, is) =
+    open_takes true attributes answer (inl (told, finds, (is, same, still))) = takes_none _ old new still
+    open_takes true attributes answer (inr (prepared, roomier, reply, prepares, opens, is)) =
         open_prepared prepared attributes roomier reply prepares opens
 
     pub either_takes : (is_node : Bool) (attributes : Required) (answer : Option (Result ℕ Refusal))
         → EitherNumbered is_node payload user_header types asked attributes steps table old answer after new
         → TakesFew (most_taken (length steps)) old new
     either_takes false attributes answer either = takes_none _ old new either.2
-    either_takes true attributes answer (prepared, roomier, reply, prepares, either, is) =
+    either_takes true attributes answer (inl (refused, told, fit, finds, (is, same, still))) = takes_none _ old new still
+    either_takes true attributes answer (inr (prepared, roomier, reply, prepares, either, is)) =
         either_prepared prepared attributes roomier reply prepares either
 
   less_one_keeps : (number : ℕ) (hub : Hub T U B D) → TakesFew 0 hub (less_one number hub)

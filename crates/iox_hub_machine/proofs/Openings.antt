@@ -1,5 +1,5 @@
 -- A node opens a service: what a hub does is what a machine does.
-use Rattle.std.proofs.Common.{◌≡◌, ℕ, ◌+◌, ◌&&◌, Bool, true, false, List, length, Option, Some, Result, Ok, Err}
+use Rattle.std.proofs.Common.{◌≡◌, ℕ, ◌+◌, ◌&&◌, Bool, true, false, List, length, Option, None, Some, Result, Ok, Err}
 use Rattle.std.proofs.Common.{refl, sym, ap, subst, ◌∙◌, inl, inr}
 use Rattle.std.specs.List.{IsAmong}
 use Rattle.std.specs.Prelude.{nat_le, MatchBool}
@@ -39,8 +39,10 @@ use Rattle.iox_domain_machine.specs.Naming.{Naming}
 use Rattle.iox_hub_base.proofs.SameTable.{went-keeps}
 use Rattle.iox_hub_base.specs.Hubs.{is_node}
 use Rattle.iox_hub_base.specs.Opening.{Made, OpensInHub}
+use Rattle.iox_hub_base.specs.declared.hub.HashState.{HashState}
 use Rattle.iox_hub_commands.specs.Asked.{required_event, required_publish_subscribe, required_request_response}
 use Rattle.iox_hub_commands.specs.Opening.{OpensAs, OpensNumbered, OpensPrepared, open_lacking}
+use Rattle.iox_hub_commands.specs.Refusing.{first_look, open_told}
 use Rattle.iox_hub_commands.specs.Replies.{factory_reply}
 use Rattle.iox_hub_commands.specs.ServicesNumbering.{IsRefusedWith, Numbers, Prepares}
 use Rattle.iox_hub_commands.specs.ServicesTables.{FactoryTable, SameNumbers}
@@ -48,11 +50,13 @@ use Rattle.iox_hub_commands.specs.declared.numbered_hub.NumberedHub.{NumberedHub
 use Rattle.iox_hub_commands.specs.Terms.{Terms}
 use Rattle.iox_hub_machine.proofs.Answered.{Came, IsAnswered, StandsEntered, answered, lacking_answered}
 use Rattle.iox_hub_machine.proofs.Answered.{room_lacking, with_factory_in}
+use Rattle.iox_hub_machine.proofs.AtOnce.{at_once}
 use Rattle.iox_hub_machine.proofs.EnteredStands.{stands_entered}
 use Rattle.iox_hub_machine.proofs.Entering.{opened_enters, unopened_keeps}
 use Rattle.iox_hub_machine.proofs.FewHeld.{few_held}
 use Rattle.iox_hub_machine.proofs.FittingThen.{FitsHere, met_fits}
 use Rattle.iox_hub_machine.proofs.Formed.{AreMade, formed_so, listed_so}
+use Rattle.iox_hub_machine.proofs.FoundStanding.{found_so, look_finds, refuses_to_open}
 use Rattle.iox_hub_machine.proofs.Skipping.{skipped_matches}
 use Rattle.iox_hub_machine.proofs.Verdicts.{event_judge, publish_subscribe_judge, request_response_judge}
 use Rattle.iox_hub_machine.proofs.Verdicts.{same_event_verdict, same_publish_subscribe_verdict, same_request_response_verdict}
@@ -324,6 +328,30 @@ module _ {T U B D : Type 0} (variant : TypeVariant) (terms : Terms T U B D) (cho
     prepared_so named (Err lacking) roomier same_made result prepares does =
         lacks_as named lacking roomier prepares.0 same_made result does
 
+    -- what the first lookup tells
+    told_so : (named : ServiceOptions) (why : Refusal)
+        → open_told named (first_look (record { node = node; name = name; options = named }) steps old.hub) ≡ Some why
+        → new.hub ≡ old.hub → new.factories.made ≡ old.factories.made → new.made ≡ old.made
+        → Followed named (factory_reply (Some (Err why)))
+    told_so named why told still same same_made =
+        among (first_look (record { node = node; name = name; options = named }) steps old.hub) refl told
+      where
+        among : (found : Option HashState) → first_look (record { node = node; name = name; options = named }) steps old.hub ≡ found
+            → open_told named found ≡ Some why → Followed named (factory_reply (Some (Err why)))
+        among None finds told_now = absurd cc
+        among (Some it) finds told_now =
+            let (none, is) = look_finds (record { node = node; name = name; options = named }) steps old.hub it finds in
+            let stands_so = found_so (pattern_of named) name old.hub.table (state.phases (pattern_of named) name)
+            (taken (pattern_of named) name) (stands.table.phases (pattern_of named) name asked).lies in
+            let (failure, told_is, opens) = refuses_to_open types (pattern_of named) steps (Own node) named (verdict types named required)
+            (state.phases (pattern_of named) name) why
+            (ap (λ (s : HashState). open_told named (Some s)) (sym stands_so ∙ is) ∙ told_now) none in
+            followed_by named (pattern_of named) (Opens types (pattern_of named) steps (Own node) (verdict types named required))
+            (open_refusal named) (λ is_new. unopened.OutOfMemory) _ (λ after came. by_true _ _ _ made_node came)
+            (at_once terms choices names own (pattern_of named) name asked taken naming order node old new state stands
+            (Opens types (pattern_of named) steps (Own node) (verdict types named required)) (open_refusal named)
+            (λ is_new. unopened.OutOfMemory) failure why told_is opens still same same_made)
+
   pub openings_match : OpeningMatches terms_so choices
   openings_match names node name named required steps asked own taken naming order old new state answer fit stands
       (made, does, same_made, told) =
@@ -336,7 +364,11 @@ module _ {T U B D : Type 0} (variant : TypeVariant) (terms : Terms T U B D) (cho
           → OpensNumbered b terms.payload terms.user_header types (record { node = node; name = name; options = named }) required steps
           old.factories.made old.hub made new.factories.made new.hub
           → Now answer
-      by_node true is (prepared, roomier, result, prepares, opens, made_is) =
+      by_node true is (inl (why, finds, (made_is, same, still))) =
+          subst Now (sym (told ∙ ap factory_reply made_is))
+          (told_so names node name required steps asked taken naming order old new state own fit stands is named why finds still same
+          same_made)
+      by_node true is (inr (prepared, roomier, result, prepares, opens, made_is)) =
           subst Now (sym (told ∙ ap factory_reply made_is))
           (prepared_so names node name required steps asked taken naming order old new state own fit stands is named prepared roomier
           same_made result prepares opens)

@@ -1,5 +1,5 @@
 -- A node opens a service, or creates it where none stands: what a hub does is what a machine does.
-use Rattle.std.proofs.Common.{◌≡◌, ℕ, ◌+◌, ◌^◌, ◌<◌, ◌&&◌, Bool, true, false, List, length, Option, Some, Result, Ok, Err}
+use Rattle.std.proofs.Common.{◌≡◌, ℕ, ◌+◌, ◌^◌, ◌<◌, ◌&&◌, Bool, true, false, List, length, Option, None, Some, Result, Ok, Err}
 use Rattle.std.proofs.Common.{refl, sym, ap, subst, ◌∙◌, inl, inr, arith}
 use Rattle.std.proofs.Math.Logic.{⊎_elim}
 use Rattle.std.specs.List.{IsAmong}
@@ -18,6 +18,7 @@ use Rattle.iox_command.specs.NegotiateBase.DescribeVerdict.Verdict.{first_unmet}
 use Rattle.iox_command.specs.NegotiateBase.EventErrors as event
 use Rattle.iox_command.specs.NegotiateBase.PublishSubscribeErrors as publish_subscribe
 use Rattle.iox_command.specs.NegotiateBase.RequestResponseErrors as request_response
+use Rattle.iox_command.specs.NegotiateBase.declared.failure.CreateFailure.{CreateFailure}
 use Rattle.iox_command.specs.NegotiateBase.declared.failure.OpenOrCreateFailure.{OpenOrCreateFailure}
 use Rattle.iox_command.specs.NegotiateBase.declared.failure.OpenFailure.TheVariants as unopened
 use Rattle.iox_command.specs.NegotiateBase.declared.failure.OpenOrCreateFailure.TheVariants as neither
@@ -40,9 +41,11 @@ use Rattle.iox_domain_machine.specs.Naming.{Naming}
 use Rattle.iox_hub_base.proofs.SameTable.{went-keeps}
 use Rattle.iox_hub_base.specs.Hubs.{is_node}
 use Rattle.iox_hub_base.specs.Opening.{Made, OpensInHub, lacking_either}
+use Rattle.iox_hub_base.specs.declared.hub.HashState.{HashState}
 use Rattle.iox_hub_commands.specs.Asked.{required_event, required_publish_subscribe, required_request_response}
 use Rattle.iox_hub_commands.specs.Asking.{agreed_of}
 use Rattle.iox_hub_commands.specs.Either.{EitherAs, EitherNumbered, EitherPrepared, either_lacking}
+use Rattle.iox_hub_commands.specs.Refusing.{IsUncreated, either_told, first_look}
 use Rattle.iox_hub_commands.specs.Replies.{factory_reply}
 use Rattle.iox_hub_commands.specs.ServicesNumbering.{IsRefusedWith, Numbers, Prepares}
 use Rattle.iox_hub_commands.specs.ServicesTables.{FactoryTable, SameNumbers}
@@ -50,12 +53,14 @@ use Rattle.iox_hub_commands.specs.declared.numbered_hub.NumberedHub.{NumberedHub
 use Rattle.iox_hub_commands.specs.Terms.{Terms}
 use Rattle.iox_hub_machine.proofs.Answered.{Came, IsAnswered, StandsEntered, answered, lacking_answered}
 use Rattle.iox_hub_machine.proofs.Answered.{room_lacking, with_factory_in}
+use Rattle.iox_hub_machine.proofs.AtOnce.{at_once}
 use Rattle.iox_hub_machine.proofs.EnteredStands.{stands_entered}
 use Rattle.iox_hub_machine.proofs.Entering.{either_enters, neither_keeps}
 use Rattle.iox_hub_machine.proofs.FewHeld.{few_held}
 use Rattle.iox_hub_machine.proofs.FittingThen.{FitsHere, met_fits, new_fits}
 use Rattle.iox_hub_machine.proofs.Formed.{AreMade, formed_so, listed_so}
 use Rattle.iox_hub_machine.proofs.Openings.{agreed_there, by_true, is_event, is_request_response}
+use Rattle.iox_hub_machine.proofs.FoundStanding.{found_so, look_finds, refuses_either}
 use Rattle.iox_hub_machine.proofs.Skipping.{skipped_matches}
 use Rattle.iox_hub_machine.proofs.Verdicts.{event_judge, publish_subscribe_judge, request_response_judge}
 use Rattle.iox_hub_machine.proofs.Verdicts.{new_agreement, same_event_verdict, same_publish_subscribe_verdict}
@@ -79,6 +84,7 @@ use Rattle.iox_machine.specs.Run as machine
 use Rattle.iox_machine.specs.State.{Factory, State}
 use Rattle.iox_negotiate.specs.Negotiation as built
 use Rattle.iox_negotiate_machine.proofs.OpenCalls.{open-or-create-matches}
+use Rattle.iox_negotiate_machine.proofs.Refusing.{unfit-is}
 use Rattle.iox_negotiate_machine.proofs.Told.{either-told, event-either-told, event_clause, publish-subscribe-either-told}
 use Rattle.iox_negotiate_machine.proofs.Told.{publish_subscribe_clause, request-response-either-told, request_response_clause}
 use Rattle.iox_negotiate_machine.specs.Laws.{HaveOwnHashes}
@@ -351,6 +357,33 @@ module _ {T U B D : Type 0} (variant : TypeVariant) (terms : Terms T U B D) (cho
     prepared_so named (Err lacking) roomier same_made result prepares does =
         lacks_as named lacking roomier prepares.0 same_made result does
 
+    -- what the first lookup tells
+    told_so : (named : ServiceOptions) (refused : Option CreateFailure) (why : Refusal) → IsUncreated (settings_of types named) refused
+        → either_told named refused (first_look (record { node = node; name = name; options = named }) steps old.hub) ≡ Some why
+        → new.hub ≡ old.hub → new.factories.made ≡ old.factories.made → new.made ≡ old.made
+        → Followed named (factory_reply (Some (Err why)))
+    told_so named refused why fits told still same same_made =
+        among (first_look (record { node = node; name = name; options = named }) steps old.hub) refl told
+      where
+        among : (found : Option HashState) → first_look (record { node = node; name = name; options = named }) steps old.hub ≡ found
+            → either_told named refused found ≡ Some why → Followed named (factory_reply (Some (Err why)))
+        among None finds told_now = absurd cc
+        among (Some it) finds told_now =
+            let (none, is) = look_finds (record { node = node; name = name; options = named }) steps old.hub it finds in
+            let stands_so = found_so (pattern_of named) name old.hub.table (state.phases (pattern_of named) name)
+            (taken (pattern_of named) name) (stands.table.phases (pattern_of named) name asked).lies in
+            let (failure, told_is, opens) = refuses_either types (pattern_of named) steps (Own node) named (verdict types named required)
+            (new_agreement types required name named) (state.phases (pattern_of named) name) refused (unfit-is types named refused fits) why
+            (ap (λ (s : HashState). either_told named refused (Some s)) (sym stands_so ∙ is) ∙ told_now) none in
+            followed_by named (pattern_of named)
+            (OpensOrCreates types (pattern_of named) steps (Own node) (verdict types named required)
+            (new_agreement types required name named))
+            (either_refusal named) told_of.either_lacking _ (λ after came. by_true _ _ _ made_node came)
+            (at_once terms choices names own (pattern_of named) name asked taken naming order node old new state stands
+            (OpensOrCreates types (pattern_of named) steps (Own node) (verdict types named required)
+            (new_agreement types required name named))
+            (either_refusal named) told_of.either_lacking failure why told_is opens still same same_made)
+
   pub openings_or_creations_match : OpeningOrCreatingMatches terms_so choices
   openings_or_creations_match names node name named required steps asked own taken naming order old new state answer fit stands
       (made, does, same_made, told) =
@@ -363,7 +396,11 @@ module _ {T U B D : Type 0} (variant : TypeVariant) (terms : Terms T U B D) (cho
           → EitherNumbered b terms.payload terms.user_header types (record { node = node; name = name; options = named }) required steps
           old.factories.made old.hub made new.factories.made new.hub
           → Now answer
-      by_node true is (prepared, roomier, result, prepares, opens, made_is) =
+      by_node true is (inl (refused, why, fits, finds, (made_is, same, still))) =
+          subst Now (sym (told ∙ ap factory_reply made_is))
+          (told_so names node name required steps asked taken naming order old new state own fit stands is named refused why fits finds
+          still same same_made)
+      by_node true is (inr (prepared, roomier, result, prepares, opens, made_is)) =
           subst Now (sym (told ∙ ap factory_reply made_is))
           (prepared_so names node name required steps asked taken naming order old new state own fit stands is named prepared roomier
           same_made result prepares opens)

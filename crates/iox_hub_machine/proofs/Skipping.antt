@@ -1,5 +1,6 @@
 -- A command on services is skipped.
 use Rattle.std.proofs.Common.{◌≡◌, ℕ, ◌&&◌, Bool, true, false, List, Option, None, Some, Result, Ok, Err, refl, sym, ap, subst, ◌∙◌}
+use Rattle.std.proofs.Common.{inl, inr}
 use Rattle.std.proofs.lemmas.Bool.{eq-eqb}
 use Rattle.std.specs.Option.{option_map}
 use Rattle.std.specs.Prelude.{nat_le, MatchBool, MatchOption}
@@ -152,7 +153,9 @@ module _ {T U B D : Type 0} (terms : Terms T U B D) (choices : Choices T) where
         → ◌≡◌ {A = Reply T} reply.Skipped (factory_reply made)
         → (b ≡ false) × (new.factories.made ≡ old.factories.made) × (new.hub ≡ old.hub)
     open_skipped false asked required steps made does is = (refl, does.1, does.2)
-    open_skipped true asked required steps made (prepared, roomier, told, prepares, opens, answers) is =
+    open_skipped true asked required steps made (inl (why, finds, (answers, same, still))) is =
+        made_something (Err why) (is ∙ ap factory_reply answers)
+    open_skipped true asked required steps made (inr (prepared, roomier, told, prepares, opens, answers)) is =
         made_something told (is ∙ ap factory_reply answers)
 
     either_skipped : (b : Bool) (asked : ServiceAsked) (required : Required) (steps : List StepBefore) (made : Option (Result ℕ Refusal))
@@ -161,7 +164,9 @@ module _ {T U B D : Type 0} (terms : Terms T U B D) (choices : Choices T) where
         → ◌≡◌ {A = Reply T} reply.Skipped (factory_reply made)
         → (b ≡ false) × (new.factories.made ≡ old.factories.made) × (new.hub ≡ old.hub)
     either_skipped false asked required steps made does is = (refl, does.1, does.2)
-    either_skipped true asked required steps made (prepared, roomier, told, prepares, opens, answers) is =
+    either_skipped true asked required steps made (inl (refused, why, fit, finds, (answers, same, still))) is =
+        made_something (Err why) (is ∙ ap factory_reply answers)
+    either_skipped true asked required steps made (inr (prepared, roomier, told, prepares, opens, answers)) is =
         made_something told (is ∙ ap factory_reply answers)
 
     unless_skipped : (b : Bool) (number : ℕ) (member : Membership) (closed : Option (Result (Unit {0}) CloseError))

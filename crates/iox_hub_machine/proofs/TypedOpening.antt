@@ -313,14 +313,14 @@ module _ {T U B D : Type 0} (variant : TypeVariant) (terms : Terms T U B D) wher
       (λ names most state it. (
         Some answer,
         subst (λ (b : Bool). OpensNumbered b terms.payload terms.user_header types (record { node = node; name = name; options = named })
-            required steps old.factories.made old.hub (Some answer) table hub) (sym there) (
+            required steps old.factories.made old.hub (Some answer) table hub) (sym there) (inr (
               Ok (lists_of name types steps),
               old.factories.made,
               answer,
               prepared_so name types steps old.factories.made formed,
               opens,
               refl,
-            ),
+            )),
         refl,
         refl,
       ))
@@ -332,14 +332,14 @@ module _ {T U B D : Type 0} (variant : TypeVariant) (terms : Terms T U B D) wher
       (λ names most state it. (
         Some answer,
         subst (λ (b : Bool). EitherNumbered b terms.payload terms.user_header types (record { node = node; name = name; options = named })
-            required steps old.factories.made old.hub (Some answer) table hub) (sym there) (
+            required steps old.factories.made old.hub (Some answer) table hub) (sym there) (inr (
               Ok (lists_of name types steps),
               old.factories.made,
               answer,
               prepared_so name types steps old.factories.made formed,
               does,
               refl,
-            ),
+            )),
         refl,
         refl,
       ))

@@ -1,6 +1,5 @@
 //! What the calls that create and open services have in common: their first lookup, and what follows if it isn't a refusal.
 ghost use Rattle.std.specs.Prelude.{◌≡◌, ◌<◌, ◌+◌, ◌^◌, ℕ, true, Option, Result, Some, Err, length};
-ghost use Rattle.std.specs.List.{AllByRecursion};
 ghost use Rattle.std.specs.Result.{result_map_both};
 ghost use Rattle.iox_command.specs.declared.refusal.Refusal.{Refusal};
 ghost use Rattle.iox_hub_base.specs.DescribeBase.Detail.{detail};
@@ -10,13 +9,10 @@ ghost use Rattle.iox_hub_base.specs.DescribeSettings.Agreement.{AreWithinLimits,
 ghost use Rattle.iox_hub_base.specs.Hubs.{is_node};
 ghost use Rattle.iox_hub_base.specs.OfPattern.{CreatesOfPattern, OpensJudged, EitherOfPattern};
 ghost use Rattle.iox_hub_commands.specs.Asked.{types_of};
-ghost use Rattle.iox_hub_commands.specs.Asking.{agreed_of};
 ghost use Rattle.iox_hub_commands.specs.OpeningCalls.{ByCall, CallsNumbered, IsToldFirst, OpensByCall, OpensUnlessLacking, lacking_of};
 ghost use Rattle.iox_hub_commands.specs.Refusing.{first_look};
 ghost use Rattle.iox_hub_commands.specs.ServicesNumbering.{GetsNumber, Numbers};
 ghost use Rattle.iox_hub_commands.specs.ServicesTables.{FactoryTable};
-ghost use Rattle.iox_hub_commands.specs.Steps.{PublishesInForm, lists_of};
-ghost use Rattle.iox_negotiate_table.specs.Describe.Within.{HasForm};
 
 use crate::services::asked::ServiceAsked;
 use crate::services::creating::create_lacking;
@@ -26,7 +22,7 @@ use crate::services::kinds::CommandPattern;
 use crate::services::made::MadeFactory;
 use crate::services::opening::open_lacking;
 use crate::services::refusing::{create_told, either_told, first_look, open_told, uncreated};
-use crate::services::requests::{agreed_has_form, message_types, steps_have_form};
+use crate::services::requests::message_types;
 use iox_command::{Refusal, ServiceOptions, StepBefore};
 use iox_describe::pattern::{Event, PublishSubscribe, RequestResponse};
 use iox_describe_base::{AttributeSpecifier, AttributeVerifier, ZeroCopySend};
@@ -90,35 +86,6 @@ impl<'a> OpeningCall<'a> {
         let found = first_look(hub, asked, steps);
         self.told::<T, U>(&asked.options, found)
     }
-
-    // States that what the actions publish, and the agreement of a service that the call creates, have the form of a description. It takes
-    // no memory.
-    fn asked_has_form<T: ZeroCopySend, U: ZeroCopySend>(
-        &self,
-        asked: &ServiceAsked,
-        steps: &[StepBefore],
-    )
-        ensures steps { AllByRecursion (AllByRecursion PublishesInForm) (lists_of asked.now.name
-            (types_of T.name T.size T.alignment U.name U.size U.alignment) steps.now) }
-        ensures agreed { ByCall self.now
-            (λ attributes. HasForm (agreed_of asked.now.name asked.now.options
-            (types_of T.name T.size T.alignment U.name U.size U.alignment) attributes))
-            (λ attributes. Unit {0})
-            (λ attributes. HasForm (agreed_of asked.now.name asked.now.options
-            (types_of T.name T.size T.alignment U.name U.size U.alignment) attributes.pairs)) }
-    {
-        let types = message_types::<T, U>();
-        steps_have_form(&asked.name, &types, steps);
-        match self {
-            OpeningCall::Create(attributes) => {
-                agreed_has_form(&asked.name, &asked.options, &types, attributes)
-            }
-            OpeningCall::Open(_) => {}
-            OpeningCall::OpenOrCreate(attributes) => {
-                agreed_has_form(&asked.name, &asked.options, &types, attributes.attributes())
-            }
-        }
-    }
 }
 
 impl Factories {
@@ -145,10 +112,7 @@ impl Factories {
             return None;
         }
         match call.refusal_at_first_look(hub, asked, steps) {
-            Some(refusal) => {
-                call.asked_has_form::<T, U>(asked, steps);
-                Some(Err(refusal))
-            }
+            Some(refusal) => Some(Err(refusal)),
             None => Some(self.looked(alloc, hub, asked, call, steps)),
         }
     }

@@ -21,5 +21,5 @@ pub mod described;
 pub mod steps;
 
 pub use asked::{event, message_types, publish_subscribe, request_response};
-pub use described::{agreed_has_form, description};
-pub use steps::{acts_first, step_list, step_lists, steps_have_form};
+pub use described::description;
+pub use steps::{acts_first, step_list, step_lists};

@@ -10,7 +10,6 @@ use iox_describe::has_form;
 use iox_describe::pattern::{Event, Pattern, PublishSubscribe, RequestResponse};
 use iox_describe_base::{AttributeSpecifier, MessageTypeDetails, ServiceName, service_hash};
 use iox_describe_settings::{Description, Settings};
-use iox_negotiate::laws::parts_have_form;
 
 /// The description that another node publishes with these options: the defaults for what isn't named, adjusted, and no attributes. It has
 /// the form of a description, and takes no memory.
@@ -27,22 +26,6 @@ pub fn description(
     let described = Description::of_parts(*name, hash, settings, AttributeSpecifier::new());
     has_form(&described);
     described
-}
-
-/// States that the agreement of a service that is created with these options and attributes has the form of a description. It takes no
-/// memory.
-/// Example: `agreed_has_form(&asked.name, &asked.options, &types, &attributes);`
-#[inline(never)]
-pub fn agreed_has_form(
-    name: &ServiceName,
-    options: &ServiceOptions,
-    types: &MessageTypeDetails,
-    attributes: &AttributeSpecifier,
-)
-    ensures { HasForm (agreed_of name.now options.now types.now attributes.now) }
-{
-    let hash = service_hash(options.pattern(), name);
-    parts_have_form(*name, hash, settings(options, *types), attributes);
 }
 
 // The settings with which a service with these options is created.

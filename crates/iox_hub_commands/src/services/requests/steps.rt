@@ -98,19 +98,6 @@ pub fn acts_first(steps: &[StepBefore]) -> bool
     steps.iter().any(|before| before.access == 1)
 }
 
-/// States that what the actions publish has the form of a description. It takes no memory.
-/// Example: `steps_have_form(&name, &types, &steps);`
-#[inline(never)]
-pub fn steps_have_form(name: &ServiceName, types: &MessageTypeDetails, steps: &[StepBefore])
-    ensures { AllByRecursion (AllByRecursion PublishesInForm) (lists_of name.now types.now steps.now) }
-{
-    let mut rest = steps;
-    while let Some((before, later)) = rest.split_first() {
-        step(&before.step, name, types);
-        rest = later;
-    }
-}
-
 // An action on the service of a name.
 fn step(named: &Named, name: &ServiceName, types: &MessageTypeDetails) -> ForeignStep
     ensures value { result ≡ step_of name.now types.now named.now }

@@ -22,7 +22,7 @@ returns-in-Some-clause-calls g c =
     (types_of g.T.ZeroCopySend.name g.T.ZeroCopySend.size g.T.ZeroCopySend.alignment g.U.ZeroCopySend.name g.U.ZeroCopySend.size
     g.U.ZeroCopySend.alignment)
     c.args.asked.now c.args.steps.now c.args.self.now.made c.args.hub.now c.args.hub.now c.in-Some.refusal
-    c.asked_has_form.ensures.steps refl c.args.call c.asked_has_form.ensures.agreed c.in-Some.ensures)
+    refl c.args.call c.in-Some.ensures)
 
 pub returns-in-Some-clause-told_first : goal.returns-in-Some-clause-told_first
 returns-in-Some-clause-told_first g c is_there refusal is =
