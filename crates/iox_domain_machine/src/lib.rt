@@ -4,8 +4,12 @@
 //! The functions here do nothing: the contract of each is a theorem about the definitions. `StandsFor` says which service of a
 //! machine the ports of a domain represent, under which names. Most theorems are about one call at a port: if the ports before
 //! the call represent a service, a machine whose only service is this one gives the same reply to the command, and the ports
-//! after the call represent its service afterwards. A proof cites a theorem by calling its function; what the theorem states is
-//! then among the facts of the caller:
+//! after the call represent its service afterwards.
+//!
+//! `AreRoomy` of ports says that one subscriber alone borrows from each connection, and at most as many samples as its limit allows. The
+//! ports of a new service satisfy it, and so they do after any calls (`iox_domain::allowances::samples::samples_left_by_calls`).
+//!
+//! A proof cites a theorem by calling its function; what the theorem states is then among the facts of the caller:
 //!
 //! ```
 //! giving_up_a_send_matches::<u64, (), Handlers, DegradationHandler>();
@@ -139,8 +143,8 @@ pub fn leaving_of_a_publisher_matches<T: Default, U, B: Decides + Degrades, D: D
 
 /// Closing a subscriber matches the command: it is removed from the list and detached from its connections, of which those of
 /// closed publishers end. A subscriber that holds no sample is then removed from the domain; the machine keeps it as a closed
-/// one. If it isn't open nothing happens. One more change of the list of subscribers must be countable, and the ports must be
-/// roomy, as they are after any calls (`iox_domain::allowances::samples::samples_left_by_calls`).
+/// one. If it isn't open nothing happens. One more change of the list of subscribers must be countable, and the ports must
+/// satisfy `AreRoomy`, as they do after any calls.
 pub fn leaving_of_a_subscriber_matches<T: Default, U, B: Decides + Degrades, D: Degrades>()
     ensures { (handed : Handed B D) → SubscriberLeaveMatches T U (chosen_by T.is_default (λ who. B.decides who)
         (λ who. B.degrades who) (λ who. D.degrades who) handed) }
@@ -172,9 +176,8 @@ pub fn lending_matches<T: Default, U, B: Decides + Degrades, D: Degrades>()
 
 /// Updating a subscriber matches the command: connections of closed publishers end or expire, and listed publishers are
 /// connected, which may fail if memory runs out or if no more connections may expire. Nothing is done if the list was seen
-/// already, and the command is skipped if the subscriber isn't open. The ports must be roomy, as they are after any calls
-/// (`iox_domain::allowances::samples::samples_left_by_calls`), and each answer of the handler for a failed connection must be a
-/// choice of the machine's subscriber.
+/// already, and the command is skipped if the subscriber isn't open. The ports must satisfy `AreRoomy`, as they do after any
+/// calls, and each answer of the handler for a failed connection must be a choice of the machine's subscriber.
 pub fn updating_a_subscriber_matches<T: Default, U, B: Decides + Degrades, D: Degrades>(
     _handler: &D,
 )
@@ -184,8 +187,8 @@ pub fn updating_a_subscriber_matches<T: Default, U, B: Decides + Degrades, D: De
 
 /// Asking whether some connection of a subscriber has data, also one of a closed publisher, matches the command; the subscriber
 /// updates first, and a failed connection may let the call fail. If the subscriber isn't open nothing happens. The ports must
-/// be roomy, as they are after any calls (`iox_domain::allowances::samples::samples_left_by_calls`), and each answer of the
-/// handler for a failed connection must be a choice of the machine's subscriber.
+/// satisfy `AreRoomy`, as they do after any calls, and each answer of the handler for a failed connection must be a choice of the
+/// machine's subscriber.
 pub fn asking_for_samples_matches<T: Default, U, B: Decides + Degrades, D: Degrades>(_handler: &D)
     ensures { (handed : Handed B D) → HasMatches T U (chosen_by T.is_default (λ who. B.decides who)
         (λ who. B.degrades who) (λ who. D.degrades who) handed) (D.degrades _handler.now cause.FailedToEstablishConnection) }
@@ -202,11 +205,10 @@ pub fn updating_a_publisher_matches<T: Default, U, B: Decides + Degrades, D: Deg
         (λ who. B.degrades who) (λ who. D.degrades who) handed) (D.degrades _handler.now cause.FailedToEstablishConnection) }
 {}
 
-/// Retrying a blocked send matches the command: in both the send comes to the same subscribers in the same order, makes the
-/// same decisions at full mailboxes, and is blocked again, is finished or fails. If no send is blocked, or the publisher is closed,
-/// nothing happens. The ports must be roomy (`AreRoomy`): one subscriber borrows from each connection, no more than the limit. They are so
-/// after any calls (`iox_domain::allowances::samples::samples_left_by_calls`). Each decision at a full mailbox must be a choice of the
-/// machine's publisher.
+/// Retrying a blocked send matches the command: in both the send comes to the same subscribers in the same order, makes the same
+/// decisions at full mailboxes, and is blocked again, is finished or fails. If no send is blocked, or the publisher is closed,
+/// nothing happens. The ports must satisfy `AreRoomy`, as they do after any calls. Each decision at a full mailbox must be a
+/// choice of the machine's publisher.
 pub fn retrying_a_send_matches<T: Default, U, B: Decides + Degrades, D: Degrades>(_handlers: &B)
     ensures { (handed : Handed B D) → RetryMatches T U (chosen_by T.is_default (λ who. B.decides who)
         (λ who. B.degrades who) (λ who. D.degrades who) handed) (B.decides _handlers.now) }
@@ -214,47 +216,46 @@ pub fn retrying_a_send_matches<T: Default, U, B: Decides + Degrades, D: Degrades
 
 /// Sending a loan matches the command: the loan ends, and its message gets into the history and, in both, to the same connected
 /// subscribers in the same order; the send is blocked, is finished or fails. If the list of subscribers changed the publisher
-/// follows it first; if memory runs out and the handler lets the call fail, the loan is dropped and the error returned. The
-/// send of a closed publisher drops the loan, too. If some of the loan isn't written, or a send is blocked, nothing happens. The
-/// ports must be roomy, as they are after any calls (`iox_domain::allowances::samples::samples_left_by_calls`). Each decision
-/// at a full mailbox, and each answer for a failed connection, must be a choice of the machine's publisher.
+/// follows it first; if memory runs out and the handler lets the call fail, the loan is dropped and the error returned. The send
+/// of a closed publisher drops the loan, too. If some of the loan isn't written, or a send is blocked, nothing happens. The ports
+/// must satisfy `AreRoomy`, as they do after any calls. Each decision at a full mailbox, and each answer for a failed connection,
+/// must be a choice of the machine's publisher.
 pub fn sending_a_loan_matches<T: Default, U, B: Decides + Degrades, D: Degrades>(_handlers: &B)
     ensures { (handed : Handed B D) → SendMatches T U (chosen_by T.is_default (λ who. B.decides who)
         (λ who. B.degrades who) (λ who. D.degrades who) handed) (B.decides _handlers.now)
         (B.degrades _handlers.now cause.FailedToEstablishConnection) }
 {}
 
-/// Putting values matches the command: the publisher loans a message for them, writes it and sends it. If a send is blocked, or the
-/// publisher is closed, nothing happens. The call fails if the machine's does, with the error of the loan or of the send. If
-/// the list of subscribers changed the publisher follows it between the loan and the send, as in a send. The ports must be
-/// roomy, as they are after any calls (`iox_domain::allowances::samples::samples_left_by_calls`), and each decision at a full
-/// mailbox, and each answer for a failed connection, must be a choice of the machine's publisher. The header and
-/// the user header that a subscriber reads of the message are recorded as its send begins, as in `headers_are_as_sent`.
+/// Putting values matches the command: the publisher loans a message for them, writes it and sends it. If a send is blocked, or
+/// the publisher is closed, nothing happens. The call fails if the machine's does, with the error of the loan or of the send. If
+/// the list of subscribers changed the publisher follows it between the loan and the send, as in a send. The ports must satisfy
+/// `AreRoomy`, as they do after any calls, and each decision at a full mailbox, and each answer for a failed connection, must be
+/// a choice of the machine's publisher. The header and the user header that a subscriber reads of the message are recorded as its
+/// send begins, as in `headers_are_as_sent`.
 pub fn putting_matches<T: Default, U, B: Decides + Degrades, D: Degrades>(_handlers: &B)
     ensures { (handed : Handed B D) → PutMatches T U (chosen_by T.is_default (λ who. B.decides who)
         (λ who. B.degrades who) (λ who. D.degrades who) handed) (B.decides _handlers.now)
         (B.degrades _handlers.now cause.FailedToEstablishConnection) }
 {}
 
-/// Receiving matches the command; the subscriber updates first. A connection may give a message if it has one and is below the limit of
-/// borrowed messages. The subscriber borrows the oldest message of the first expired connection that may give, or otherwise of another
-/// connection that may, as a sample with the next number and the message's values. If no connection may give, the reply is that nothing
-/// waits, or that each connection with data is at the limit of borrowed messages. The idle expired connections that were examined before
-/// end, and a closed publisher of which nothing else is in use is then removed from the domain. If the subscriber isn't open nothing
-/// happens. The subscriber must hold fewer than 2^64 - 1 samples, no sample may have the next number, the ports must be roomy, as they are
-/// after any calls (`iox_domain::allowances::samples::samples_left_by_calls`), and each answer of the handler for a failed connection must
-/// be a choice of the machine's subscriber.
+/// Receiving matches the command; the subscriber updates first. A connection may give a message if it has one and is below the
+/// limit of borrowed messages. The subscriber borrows the oldest message of the first expired connection that may give, or
+/// otherwise of another connection that may, as a sample with the next number and the message's values. If no connection may
+/// give, the reply is that nothing waits, or that each connection with data is at the limit of borrowed messages. The idle
+/// expired connections that were examined before end, and a closed publisher of which nothing else is in use is then removed from
+/// the domain. If the subscriber isn't open nothing happens. The subscriber must hold fewer than 2^64 - 1 samples, no sample may
+/// have the next number, the ports must satisfy `AreRoomy`, as they do after any calls, and each answer of the handler for a
+/// failed connection must be a choice of the machine's subscriber.
 pub fn receiving_matches<T: Default, U, B: Decides + Degrades, D: Degrades>(_handler: &D)
     ensures { (handed : Handed B D) → ReceiveMatches T U (chosen_by T.is_default (λ who. B.decides who)
         (λ who. B.degrades who) (λ who. D.degrades who) handed) (D.degrades _handler.now cause.FailedToEstablishConnection) }
 {}
 
-/// Creating a subscriber, through a factory of the service, matches the command: it is connected to the listed publishers; or
-/// the call fails if its buffer size exceeds the service's limit, if no place is free, or if memory runs out. The command must
-/// ask for what the domain is asked for: the owner's number is that of the factory, and the buffer size is the same. The
-/// service must let at least one message wait; no subscriber of it may have the next number yet; one more port and one more
-/// change of the list of subscribers must be countable; and the ports must be roomy, as they are after any calls
-/// (`iox_domain::allowances::samples::samples_left_by_calls`).
+/// Creating a subscriber, through a factory of the service, matches the command: it is connected to the listed publishers; or the
+/// call fails if its buffer size exceeds the service's limit, if no place is free, or if memory runs out. The command must ask
+/// for what the domain is asked for: the owner's number is that of the factory, and the buffer size is the same. The service must
+/// let at least one message wait; no subscriber of it may have the next number yet; one more port and one more change of the list
+/// of subscribers must be countable; and the ports must satisfy `AreRoomy`, as they do after any calls.
 pub fn coming_of_a_subscriber_matches<T: Default, U, B: Decides + Degrades, D: Degrades>(
     _handler: &D,
 )
@@ -265,10 +266,10 @@ pub fn coming_of_a_subscriber_matches<T: Default, U, B: Decides + Degrades, D: D
 /// Creating a publisher, through a factory of the service, matches the command: it is connected to the listed subscribers; or the
 /// call fails if it needs 2^32 slots or more, or slots for 2^32 values or more, if no place is free, or if memory runs out. The
 /// command must ask for what the domain is asked for: the owner's number is that of the factory; loans, values and allocation
-/// strategy are those of the command, or the domain's defaults; an element is one value; and the override answers as many slots as
-/// the command says, or as the worst case needs. No publisher of the service may have the next number yet; one more port and one more
-/// change of the list of publishers must be countable; and the ports must be roomy, as they are after any calls
-/// (`iox_domain::allowances::samples::samples_left_by_calls`).
+/// strategy are those of the command, or the domain's defaults; an element is one value; and the override answers as many slots
+/// as the command says, or as the worst case needs. No publisher of the service may have the next number yet; one more port and
+/// one more change of the list of publishers must be countable; and the ports must satisfy `AreRoomy`, as they do after any
+/// calls.
 pub fn coming_of_a_publisher_matches<
     T: Default,
     U,

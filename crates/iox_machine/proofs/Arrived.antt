@@ -36,7 +36,7 @@ fully-taken (one ∷ more) all zero port is =
 fully-taken (one ∷ more) all (suc place) port is =
     fully-taken more (both-true (is_some one) (list_all is_some more) all).1 place port is
 
-free-place : (places : List (Option ℕ)) → list_all is_some places ≡ false → (place : ℕ) × (slice_get places place ≡ Some None)
+pub free-place : (places : List (Option ℕ)) → list_all is_some places ≡ false → (place : ℕ) × (slice_get places place ≡ Some None)
 free-place [] off = absurd (true≢false off)
 free-place (one ∷ more) off = here one off (free-place more)
   where

@@ -50,7 +50,10 @@ mod RenumberedSteps
 mod RenumberedCommands
 mod RenumberedRuns
 pub mod Counted
+mod Sufficing
+mod Calling
 mod Going
+mod Gone
 mod Totals
 mod Spent
 mod Nexts

@@ -1,9 +1,9 @@
 -- What holds of all of a list, of part of it, and of what goes by numbers.
 use Rattle.std.proofs.Common.{◌≡◌, ◌≤◌, ◌-◌, ℕ, zero, suc, Bool, true, false, cond, List, [], ◌∷◌, ◌++◌, length, take, drop, Option, Some}
-use Rattle.std.proofs.Common.{refl, subst, arith, length-drop}
+use Rattle.std.proofs.Common.{refl, sym, subst, arith, length-drop, true≢false}
 use Rattle.std.proofs.lemmas.Bool.{eqb-true}
 use Rattle.std.specs.List.{AllByRecursion}
-use Rattle.std.specs.Prelude.{filter, fold, find, slice_get, option_map, ◌==◌}
+use Rattle.std.specs.Prelude.{filter, fold, find, nat_lt, slice_get, option_map, ◌==◌}
 use Rattle.iox_machine.specs.Mailbox.{newest}
 use Rattle.iox_machine.specs.Table.{at, changed}
 use Rattle.iox_machine.proofs.Cases.{same-some, never-some}
@@ -94,3 +94,7 @@ module _ {V : Type 0} (P : ℕ → V → Type 0) where
   all-changed number v [] is all = tt
   all-changed number v (entry ∷ table) is all =
       (changed-step (entry.0 == number) entry number v is all.0, all-changed number v table is all.1)
+
+pub first-there : {X : Type 0} (xs : List X) → nat_lt 0 (length xs) ≡ true → (x : X) × (slice_get xs 0 ≡ Some x)
+first-there [] is = absurd (true≢false (sym is))
+first-there (x ∷ xs) is = (x, refl)

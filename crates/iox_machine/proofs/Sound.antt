@@ -354,7 +354,26 @@ module _ {T : Type 0} (Good : ℕ → Message T → Type 0) (Fine : ℕ → Samp
   lends-longer values publisher settings number refused after fits (inl (told, same)) = subst
       (λ (p : Publisher T). PublisherFits settings number p) (sym same) fits
   lends-longer values publisher settings number refused after fits (inr (room, allowed, few, told, same)) =
-      subst (λ (p : Publisher T). PublisherFits settings number p) (sym same) fits
+      let named : IsNamedAs fits.3.0 publisher = fits.3.2.1 in
+      subst (λ (p : Publisher T). PublisherFits settings number p) (sym same) (
+        fits.0,
+        fits.1,
+        fits.2,
+        (
+          fits.3.0,
+          fits.3.1,
+          (
+            fits.3.2.0,
+            (named.0, named.1, named.2, named.3, grown publisher.segments, λ is. absurd (further publisher.segments named.4 is)),
+          ),
+        ),
+      )
+    where
+      grown : (count : ℕ) → 1 ≤ count + 1
+      grown count = omega arith
+
+      further : (count : ℕ) → 1 ≤ count → count + 1 ≡ 1 → ⊥
+      further count some is = omega (arith, some, is)
 
   lends : (number values : ℕ) (publisher : Publisher T) (service : Service T) (refused : Option LoanError) (after : Publisher T)
       → PublisherFits service.settings number publisher → Lends number values publisher service refused after

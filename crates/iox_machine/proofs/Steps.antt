@@ -188,7 +188,7 @@ module _ {T : Type 0} (Good : ℕ → Message T → Type 0) (Fine : ℕ → Samp
             named (old.made.publishers + 1) options (refl, told),
             (
               (refl, refl),
-              (refl, refl, refl, refl),
+              (refl, refl, refl, refl, omega arith, λ one. refl),
             ),
           ),
         )) did)

@@ -6,8 +6,7 @@ use Rattle.std.specs.List.{AllByRecursion, list_any}
 use Rattle.std.specs.Prelude.{find, is_some, nat_lt}
 use Rattle.iox_machine.proofs.Attending.{Attends, attended-state, attends-first}
 use Rattle.iox_machine.proofs.Cases.{both-true, never-some, same-some}
-use Rattle.iox_machine.proofs.Going.{first-there}
-use Rattle.iox_machine.proofs.Lists.{all-joined}
+use Rattle.iox_machine.proofs.Lists.{all-joined, first-there}
 use Rattle.iox_machine.proofs.Moving.{at-one}
 use Rattle.iox_machine.proofs.Sound.{find-passes}
 use Rattle.iox_machine.proofs.Updated.{find-replaced}

@@ -1,5 +1,5 @@
 -- Which settings a service has that aren't named, for each pattern; and that a port is as it was named.
-use Rattle.std.specs.Prelude.{ℕ, ◌≡◌, ◌⊎◌, true, max, List, [], ◌∷◌, Option, None, Some, unwrap_or}
+use Rattle.std.specs.Prelude.{ℕ, ◌≡◌, ◌≤◌, ◌⊎◌, true, max, List, [], ◌∷◌, Option, None, Some, unwrap_or}
 use Rattle.std.specs.List.{AllByRecursion}
 use Rattle.iox_machine.specs.Asked.{settings_of}
 use Rattle.iox_machine.specs.Choices.{Choices}
@@ -85,13 +85,16 @@ SettingsAreAsked = (types : MessageTypeDetails) (named : ServiceOptions) → Are
 -- ---- ports
 
 -- A publisher has the strategy, the handler's action, the action at a failed connection and the strategy to grow that were named for it. If
--- none was named, it retries until a message is delivered, warns at a failed connection, and doesn't grow.
+-- none was named, it retries until a message is delivered, warns at a failed connection, and doesn't grow. Its first segment has the
+-- initial slice length that was named, or 1.
 abbrev pub IsNamedAs : {T : Type 0} → PublisherOptions → Publisher T → Type 0
 IsNamedAs named publisher =
     (publisher.strategy ≡ unwrap_or named.backpressure_strategy RetryUntilDelivered)
     × (publisher.handler ≡ named.backpressure_handler)
     × (publisher.degradation ≡ unwrap_or named.degradation_handler Warn)
     × (publisher.allocation ≡ unwrap_or named.allocation_strategy Static)
+    × (1 ≤ publisher.segments)
+    × (publisher.segments ≡ 1 → publisher.room ≡ unwrap_or named.initial_max_slice_len 1)
 
 -- A subscriber has the buffer and the action at a failed connection that were named for it. If none was named, it has the buffer that its
 -- service allows, and warns. A buffer of 0 counts as 1.

@@ -62,3 +62,4 @@ pub mod HeldLaws
 pub mod MeanwhileLaws
 pub mod ReopeningLaws
 pub mod EitherLaws
+pub mod MemoryLaws

@@ -4,6 +4,7 @@ ghost use Rattle.iox_machine.specs.Choices.{Handed, chosen_by};
 ghost use Rattle.iox_machine.specs.DefaultLaws.{CreatesAsAsked, PublishersAreAsNamed, SettingsAreAsked, SubscribersAreAsNamed};
 ghost use Rattle.iox_machine.specs.EitherLaws.{EitherAnswersMeanwhile};
 ghost use Rattle.iox_machine.specs.HeldLaws.{HeldIsBorrowed};
+ghost use Rattle.iox_machine.specs.MemoryLaws.{MemoryMaySuffice};
 ghost use Rattle.iox_machine.specs.MeanwhileLaws.{CreationsAnswerMeanwhile, NodesAnswerSo, OpeningsAnswerMeanwhile};
 ghost use Rattle.iox_machine.specs.ReopeningLaws.{AskedMeetsItself, CreatedMayBeOpened};
 
@@ -24,7 +25,8 @@ pub fn a_service_is_created_as_asked<T: Default, B: Decides + Degrades, D: Degra
 {}
 
 /// In every run of a new machine, each publisher has the strategy, the handler's action, the action at a failed connection and the strategy
-/// to grow that its command named, or their defaults, for as long as its service lasts. So no publisher ignores what was named.
+/// to grow that its command named, or their defaults, for as long as its service lasts. Its first segment has the initial slice length that
+/// was named, or 1. So no publisher ignores what was named.
 pub fn a_publisher_is_as_named<T: Default, B: Decides + Degrades, D: Degrades>()
     ensures { (handed : Handed B D) → PublishersAreAsNamed (chosen_by T.is_default (λ who. B.decides who) (λ who. B.degrades who)
         (λ who. D.degrades who) handed) }
@@ -87,5 +89,13 @@ pub fn a_created_service_can_be_opened<T: Default, B: Decides + Degrades, D: Deg
 /// opening. After five rounds without an answer it is refused with `SystemInFlux`.
 pub fn an_open_or_create_is_answered_meanwhile<T: Default, B: Decides + Degrades, D: Degrades>()
     ensures { (handed : Handed B D) → EitherAnswersMeanwhile (chosen_by T.is_default (λ who. B.decides who) (λ who. B.degrades who)
+        (λ who. D.degrades who) handed) }
+{}
+
+/// In any state, each command has an answer that doesn't report that memory ran out, unless more memory is no help: a publisher is too
+/// large for its service, or a loan fits its segment or needs a segment that can't open. For this there must be a default value for loans,
+/// the values of each message must fit in a vector, and handlers must always choose something.
+pub fn memory_may_suffice<T: Default, B: Decides + Degrades, D: Degrades>()
+    ensures { (handed : Handed B D) → MemoryMaySuffice (chosen_by T.is_default (λ who. B.decides who) (λ who. B.degrades who)
         (λ who. D.degrades who) handed) }
 {}

@@ -1,5 +1,5 @@
 use Rattle.iox_machine.specs.Choices.{chosen_by}
-use Rattle.iox_machine.proofs.Going.{each-is-answered}
+use Rattle.iox_machine.proofs.Gone.{each-is-answered}
 use Rattle.iox_machine.proofs.each_command_is_answered.Goals as goal
 
 pub returns : goal.returns
