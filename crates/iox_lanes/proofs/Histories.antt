@@ -7,14 +7,13 @@ use Rattle.std.proofs.lemmas.Bool.Decides.{eqb_tells}
 use Rattle.std.proofs.lemmas.Nat.{row_fits}
 use Rattle.std.proofs.lemmas.List.{length-map, length-replicate, take-replicate}
 use Rattle.std.proofs.lemmas.Option.{get_or_from_slice_get, slice_get-get_or, slice_get-map, slice_get_within}
+use Rattle.iox_domain.specs.DomainValues.declared.backpressure.BackpressureDecision.{BackpressureDecision}
 use Rattle.iox_domain.specs.DomainPorts.Messages.{Message}
 use Rattle.iox_domain.specs.DomainPorts.Ports.{connection_of}
 use Rattle.iox_domain.specs.DomainPorts.Publishers.{port_of}
 use Rattle.iox_domain.specs.DomainPorts.declared.publisher_port.PublisherPort.{PublisherPort}
 use Rattle.iox_domain.specs.DomainPorts.declared.subscriber_port.SubscriberPort.{SubscriberPort}
 use Rattle.iox_domain.specs.DomainSlots.Uses.{is_open, is_there, Connection}
-use Rattle.iox_domain.specs.DomainValues.declared.degradation_handler.DegradationHandler.{DegradationHandler}
-use Rattle.iox_domain.specs.DomainValues.declared.handlers.Handlers.{Handlers}
 use Rattle.iox_domain.specs.Kept.{kept_under}
 use Rattle.iox_domain.specs.Subscribers.{subscriber_of}
 use Rattle.iox_domain.specs.declared.domain.Domain.{Domain}
@@ -71,9 +70,9 @@ slots_of_all {T} {U} first messages laid are = record {
     by at (Some message) is = ap (λ xs. slice_get xs at) are ∙ slice_get-map (λ message. first + message.slot) messages at ∙ ap
         (option_map (λ message. first + message.slot)) is
 
-module _ {T U X Y D : Type 0} {F : X → Type 0} {G : Y → Type 0} (spelling : Spelling T U) (domain : Domain T U (Handlers X Y F G) D)
+module _ {T U B D : Type 0} (decision : B → Option BackpressureDecision) (spelling : Spelling T U) (domain : Domain T U B D)
     (publishers subscribers : List ℕ) (lanes : World)
-    (built : AreBuilt spelling domain publishers subscribers lanes)
+    (built : AreBuilt decision spelling domain publishers subscribers lanes)
     (place number : ℕ) (port : PublisherPort T U) (listed : slice_get publishers place ≡ Some number)
     (found_port : port_of number domain.state.ports.publishers ≡ Some port) (fit : IsFit domain.state.ports.sizes port)
     (goes : (other : ℕ) → other < length subscribers
@@ -203,11 +202,13 @@ module _ {T U X Y D : Type 0} {F : X → Type 0} {G : Y → Type 0} (spelling : 
           (λ slot. ((refl, refl), λ row same. absurd (apart same))),
     )
 
-    inside_of : (message : Message T U) → IsLaidOf spelling domain publishers subscribers lanes built port message → message.slot < size
+    inside_of : (message : Message T U) → IsLaidOf decision spelling domain publishers subscribers lanes built port message
+        → message.slot < size
         → (slot_in (place * width) message.slot ≡ place * width + message.slot) × (message.slot < size)
     inside_of message laid small =
-        let beneath = below_width spelling domain publishers subscribers lanes built place number port message listed found_port laid in (
-          (all_slots spelling domain publishers subscribers lanes built place message.slot within beneath).1,
+        let beneath = below_width decision spelling domain publishers subscribers lanes built place number port message listed found_port
+        laid in (
+          (all_slots decision spelling domain publishers subscribers lanes built place message.slot within beneath).1,
           small,
         )
 
@@ -296,7 +297,7 @@ module _ {T U X Y D : Type 0} {F : X → Type 0} {G : Y → Type 0} (spelling : 
         → port_of (slice_index publishers reached) ports ≡ own
         → m.moments ≡ 0 → slice_get m.publishers reached ≡ slice_get (start (built.sized).sizes).publishers reached → IsBookedTo m reached
         → IsBookedTo (publisher_behind spelling domain.state.ports.subscribers subscribers m reached
-        (would_fail (kept_under (slice_index publishers reached) domain.state.publisher_handlers)) own) (suc reached)
+        (would_fail decision (kept_under (slice_index publishers reached) domain.state.publisher_handlers)) own) (suc reached)
     lay_one m reached None below is fresh rest sofar = record {
       steady = sofar.steady;
       booked = λ less. elim (eqb_tells place reached) [
@@ -338,7 +339,7 @@ module _ {T U X Y D : Type 0} {F : X → Type 0} {G : Y → Type 0} (spelling : 
         stays n f leave is = booked_stays table place (place * width) size ((built.sized).sizes).history n f kept_slots leave is
 
         fails : Bool
-        fails = would_fail (kept_under (slice_index publishers reached) domain.state.publisher_handlers)
+        fails = would_fail decision (kept_under (slice_index publishers reached) domain.state.publisher_handlers)
 
         sized : World
         sized = behind_finding m (found.Slots reached (slots_in own) own.sender.uses.most_loans)
@@ -473,7 +474,7 @@ module _ {T U X Y D : Type 0} {F : X → Type 0} {G : Y → Type 0} (spelling : 
         }
 
     lay_all : (reached : ℕ) → reached ≤ length publishers
-        → IsBookedTo (so_far spelling domain publishers subscribers lanes built reached) reached
+        → IsBookedTo (so_far decision spelling domain publishers subscribers lanes built reached) reached
     lay_all zero few = record {
       steady = record {
         moments = refl;
@@ -485,9 +486,9 @@ module _ {T U X Y D : Type 0} {F : X → Type 0} {G : Y → Type 0} (spelling : 
       linked = λ other below less. absurd (omega (arith, less));
     }
     lay_all (suc reached) few =
-        let settled = settle spelling domain publishers subscribers (built.sized).sizes
+        let settled = settle decision spelling domain publishers subscribers (built.sized).sizes
         ((built.sized).are_agreed).as_many_publishers built.room reached (omega (arith, few)) in
-        lay_one (so_far spelling domain publishers subscribers lanes built reached) reached
+        lay_one (so_far decision spelling domain publishers subscribers lanes built reached) reached
         (port_of (slice_index publishers reached) ports) (omega (arith, few)) refl settled.moments (settled.rest reached (omega arith))
         (lay_all reached (omega (arith, few)))
 
@@ -497,7 +498,7 @@ module _ {T U X Y D : Type 0} {F : X → Type 0} {G : Y → Type 0} (spelling : 
         subst Booked (sym built.behind) (readers_leave Booked
         (λ m who one other is. booked_stays table place (place * width) size ((built.sized).sizes).history m (found.Swapped who one other)
         kept_slots (refl, refl) is) publishers domain.state.ports.subscribers subscribers
-        (so_far spelling domain publishers subscribers lanes built (length publishers)) (length subscribers) (laid.booked within))
+        (so_far decision spelling domain publishers subscribers lanes built (length publishers)) (length subscribers) (laid.booked within))
 
     ends_linked : (other : ℕ) → other < length subscribers → Linked other (mail_slots other) (at_tie other).limit lanes
     ends_linked other below =
@@ -506,7 +507,7 @@ module _ {T U X Y D : Type 0} {F : X → Type 0} {G : Y → Type 0} (spelling : 
         (readers_leave (Linked other (mail_slots other) (at_tie other).limit)
         (λ m who one two is. linked_stays (built.sized).sizes place other (of_sizes other below) m (found.Swapped who one two)
         (mail_slots other) (at_tie other).limit tt is) publishers domain.state.ports.subscribers subscribers
-        (so_far spelling domain publishers subscribers lanes built (length publishers))
+        (so_far decision spelling domain publishers subscribers lanes built (length publishers))
         (length subscribers) (laid.linked other below within))
 
     -- what waits at its connections is what waits there in the domain
@@ -531,9 +532,9 @@ module _ {T U X Y D : Type 0} {F : X → Type 0} {G : Y → Type 0} (spelling : 
         (subst (λ first. AreSlotsOf first (ends_booked.lane).port.book.history port.sender.uses.history) (sym ends_booked.from)
         (slots_of_all (place * width) port.sender.uses.history (ends_booked.lane).port.book.history ends_booked.keeps))
 
-module _ {T U X Y Z : Type 0} {F : X → Type 0} {G : Y → Type 0} {H : Z → Type 0} (spelling : Spelling T U)
-    (domain : Domain T U (Handlers X Y F G) (DegradationHandler Z H)) (publishers subscribers : List ℕ) (lanes : World)
-    (built : AreBuilt spelling domain publishers subscribers lanes) (none : first_reason domain ≡ None)
+module _ {T U B D : Type 0} (decision : B → Option BackpressureDecision) (asks : D → Bool) (spelling : Spelling T U)
+    (domain : Domain T U B D) (publishers subscribers : List ℕ) (lanes : World)
+    (built : AreBuilt decision spelling domain publishers subscribers lanes) (none : first_reason decision asks domain ≡ None)
     (numbered : publishers ≡ numbers_of (λ entry. entry.publisher) domain.state.ports.publisher_list.places)
     (read : subscribers ≡ numbers_of (λ entry. entry.subscriber) domain.state.ports.subscriber_list.places) where
   -- a publisher's messages for each subscriber go to a connection that is there
@@ -541,14 +542,15 @@ module _ {T U X Y Z : Type 0} {F : X → Type 0} {G : Y → Type 0} {H : Z → T
       → port_of number domain.state.ports.publishers ≡ Some port → (other : ℕ) → other < length subscribers
       → is_there (connection_of (tie_for port (subscriber_of (slice_index subscribers other) domain.state.ports.subscribers)) port) ≡ true
   goes_on place number port listed found other below = by (subscriber_of (slice_index subscribers other) domain.state.ports.subscribers)
-      refl (readers_there domain subscribers none read other (slice_index subscribers other) (slice_get-get_or subscribers other 0 below))
+      refl (readers_there decision asks domain subscribers none read other (slice_index subscribers other) (slice_get-get_or subscribers
+      other 0 below))
     where
       by : (reader : Option SubscriberPort)
           → subscriber_of (slice_index subscribers other) domain.state.ports.subscribers ≡ reader → is_some reader ≡ true
           → is_there (connection_of (tie_for port reader) port) ≡ true
       by None is some = absurd (cc some)
       by (Some reader) is some =
-          let goes = goes_there domain none place number (slice_index subscribers other) port reader
+          let goes = goes_there decision asks domain none place number (slice_index subscribers other) port reader
           (ap (λ numbers. slice_get numbers place) (sym numbered) ∙ listed) found is in
           ap is_open goes.1
 
@@ -556,8 +558,8 @@ module _ {T U X Y Z : Type 0} {F : X → Type 0} {G : Y → Type 0} {H : Z → T
       → port_of number domain.state.ports.publishers ≡ port → is_some port ≡ true → KeepsIf port (slice_get lanes.publishers place)
   keeps_by place number None listed found some = absurd (cc some)
   keeps_by place number (Some port) listed found some =
-      keeps_all spelling domain publishers subscribers lanes built place number port listed
-      found (fits domain none number port found) (goes_on place number port listed found)
+      keeps_all decision spelling domain publishers subscribers lanes built place number port listed
+      found (fits decision asks domain none number port found) (goes_on place number port listed found)
 
   -- each publisher's history is the domain's
   pub senders_keep : (place : ℕ) → place < length publishers → SenderKeeps domain lanes publishers place
@@ -566,7 +568,7 @@ module _ {T U X Y Z : Type 0} {F : X → Type 0} {G : Y → Type 0} {H : Z → T
       let number = get_or publishers place 0 in
       subst (λ at. KeepsIf (port_if domain.state.ports.publishers at) (slice_get lanes.publishers place)) (sym listed)
       (keeps_by place number (port_of number domain.state.ports.publishers) listed refl
-      (are_there domain publishers none numbered place number listed))
+      (are_there decision asks domain publishers none numbered place number listed))
 
   waits_by : (indices : List ℕ) → AreTies domain.state.ports publishers subscribers indices → (place other number : ℕ)
       (port : Option (PublisherPort T U)) → other < length subscribers → slice_get publishers place ≡ Some number
@@ -577,10 +579,11 @@ module _ {T U X Y Z : Type 0} {F : X → Type 0} {G : Y → Type 0} {H : Z → T
   waits_by indices ties place other number (Some port) below listed found some =
       subst (λ index. WaitsIf (Some port) (slice_get lanes.publishers place) index
       (slice_get lanes.links (place * length subscribers + other)))
-      (sym (index_is domain none publishers subscribers indices numbered ties place other number (slice_index subscribers other) port
+      (sym (index_is decision asks domain none publishers subscribers indices numbered ties place other number (slice_index subscribers
+      other) port
       listed found (slice_get-get_or subscribers other 0 below)))
-      (waits_all spelling domain publishers subscribers lanes built place number port listed
-      found (fits domain none number port found) (goes_on place number port listed found) other below)
+      (waits_all decision spelling domain publishers subscribers lanes built place number port listed
+      found (fits decision asks domain none number port found) (goes_on place number port listed found) other below)
 
   -- and what waits at each connection
   pub links_wait : (indices : List ℕ) → AreTies domain.state.ports publishers subscribers indices → (place other : ℕ)
@@ -591,4 +594,4 @@ module _ {T U X Y Z : Type 0} {F : X → Type 0} {G : Y → Type 0} {H : Z → T
       subst (λ at. WaitsIf (port_if domain.state.ports.publishers at) (slice_get lanes.publishers place)
       (slice_get indices (place * length subscribers + other)) (slice_get lanes.links (place * length subscribers + other))) (sym listed)
       (waits_by indices ties place other number (port_of number domain.state.ports.publishers) below listed refl
-      (are_there domain publishers none numbered place number listed))
+      (are_there decision asks domain publishers none numbered place number listed))

@@ -1,7 +1,6 @@
 -- Lanes that are built of a domain hold what it has.
-use Rattle.std.proofs.Common.{ℕ, ◌≡◌, List, None}
-use Rattle.iox_domain.specs.DomainValues.declared.degradation_handler.DegradationHandler.{DegradationHandler}
-use Rattle.iox_domain.specs.DomainValues.declared.handlers.Handlers.{Handlers}
+use Rattle.std.proofs.Common.{ℕ, ◌≡◌, List, None, Option, Bool}
+use Rattle.iox_domain.specs.DomainValues.declared.backpressure.BackpressureDecision.{BackpressureDecision}
 use Rattle.iox_domain.specs.declared.domain.Domain.{Domain}
 use Rattle.iox_lanes_machine.specs.World.{World}
 use Rattle.iox_lanes_opening.specs.Refusals.{first_reason}
@@ -15,14 +14,14 @@ use Rattle.iox_lanes.proofs.Readers.{reader_holds}
 use Rattle.iox_lanes.proofs.Tied.{are_tied}
 use Rattle.iox_lanes.proofs.Whole.{link_whole, sender_whole}
 
-pub lanes_hold : {T U X Y Z : Type 0} {F : X → Type 0} {G : Y → Type 0} {H : Z → Type 0} (spelling : Spelling T U)
-    (domain : Domain T U (Handlers X Y F G) (DegradationHandler Z H)) (publishers subscribers indices : List ℕ) (lanes : World)
-    → AreBuilt spelling domain publishers subscribers lanes
-    → first_reason domain ≡ None → publishers ≡ numbers_of (λ entry. entry.publisher) domain.state.ports.publisher_list.places
+pub lanes_hold : {T U B D : Type 0} (decision : B → Option BackpressureDecision) (asks : D → Bool) (spelling : Spelling T U)
+    (domain : Domain T U B D) (publishers subscribers indices : List ℕ) (lanes : World)
+    → AreBuilt decision spelling domain publishers subscribers lanes
+    → first_reason decision asks domain ≡ None → publishers ≡ numbers_of (λ entry. entry.publisher) domain.state.ports.publisher_list.places
     → subscribers ≡ numbers_of (λ entry. entry.subscriber) domain.state.ports.subscriber_list.places
     → AreTies domain.state.ports publishers subscribers indices
     → LanesHold spelling domain lanes publishers subscribers indices
-lanes_hold spelling domain publishers subscribers indices lanes built none numbered read ties =
+lanes_hold decision asks spelling domain publishers subscribers indices lanes built none numbered read ties =
     let counted = are_counted _ _ _ _ _ _ built.sized in
     record {
       moments = counted.moments;
@@ -33,13 +32,14 @@ lanes_hold spelling domain publishers subscribers indices lanes built none numbe
       publisher_count = counted.publisher_count;
       subscriber_count = counted.subscriber_count;
       link_count = counted.link_count;
-      sending = λ place below. sender_whole spelling domain publishers subscribers lanes built
-          none place (senders_keep spelling domain publishers subscribers lanes built none numbered read place below);
+      sending = λ place below. sender_whole decision asks spelling domain publishers subscribers lanes built
+          none place (senders_keep decision asks spelling domain publishers subscribers lanes built none numbered read place below);
       linking = λ publisher subscriber below beneath.
-          link_whole spelling domain publishers subscribers lanes built none indices publisher subscriber beneath read
-          (links_wait spelling domain publishers subscribers lanes built none numbered read indices ties publisher subscriber below beneath)
+          link_whole decision asks spelling domain publishers subscribers lanes built none indices publisher subscriber beneath read
+          (links_wait decision asks spelling domain publishers subscribers lanes built none numbered read indices ties publisher subscriber
+          below beneath)
           (leads_at _ _ _ _ _ _ built.sized publisher subscriber beneath)
-          (are_tied domain none publishers subscribers indices numbered ties publisher subscriber beneath);
+          (are_tied decision asks domain none publishers subscribers indices numbered ties publisher subscriber beneath);
       receiving = λ place below.
-          reader_holds spelling domain publishers subscribers lanes built built.sized none numbered read place below;
+          reader_holds decision asks spelling domain publishers subscribers lanes built built.sized none numbered read place below;
     }

@@ -1,11 +1,11 @@
 -- Lanes that hold what a domain has go with it.
 use Rattle.std.proofs.Common.{arith, ℕ, ◌≡◌, ◌+◌, ◌<◌, List, length, get_or, slice_get, Option, None, Some, option_map, refl, sym, ap, ◌∙◌}
+use Rattle.std.proofs.Common.{Bool}
 use Rattle.std.proofs.Common.{subst}
 use Rattle.std.proofs.lemmas.Option.{slice_get-get_or}
+use Rattle.iox_domain.specs.DomainValues.declared.backpressure.BackpressureDecision.{BackpressureDecision}
 use Rattle.iox_domain.specs.DomainPorts.Publishers.{port_of}
 use Rattle.iox_domain.specs.DomainPorts.declared.publisher_port.PublisherPort.{PublisherPort}
-use Rattle.iox_domain.specs.DomainValues.declared.degradation_handler.DegradationHandler.{DegradationHandler}
-use Rattle.iox_domain.specs.DomainValues.declared.handlers.Handlers.{Handlers}
 use Rattle.iox_domain.specs.declared.domain.Domain.{Domain}
 use Rattle.iox_lanes_machine.specs.Fixed.{fixed_slots}
 use Rattle.iox_lanes_machine.specs.LanesParties.Parties.{PublisherLaneState}
@@ -20,9 +20,9 @@ use Rattle.iox_lanes.proofs.Joint.{link_joins}
 use Rattle.iox_lanes.proofs.Presence.{rested}
 use Rattle.iox_lanes.proofs.Sound.{first_listed, fits, publishers_once, subscribers_once}
 
-module _ {T U X Y Z : Type 0} {F : X → Type 0} {G : Y → Type 0} {H : Z → Type 0} (spelling : Spelling T U)
-    (domain : Domain T U (Handlers X Y F G) (DegradationHandler Z H)) (lanes : World) (publishers subscribers indices : List ℕ)
-    (none : first_reason domain ≡ None)
+module _ {T U B D : Type 0} (decision : B → Option BackpressureDecision) (asks : D → Bool) (spelling : Spelling T U)
+    (domain : Domain T U B D) (lanes : World) (publishers subscribers indices : List ℕ)
+    (none : first_reason decision asks domain ≡ None)
     (sized : AreSized domain.state.ports.sizes (length publishers) (length subscribers) spelling.payload_count spelling.middle_count lanes)
     (hold : LanesHold spelling domain lanes publishers subscribers indices) where
   abbrev ports : List (ℕ × PublisherPort T U)
@@ -34,9 +34,9 @@ module _ {T U X Y Z : Type 0} {F : X → Type 0} {G : Y → Type 0} {H : Z → T
   slots_joined place number None lane found there is = is
   slots_joined place number (Some port) None found there is = is
   slots_joined place number (Some port) (Some lane) found there is =
-      let fit = fits domain none number port found in
+      let fit = fits decision asks domain none number port found in
       record {
-        rested = rested domain number port none found;
+        rested = rested decision asks domain number port none found;
         first = fit.first;
         slots = is.slots ∙ ap (λ n. n + port.sender.uses.size) fit.first ∙ omega arith;
         kept = sized.kept place lane there ∙ sym fit.kept;
@@ -51,7 +51,7 @@ module _ {T U X Y Z : Type 0} {F : X → Type 0} {G : Y → Type 0} {H : Z → T
             (slice_get lanes.publishers place) refl refl
             (subst (λ at. IsLaneIf spelling lanes.table (port_if ports at) (slice_get lanes.publishers place)) listed
             (hold.sending place below)));
-        alone = first_listed publishers place (publishers_once domain none publishers hold.publishers) below;
+        alone = first_listed publishers place (publishers_once decision asks domain none publishers hold.publishers) below;
       }
 
   pub are_joined : (places : ℕ) → 0 < places → AreTies domain.state.ports publishers subscribers indices
@@ -65,6 +65,6 @@ module _ {T U X Y Z : Type 0} {F : X → Type 0} {G : Y → Type 0} {H : Z → T
     index_count = ties.count;
     sending = sender_joins;
     linking = λ publisher below subscriber beneath.
-        link_joins spelling domain lanes publishers subscribers indices none hold ties
-        (subscribers_once domain none subscribers hold.subscribers) publisher subscriber below beneath;
+        link_joins decision asks spelling domain lanes publishers subscribers indices none hold ties
+        (subscribers_once decision asks domain none subscribers hold.subscribers) publisher subscriber below beneath;
   }

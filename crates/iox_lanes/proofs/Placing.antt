@@ -4,11 +4,11 @@ use Rattle.std.proofs.Common.{slice_index, Option, None, Some, refl, sym, ◌∙
 use Rattle.std.proofs.lemmas.Bool.Decides.{eqb_tells}
 use Rattle.std.proofs.lemmas.Nat.{div-mul-add, mul-le, row_fits}
 use Rattle.std.proofs.lemmas.Option.{slice_get-get_or, get_or_from_slice_get, slice_get_within}
+use Rattle.iox_domain.specs.DomainValues.declared.backpressure.BackpressureDecision.{BackpressureDecision}
 use Rattle.iox_domain.specs.DomainPorts.Messages.{Message}
 use Rattle.iox_domain.specs.DomainPorts.Ports.{connection_of}
 use Rattle.iox_domain.specs.DomainPorts.Publishers.{port_of}
 use Rattle.iox_domain.specs.DomainPorts.declared.publisher_port.PublisherPort.{PublisherPort}
-use Rattle.iox_domain.specs.DomainValues.declared.handlers.Handlers.{Handlers}
 use Rattle.iox_domain.specs.Kept.{kept_under}
 use Rattle.iox_domain.specs.Subscribers.{subscriber_of}
 use Rattle.iox_domain.specs.declared.domain.Domain.{Domain}
@@ -115,9 +115,9 @@ unfolding behind_findings
 steady_behind sizes m [] steady = steady
 steady_behind sizes m (f ∷ fs) steady = steady_behind sizes (behind_finding m f) fs (steady_on sizes m f steady)
 
-module _ {T U X Y D : Type 0} {F : X → Type 0} {G : Y → Type 0} (spelling : Spelling T U) (domain : Domain T U (Handlers X Y F G) D)
+module _ {T U B D : Type 0} (decision : B → Option BackpressureDecision) (spelling : Spelling T U) (domain : Domain T U B D)
     (publishers subscribers : List ℕ) (lanes : World)
-    (built : AreBuilt spelling domain publishers subscribers lanes) where
+    (built : AreBuilt decision spelling domain publishers subscribers lanes) where
   abbrev pub width : ℕ
   width = ((built.sized).sizes).slots
 
@@ -132,7 +132,7 @@ module _ {T U X Y D : Type 0} {F : X → Type 0} {G : Y → Type 0} (spelling : 
 
   -- the lanes after the first n publishers
   abbrev pub so_far : ℕ → World
-  so_far count = found_at spelling domain publishers subscribers lanes built count
+  so_far count = found_at decision spelling domain publishers subscribers lanes built count
 
   -- a message is one that is laid: of the history, or it waits at a connection to a subscriber of the lanes
   abbrev pub IsLaidOf : PublisherPort T U → Message T U → Type 0
@@ -292,7 +292,7 @@ module _ {T U X Y D : Type 0} {F : X → Type 0} {G : Y → Type 0} (spelling : 
           → port_of (slice_index publishers count) ports ≡ own
           → m.moments ≡ 0 → slice_get m.publishers count ≡ slice_get (start (built.sized).sizes).publishers count → AreLaidTo m count
           → AreLaidTo (publisher_behind spelling domain.state.ports.subscribers subscribers m count
-          (would_fail (kept_under (slice_index publishers count) domain.state.publisher_handlers)) own) (suc count)
+          (would_fail decision (kept_under (slice_index publishers count) domain.state.publisher_handlers)) own) (suc count)
       lay_one m count None below is fresh rest sofar = record {
         steady = sofar.steady;
         holds = λ less. elim (eqb_tells place count) [
@@ -314,7 +314,7 @@ module _ {T U X Y D : Type 0} {F : X → Type 0} {G : Y → Type 0} (spelling : 
           })
         where
           fails : Bool
-          fails = would_fail (kept_under (slice_index publishers count) domain.state.publisher_handlers)
+          fails = would_fail decision (kept_under (slice_index publishers count) domain.state.publisher_handlers)
 
           sized : World
           sized = behind_finding m (found.Slots count (slots_in own) own.sender.uses.most_loans)
@@ -369,7 +369,7 @@ module _ {T U X Y D : Type 0} {F : X → Type 0} {G : Y → Type 0} (spelling : 
         holds = λ less. absurd (omega (arith, less));
       }
       lay_all (suc count) few =
-          let settled = settle spelling domain publishers subscribers (built.sized).sizes
+          let settled = settle decision spelling domain publishers subscribers (built.sized).sizes
           ((built.sized).are_agreed).as_many_publishers built.room count (omega (arith, few)) in
           lay_one (so_far count) count (port_of (slice_index publishers count) ports) (omega (arith, few)) refl settled.moments
           (settled.rest count (omega arith)) (lay_all count (omega (arith, few)))

@@ -6,13 +6,12 @@ use Rattle.std.specs.BTreeMap.{is_at}
 use Rattle.std.specs.List.{list_any}
 use Rattle.std.specs.Map.{lookup}
 use Rattle.std.specs.Ordering.{nat_cmp}
+use Rattle.iox_domain.specs.DomainValues.declared.backpressure.BackpressureDecision.{BackpressureDecision}
 use Rattle.iox_domain.specs.Container.declared.container.Member.{Member}
 use Rattle.iox_domain.specs.DomainPorts.Messages.{Message}
 use Rattle.iox_domain.specs.DomainPorts.Ports.{connection_of}
 use Rattle.iox_domain.specs.DomainPorts.Publishers.{port_of}
 use Rattle.iox_domain.specs.DomainPorts.declared.publisher_port.PublisherPort.{PublisherPort}
-use Rattle.iox_domain.specs.DomainValues.declared.degradation_handler.DegradationHandler.{DegradationHandler}
-use Rattle.iox_domain.specs.DomainValues.declared.handlers.Handlers.{Handlers}
 use Rattle.iox_domain.specs.DomainSlots.Uses.{Connection, nobody}
 use Rattle.iox_domain.specs.DomainPorts.declared.subscriber_port.SubscriberPort.{SubscriberPort}
 use Rattle.iox_domain.specs.PortsPublishing as publishing
@@ -44,10 +43,10 @@ both true b h = (refl, h)
 both false b h = absurd (cc h)
 
 -- each port is up to date
-pub is_current : {T U X Y Z : Type 0} {F : X → Type 0} {G : Y → Type 0} {H : Z → Type 0}
-    (domain : Domain T U (Handlers X Y F G) (DegradationHandler Z H)) → first_reason domain ≡ None
+pub is_current : {T U B D : Type 0} (decision : B → Option BackpressureDecision) (asks : D → Bool)
+    (domain : Domain T U B D) → first_reason decision asks domain ≡ None
     → is_up_to_date domain.state.ports ≡ true
-is_current domain none = not_no (is_up_to_date domain.state.ports)
+is_current decision asks domain none = not_no (is_up_to_date domain.state.ports)
     (no_reason (not (is_up_to_date domain.state.ports)) _ _ (no_reason (is_blocked domain.state.ports) _ _ none).1).0
 
 some_current : {T U : Type 0} (ports : ServicePorts T U) (place number : ℕ) (port : Option (PublisherPort T U))
@@ -75,14 +74,14 @@ each_there number_of holds P follows first (Some member ∷ rest) all (suc place
     (both (holds first member.value) (of_each_listed holds (first + 1) rest) all).1 place number is
 
 -- so is the publisher of each listed number
-pub are_there : {T U X Y Z : Type 0} {F : X → Type 0} {G : Y → Type 0} {H : Z → Type 0}
-    (domain : Domain T U (Handlers X Y F G) (DegradationHandler Z H)) (numbers : List ℕ)
-    → first_reason domain ≡ None → numbers ≡ numbers_of (λ entry. entry.publisher) domain.state.ports.publisher_list.places
+pub are_there : {T U B D : Type 0} (decision : B → Option BackpressureDecision) (asks : D → Bool)
+    (domain : Domain T U B D) (numbers : List ℕ)
+    → first_reason decision asks domain ≡ None → numbers ≡ numbers_of (λ entry. entry.publisher) domain.state.ports.publisher_list.places
     → AreThere domain.state.ports.publishers numbers
-are_there domain numbers none is =
+are_there decision asks domain numbers none is =
     let current = both (of_each_listed (is_current_publisher domain.state.ports) 0 domain.state.ports.publisher_list.places)
     (of_each_listed (λ place entry. is_current_subscriber domain.state.ports entry) 0 domain.state.ports.subscriber_list.places)
-    (is_current domain none) in
+    (is_current decision asks domain none) in
     subst (AreThere domain.state.ports.publishers) (sym is)
     (each_there (λ entry. entry.publisher) (is_current_publisher domain.state.ports)
     (λ number. is_some (port_of number domain.state.ports.publishers) ≡ true)
@@ -90,15 +89,15 @@ are_there domain numbers none is =
     (port_of entry.publisher domain.state.ports.publishers) current) 0 domain.state.ports.publisher_list.places current.0)
 
 -- and the subscriber
-pub readers_there : {T U X Y Z : Type 0} {F : X → Type 0} {G : Y → Type 0} {H : Z → Type 0}
-    (domain : Domain T U (Handlers X Y F G) (DegradationHandler Z H)) (numbers : List ℕ)
-    → first_reason domain ≡ None → numbers ≡ numbers_of (λ entry. entry.subscriber) domain.state.ports.subscriber_list.places
+pub readers_there : {T U B D : Type 0} (decision : B → Option BackpressureDecision) (asks : D → Bool)
+    (domain : Domain T U B D) (numbers : List ℕ)
+    → first_reason decision asks domain ≡ None → numbers ≡ numbers_of (λ entry. entry.subscriber) domain.state.ports.subscriber_list.places
     → (place number : ℕ) → slice_get numbers place ≡ Some number
     → is_some (subscriber_of number domain.state.ports.subscribers) ≡ true
-readers_there domain numbers none is place number there =
+readers_there decision asks domain numbers none is place number there =
     let current = both (of_each_listed (is_current_publisher domain.state.ports) 0 domain.state.ports.publisher_list.places)
     (of_each_listed (λ place entry. is_current_subscriber domain.state.ports entry) 0 domain.state.ports.subscriber_list.places)
-    (is_current domain none) in
+    (is_current decision asks domain none) in
     each_there (λ entry. entry.subscriber) (λ place entry. is_current_subscriber domain.state.ports entry)
     (λ number. is_some (subscriber_of number domain.state.ports.subscribers) ≡ true)
     (λ first entry current. some_reader domain.state.ports (subscriber_of entry.subscriber domain.state.ports.subscribers) current) 0
@@ -171,17 +170,17 @@ one_value {T} message single = by message.values refl
     by (value ∷ other ∷ rest) is = absurd (omega (arith, many, ap length is))
 
 -- no publisher deals in slices
-no_slices : {T U X Y Z : Type 0} {F : X → Type 0} {G : Y → Type 0} {H : Z → Type 0}
-    (domain : Domain T U (Handlers X Y F G) (DegradationHandler Z H)) (number : ℕ) (port : PublisherPort T U)
-    → first_reason domain ≡ None → port_of number domain.state.ports.publishers ≡ Some port → (port.sender.room ≡ 1)
+no_slices : {T U B D : Type 0} (decision : B → Option BackpressureDecision) (asks : D → Bool)
+    (domain : Domain T U B D) (number : ℕ) (port : PublisherPort T U)
+    → first_reason decision asks domain ≡ None → port_of number domain.state.ports.publishers ≡ Some port → (port.sender.room ≡ 1)
     × (keeps_slice port ≡ false)
-no_slices {T} {U} domain number port none is =
+no_slices {T} {U} decision asks domain number port none is =
     let ports : ServicePorts T U = domain.state.ports in
     let blocked = no_reason (is_blocked ports) _ _ none in
     let current = no_reason (not (is_up_to_date ports)) _ _ blocked.1 in
     let growing = no_reason (has_growing ports) _ _ current.1 in
-    let handled = no_reason (has_handlers domain) _ _ growing.1 in
-    let retrying = no_reason (is_retrying domain) _ _ handled.1 in
+    let handled = no_reason (has_handlers decision asks domain) _ _ growing.1 in
+    let retrying = no_reason (is_retrying decision domain) _ _ handled.1 in
     let lingering = no_reason (is_lingering ports) _ _ retrying.1 in
     let sliced = no_reason (has_slices domain) _ _ lingering.1 in
     let slices = none_under (λ (entry : ℕ × PublisherPort T U). deals_in_slices entry.1) (is_at (nat_cmp number)) ports.publishers port
@@ -191,38 +190,39 @@ no_slices {T} {U} domain number port none is =
     (eqb-true port.sender.room 1 (not_no (port.sender.room == 1) one.0), one.1)
 
 -- so a message that it keeps, or that waits at a connection of it, is one value
-pub remembers_one : {T U X Y Z : Type 0} {F : X → Type 0} {G : Y → Type 0} {H : Z → Type 0}
-    (domain : Domain T U (Handlers X Y F G) (DegradationHandler Z H)) (number : ℕ) (port : PublisherPort T U)
-    → first_reason domain ≡ None → port_of number domain.state.ports.publishers ≡ Some port → (at : ℕ) (message : Message T U)
+pub remembers_one : {T U B D : Type 0} (decision : B → Option BackpressureDecision) (asks : D → Bool)
+    (domain : Domain T U B D) (number : ℕ) (port : PublisherPort T U)
+    → first_reason decision asks domain ≡ None → port_of number domain.state.ports.publishers ≡ Some port → (at : ℕ) (message : Message T U)
     → slice_get port.sender.uses.history at ≡ Some message
     → (value : T) × (message.values ≡ value ∷ [])
-remembers_one domain number port none is at message there =
+remembers_one decision asks domain number port none is at message there =
     one_value message (none_in is_slice port.sender.uses.history at message
     (neither (list_any is_slice port.sender.uses.history) (list_any slice_waits port.sender.uses.connections)
-    (no_slices domain number port none is).1).0 there)
+    (no_slices decision asks domain number port none is).1).0 there)
 
-pub waits_one : {T U X Y Z : Type 0} {F : X → Type 0} {G : Y → Type 0} {H : Z → Type 0}
-    (domain : Domain T U (Handlers X Y F G) (DegradationHandler Z H)) (number : ℕ) (port : PublisherPort T U)
-    → first_reason domain ≡ None → port_of number domain.state.ports.publishers ≡ Some port → (index at : ℕ) (message : Message T U)
+pub waits_one : {T U B D : Type 0} (decision : B → Option BackpressureDecision) (asks : D → Bool)
+    (domain : Domain T U B D) (number : ℕ) (port : PublisherPort T U)
+    → first_reason decision asks domain ≡ None → port_of number domain.state.ports.publishers ≡ Some port
+    → (index at : ℕ) (message : Message T U)
     → slice_get (connection_of index port).waiting at ≡ Some message
     → (value : T) × (message.values ≡ value ∷ [])
-waits_one domain number port none is index at message there =
+waits_one decision asks domain number port none is index at message there =
     one_value message (none_in is_slice (connection_of index port).waiting at message
     (none_waits port.sender.uses.connections index
     (neither (list_any is_slice port.sender.uses.history) (list_any slice_waits port.sender.uses.connections)
-    (no_slices domain number port none is).1).1) there)
+    (no_slices decision asks domain number port none is).1).1) there)
 
 -- nothing of a publisher is out, and it has room for a value in each slot
-pub rested : {T U X Y Z : Type 0} {F : X → Type 0} {G : Y → Type 0} {H : Z → Type 0}
-    (domain : Domain T U (Handlers X Y F G) (DegradationHandler Z H)) (number : ℕ) (port : PublisherPort T U)
-    → first_reason domain ≡ None → port_of number domain.state.ports.publishers ≡ Some port → IsRested port.sender
-rested {T} {U} domain number port none is =
+pub rested : {T U B D : Type 0} (decision : B → Option BackpressureDecision) (asks : D → Bool)
+    (domain : Domain T U B D) (number : ℕ) (port : PublisherPort T U)
+    → first_reason decision asks domain ≡ None → port_of number domain.state.ports.publishers ≡ Some port → IsRested port.sender
+rested {T} {U} decision asks domain number port none is =
     let ports : ServicePorts T U = domain.state.ports in
     let blocked = no_reason (is_blocked ports) _ _ none in
     let current = no_reason (not (is_up_to_date ports)) _ _ blocked.1 in
     let growing = no_reason (has_growing ports) _ _ current.1 in
-    let handled = no_reason (has_handlers domain) _ _ growing.1 in
-    let retrying = no_reason (is_retrying domain) _ _ handled.1 in
+    let handled = no_reason (has_handlers decision asks domain) _ _ growing.1 in
+    let retrying = no_reason (is_retrying decision domain) _ _ handled.1 in
     let lingering = no_reason (is_lingering ports) _ _ retrying.1 in
     let sends = none_under (λ (entry : ℕ × PublisherPort T U). publishing.is_blocked entry.1) (is_at (nat_cmp number)) ports.publishers
     port blocked.0 is in
@@ -236,7 +236,7 @@ rested {T} {U} domain number port none is =
       quiet = record {
         idle = nothing port.sender.uses.sending sends.1;
         unlent = empty port.sender.uses.loans out.0;
-        room = omega (arith, (no_slices domain number port none is).0);
+        room = omega (arith, (no_slices decision asks domain number port none is).0);
       };
       none = λ index. none_borrowed port.sender.uses.connections index out.1;
     }

@@ -8,6 +8,7 @@ use Rattle.std.proofs.lemmas.Bool.Decides.{eqb_tells}
 use Rattle.std.proofs.lemmas.List.{get_or_past}
 use Rattle.std.proofs.lemmas.Nat.{row_fits}
 use Rattle.std.proofs.lemmas.Option.{slice_get-get_or, slice_get_within}
+use Rattle.iox_domain.specs.DomainValues.declared.backpressure.BackpressureDecision.{BackpressureDecision}
 use Rattle.iox_domain.specs.Container.declared.container.Member.{Member}
 use Rattle.iox_domain.specs.DomainPorts.Publishers.{port_of, port_stands, stands_in}
 use Rattle.iox_domain.specs.DomainPorts.Subscribing.{attached_at}
@@ -15,8 +16,6 @@ use Rattle.iox_domain.specs.DomainPorts.declared.attached.Attached.{Attached}
 use Rattle.iox_domain.specs.DomainPorts.declared.publisher_entry.PublisherEntry.{PublisherEntry}
 use Rattle.iox_domain.specs.DomainPorts.declared.publisher_port.PublisherPort.{PublisherPort}
 use Rattle.iox_domain.specs.DomainPorts.declared.subscriber_port.SubscriberPort.{SubscriberPort}
-use Rattle.iox_domain.specs.DomainValues.declared.degradation_handler.DegradationHandler.{DegradationHandler}
-use Rattle.iox_domain.specs.DomainValues.declared.handlers.Handlers.{Handlers}
 use Rattle.iox_domain.specs.Kept.{kept_under}
 use Rattle.iox_domain.specs.Subscribers.{subscriber_of}
 use Rattle.iox_domain.specs.declared.domain.Domain.{Domain}
@@ -96,11 +95,11 @@ none_got test [] at x none is = absurd (cc is)
 none_got test (y ∷ ys) zero x none is = ap test (sym is) ∙ (neither (test y) (list_any test ys) none).0
 none_got test (y ∷ ys) (suc at) x none is = none_got test ys at x (neither (test y) (list_any test ys) none).1 is
 
-module _ {T U X Y Z : Type 0} {F : X → Type 0} {G : Y → Type 0} {H : Z → Type 0} (spelling : Spelling T U)
-    (domain : Domain T U (Handlers X Y F G) (DegradationHandler Z H)) (publishers subscribers : List ℕ) (lanes : World)
-    (built : AreBuilt spelling domain publishers subscribers lanes)
+module _ {T U B D : Type 0} (decision : B → Option BackpressureDecision) (asks : D → Bool) (spelling : Spelling T U)
+    (domain : Domain T U B D) (publishers subscribers : List ℕ) (lanes : World)
+    (built : AreBuilt decision spelling domain publishers subscribers lanes)
     (sized : AreSized domain.state.ports.sizes (length publishers) (length subscribers) spelling.payload_count spelling.middle_count lanes)
-    (none : first_reason domain ≡ None)
+    (none : first_reason decision asks domain ≡ None)
     (numbered : publishers ≡ numbers_of (λ entry. entry.publisher) domain.state.ports.publisher_list.places)
     (read : subscribers ≡ numbers_of (λ entry. entry.subscriber) domain.state.ports.subscriber_list.places)
     (who : ℕ) (below : who < length subscribers) where
@@ -199,7 +198,7 @@ module _ {T U X Y Z : Type 0} {F : X → Type 0} {G : Y → Type 0} {H : Z → T
           (λ slot. tt) (λ reader slot. tt) (λ reader messages. tt)
 
   lay_all : (reached : ℕ)
-      → HasRoutes (so_far spelling domain publishers subscribers lanes built reached)
+      → HasRoutes (so_far decision spelling domain publishers subscribers lanes built reached)
   lay_all zero = record {
     steady = record {
       moments = refl;
@@ -228,8 +227,8 @@ module _ {T U X Y Z : Type 0} {F : X → Type 0} {G : Y → Type 0} {H : Z → T
       );
     };
   }
-  lay_all (suc reached) = lay_one (so_far spelling domain publishers subscribers lanes built
-      reached) reached (would_fail (kept_under (slice_index publishers reached) domain.state.publisher_handlers))
+  lay_all (suc reached) = lay_one (so_far decision spelling domain publishers subscribers lanes built
+      reached) reached (would_fail decision (kept_under (slice_index publishers reached) domain.state.publisher_handlers))
       (port_of (slice_index publishers reached) ports) (lay_all reached)
 
   module _ (port : SubscriberPort) (number : ℕ) (listed : slice_get subscribers who ≡ Some number)
@@ -239,7 +238,8 @@ module _ {T U X Y Z : Type 0} {F : X → Type 0} {G : Y → Type 0} {H : Z → T
         → (place : ℕ) × (slice_get publishers place ≡ Some attached.publisher)
     comes key attached is =
         let left = neither (list_any (publisher_lingers domain.state.ports.publisher_list) ports)
-        (list_any (subscriber_lingers domain.state.ports.subscriber_list ports) domain.state.ports.subscribers) (lingers domain none) in
+        (list_any (subscriber_lingers domain.state.ports.subscriber_list ports) domain.state.ports.subscribers) (lingers decision asks
+        domain none) in
         let apart = none_at (subscriber_lingers domain.state.ports.subscriber_list ports) number domain.state.ports.subscribers port left.1
         found_port in
         let stays = neither (not port.stands)
@@ -274,7 +274,8 @@ module _ {T U X Y Z : Type 0} {F : X → Type 0} {G : Y → Type 0} {H : Z → T
                 )
 
     abbrev Ordered : ℕ → World → Type 0
-    Ordered reached m = IsOrdered table publishers readers who lanes linked port (attached_once domain none number port found_port) comes
+    Ordered reached m = IsOrdered table publishers readers who lanes linked port (attached_once decision asks domain none number port
+        found_port) comes
         reached m
 
     ordered_other : (m : World) (other one two reached : ℕ) → (other ≡ who → ⊥) → Ordered reached m
@@ -340,7 +341,8 @@ module _ {T U X Y Z : Type 0} {F : X → Type 0} {G : Y → Type 0} {H : Z → T
                 subst (λ p. Ordered (length port.connections.values) (reader_behind publishers count there p)) (sym own)
                 (subst (λ n. Ordered (length port.connections.values) (keys_behind publishers n port.connections.values there
                 (length port.connections.values))) (sym same.1)
-                (all_ordered table publishers readers who lanes linked port (attached_once domain none number port found_port) comes there
+                (all_ordered table publishers readers who lanes linked port (attached_once decision asks domain none number port
+                found_port) comes there
                 (length port.connections.values) (omega arith) (sofar.fresh (omega (arith, same.1)))))
             | inr apart ↦ reader_other count there (length port.connections.values)
                 (reader_if domain.state.ports.subscribers (slice_get subscribers count)) apart.1 (sofar.done (omega (arith, less, apart.1)))
@@ -348,7 +350,7 @@ module _ {T U X Y Z : Type 0} {F : X → Type 0} {G : Y → Type 0} {H : Z → T
         }
 
     abbrev base : World
-    base = so_far spelling domain publishers subscribers lanes built (length publishers)
+    base = so_far decision spelling domain publishers subscribers lanes built (length publishers)
 
     same_links : lanes.links ≡ base.links
     same_links = ap (λ (w : World). w.links) built.behind
@@ -399,4 +401,4 @@ module _ {T U X Y Z : Type 0} {F : X → Type 0} {G : Y → Type 0} {H : Z → T
       let number = get_or subscribers who 0 in
       subst (λ at. FollowIf lanes publishers who (reader_if domain.state.ports.subscribers at) (slice_get lanes.subscribers who))
       (sym listed) (follows_by number (subscriber_of number domain.state.ports.subscribers) listed refl
-      (readers_there domain subscribers none read who number listed))
+      (readers_there decision asks domain subscribers none read who number listed))

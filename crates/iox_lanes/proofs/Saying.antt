@@ -1,13 +1,14 @@
 -- What lanes that are built of a domain say of its publishers.
 use Rattle.std.proofs.Common.{arith, ℕ, zero, suc, ◌≡◌, ◌+◌, ◌*◌, ◌<◌, ◌≤◌, ◌^◌, true, nat_lt, List, [], ◌∷◌, length, map, set, replicate}
+use Rattle.std.proofs.Common.{Bool}
 use Rattle.std.proofs.Common.{slice_get, slice_index, Option, None, Some, refl, sym, ◌∙◌, ap, subst, length-append}
 use Rattle.std.proofs.lemmas.Bool.{cond-true, lt-ltb}
 use Rattle.std.proofs.lemmas.List.{length-replicate, take-replicate}
 use Rattle.std.proofs.lemmas.Nat.{mul-le}
 use Rattle.std.proofs.lemmas.Option.{get_or_from_slice_get, slice_get_within}
+use Rattle.iox_domain.specs.DomainValues.declared.backpressure.BackpressureDecision.{BackpressureDecision}
 use Rattle.iox_domain.specs.DomainPorts.Publishers.{port_of}
 use Rattle.iox_domain.specs.DomainPorts.declared.publisher_port.PublisherPort.{PublisherPort}
-use Rattle.iox_domain.specs.DomainValues.declared.handlers.Handlers.{Handlers}
 use Rattle.iox_domain.specs.Kept.{kept_under}
 use Rattle.iox_domain.specs.declared.domain.Domain.{Domain}
 use Rattle.iox_lanes_machine.specs.LanesBase.Numbers.{slot_words, words_of}
@@ -78,11 +79,11 @@ pub record IsTold {T U : Type 0} (sizes : LaneSizes) (place : ℕ) (port : Publi
   pub named : (at : ℕ) → IsNamedIf port (slice_get lane.heads at)
   pub last : lane.last ≡ port.last_sequence
 
-module _ {T U X Y D : Type 0} {F : X → Type 0} {G : Y → Type 0} (spelling : Spelling T U) (domain : Domain T U (Handlers X Y F G) D)
+module _ {T U B D : Type 0} (decision : B → Option BackpressureDecision) (spelling : Spelling T U) (domain : Domain T U B D)
     (publishers subscribers : List ℕ) (lanes : World)
-    (built : AreBuilt spelling domain publishers subscribers lanes) where
+    (built : AreBuilt decision spelling domain publishers subscribers lanes) where
   abbrev pub found_at : ℕ → World
-  found_at count = lanes_at spelling domain publishers subscribers (built.sized).sizes
+  found_at count = lanes_at decision spelling domain publishers subscribers (built.sized).sizes
       ((built.sized).are_agreed).as_many_publishers built.room count
 
   orders_leave : lanes.publishers ≡ (found_at (length publishers)).publishers
@@ -118,11 +119,11 @@ module _ {T U X Y D : Type 0} {F : X → Type 0} {G : Y → Type 0} (spelling : 
       port_is = ap (λ n. port_of n domain.state.ports.publishers) number_is ∙ found
 
       says : said lane ≡ said (introduced (built.sized).sizes place
-          (would_fail (kept_under (slice_index publishers place) domain.state.publisher_handlers)) port)
+          (would_fail decision (kept_under (slice_index publishers place) domain.state.publisher_handlers)) port)
       says =
-          let settled = settle spelling domain publishers subscribers (built.sized).sizes
+          let settled = settle decision spelling domain publishers subscribers (built.sized).sizes
           ((built.sized).are_agreed).as_many_publishers built.room (length publishers) (omega arith) in
-          let fails = would_fail (kept_under (slice_index publishers place) domain.state.publisher_handlers) in
+          let fails = would_fail decision (kept_under (slice_index publishers place) domain.state.publisher_handlers) in
           some_is (said lane) (said (introduced (built.sized).sizes place fails port))
           (sym (seen_at lanes place lane there) ∙ ap (λ xs. slice_get (map said xs) place) orders_leave ∙ settled.says place below ∙ ap
           (λ p. Some (says_if (built.sized).sizes place fails p)) port_is)

@@ -5,11 +5,11 @@ use Rattle.std.proofs.lemmas.Bool.{le-leb}
 use Rattle.std.proofs.lemmas.Bool.Decides.{eqb_tells}
 use Rattle.std.proofs.lemmas.List.{length-replicate}
 use Rattle.std.proofs.lemmas.Option.{slice_get-map, slice_get-get_or}
+use Rattle.iox_domain.specs.DomainValues.declared.backpressure.BackpressureDecision.{BackpressureDecision}
 use Rattle.iox_domain.specs.DomainPorts.Messages.{Message}
 use Rattle.iox_domain.specs.DomainPorts.Publishers.{port_of}
 use Rattle.iox_domain.specs.DomainPorts.declared.publisher_port.PublisherPort.{PublisherPort}
 use Rattle.iox_domain.specs.DomainPorts.declared.subscriber_port.SubscriberPort.{SubscriberPort}
-use Rattle.iox_domain.specs.DomainValues.declared.handlers.Handlers.{Handlers}
 use Rattle.iox_domain.specs.Kept.{kept_under}
 use Rattle.iox_domain.specs.Subscribers.{subscriber_of}
 use Rattle.iox_domain.specs.declared.domain.Domain.{Domain}
@@ -203,18 +203,18 @@ abbrev pub says_if : {T U : Type 0} → LaneSizes → ℕ → Bool → Option (P
 says_if sizes place fails None = said (publisher_at sizes place)
 says_if sizes place fails (Some port) = said (introduced sizes place fails port)
 
-module _ {T U X Y D : Type 0} {F : X → Type 0} {G : Y → Type 0} (spelling : Spelling T U) (domain : Domain T U (Handlers X Y F G) D)
+module _ {T U B D : Type 0} (decision : B → Option BackpressureDecision) (spelling : Spelling T U) (domain : Domain T U B D)
     (publishers subscribers : List ℕ) (sizes : LaneSizes) (as_many : sizes.publishers ≡ length publishers)
     (room : HaveSlots domain.state.ports.publishers publishers sizes.slots) where
   abbrev ports : List (ℕ × PublisherPort T U)
   ports = domain.state.ports.publishers
 
   abbrev fails_at : ℕ → Bool
-  fails_at place = would_fail (kept_under (slice_index publishers place) domain.state.publisher_handlers)
+  fails_at place = would_fail decision (kept_under (slice_index publishers place) domain.state.publisher_handlers)
 
   -- lanes after the first n publishers
   abbrev pub lanes_at : ℕ → World
-  lanes_at count = publishers_behind spelling domain publishers subscribers (start sizes) count
+  lanes_at count = publishers_behind decision spelling domain publishers subscribers (start sizes) count
 
   -- what they say of these, and that each other publisher is as it was made
   pub record AreSettled (m : World) (count : ℕ) : Type 0 where

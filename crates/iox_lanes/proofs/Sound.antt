@@ -6,6 +6,7 @@ use Rattle.std.proofs.lemmas.Option.{slice_get-get_or}
 use Rattle.std.specs.BTreeMap.{is_at}
 use Rattle.std.specs.List.{list_any}
 use Rattle.std.specs.Ordering.{nat_cmp}
+use Rattle.iox_domain.specs.DomainValues.declared.backpressure.BackpressureDecision.{BackpressureDecision}
 use Rattle.iox_domain.specs.Container.declared.container.Member.{Member}
 use Rattle.iox_domain.specs.DomainPorts.Messages.{Message}
 use Rattle.iox_domain.specs.DomainPorts.Ports.{connection_of}
@@ -14,8 +15,6 @@ use Rattle.iox_domain.specs.DomainPorts.declared.publisher_port.PublisherPort.{P
 use Rattle.iox_domain.specs.DomainPorts.declared.subscriber_port.SubscriberPort.{SubscriberPort}
 use Rattle.iox_domain.specs.DomainSlots.Uses.{Connection, nobody}
 use Rattle.iox_domain.specs.DomainValues.declared.service_sizes.ServiceSizes.{ServiceSizes}
-use Rattle.iox_domain.specs.DomainValues.declared.degradation_handler.DegradationHandler.{DegradationHandler}
-use Rattle.iox_domain.specs.DomainValues.declared.handlers.Handlers.{Handlers}
 use Rattle.iox_domain.specs.Subscribers.{subscriber_of}
 use Rattle.iox_domain.specs.declared.domain.Domain.{Domain}
 use Rattle.iox_domain.specs.declared.ports.service_ports.ServicePorts.{ServicePorts}
@@ -111,8 +110,8 @@ pub record IsFit {T U : Type 0} (sizes : ServiceSizes) (port : PublisherPort T U
   pub once : has_twice port.sender.uses.history ≡ false
   pub waiting : (index : ℕ) → waits_ill sizes (connection_of index port) ≡ false
 
-module _ {T U X Y Z : Type 0} {F : X → Type 0} {G : Y → Type 0} {H : Z → Type 0}
-    (domain : Domain T U (Handlers X Y F G) (DegradationHandler Z H)) (none : first_reason domain ≡ None) where
+module _ {T U B D : Type 0} (decision : B → Option BackpressureDecision) (asks : D → Bool)
+    (domain : Domain T U B D) (none : first_reason decision asks domain ≡ None) where
   abbrev ports : ServicePorts T U
   ports = domain.state.ports
 
@@ -127,8 +126,8 @@ module _ {T U X Y Z : Type 0} {F : X → Type 0} {G : Y → Type 0} {H : Z → T
       let blocked = no_reason (is_blocked ports) _ _ none in
       let current = no_reason (not (is_up_to_date ports)) _ _ blocked.1 in
       let growing = no_reason (has_growing ports) _ _ current.1 in
-      let handled = no_reason (has_handlers domain) _ _ growing.1 in
-      let retrying = no_reason (is_retrying domain) _ _ handled.1 in
+      let handled = no_reason (has_handlers decision asks domain) _ _ growing.1 in
+      let retrying = no_reason (is_retrying decision domain) _ _ handled.1 in
       let lingering = no_reason (is_lingering ports) _ _ retrying.1 in
       let sliced = no_reason (has_slices domain) _ _ lingering.1 in
       let places = neither (not (are_placed ports)) (list_any (λ (entry : ℕ × PublisherPort T U). is_misfit ports.sizes entry.1)

@@ -9,6 +9,7 @@ use Rattle.std.specs.BTreeMap.{is_at}
 use Rattle.std.specs.List.{list_any}
 use Rattle.std.specs.Map.{lookup}
 use Rattle.std.specs.Ordering.{nat_cmp}
+use Rattle.iox_domain.specs.DomainValues.declared.backpressure.BackpressureDecision.{BackpressureDecision}
 use Rattle.iox_domain.specs.Container.declared.container.Member.{Member}
 use Rattle.iox_domain.specs.DomainPorts.Ports.{connection_of, goes_on, is_live}
 use Rattle.iox_domain.specs.DomainPorts.Publishers.{port_of}
@@ -19,8 +20,6 @@ use Rattle.iox_domain.specs.DomainPorts.declared.subscriber_entry.SubscriberEntr
 use Rattle.iox_domain.specs.DomainPorts.declared.subscriber_port.SubscriberPort.{SubscriberPort}
 use Rattle.iox_domain.specs.DomainSlots.declared.stage.Stage.{Stage}
 use Rattle.iox_domain.specs.DomainSlots.declared.stage.Stage.TheVariants as stage
-use Rattle.iox_domain.specs.DomainValues.declared.degradation_handler.DegradationHandler.{DegradationHandler}
-use Rattle.iox_domain.specs.DomainValues.declared.handlers.Handlers.{Handlers}
 use Rattle.iox_domain.specs.Subscribers.{subscriber_of}
 use Rattle.iox_domain.specs.declared.domain.Domain.{Domain}
 use Rattle.iox_domain.specs.declared.ports.service_ports.ServicePorts.{ServicePorts}
@@ -122,8 +121,8 @@ one_reader one other (Some reader) reads too =
     (both (reader.subscriber == other) reader.attached too).0
 
 -- a listed publisher's messages for a listed subscriber go to a connection that goes on
-module _ {T U X Y Z : Type 0} {F : X → Type 0} {G : Y → Type 0} {H : Z → Type 0}
-    (domain : Domain T U (Handlers X Y F G) (DegradationHandler Z H)) (none : first_reason domain ≡ None) where
+module _ {T U B D : Type 0} (decision : B → Option BackpressureDecision) (asks : D → Bool)
+    (domain : Domain T U B D) (none : first_reason decision asks domain ≡ None) where
   abbrev ports : ServicePorts T U
   ports = domain.state.ports
 
@@ -132,8 +131,8 @@ module _ {T U X Y Z : Type 0} {F : X → Type 0} {G : Y → Type 0} {H : Z → T
       let blocked = no_reason (is_blocked ports) _ _ none in
       let current = no_reason (not (is_up_to_date ports)) _ _ blocked.1 in
       let growing = no_reason (has_growing ports) _ _ current.1 in
-      let handled = no_reason (has_handlers domain) _ _ growing.1 in
-      let retrying = no_reason (is_retrying domain) _ _ handled.1 in
+      let handled = no_reason (has_handlers decision asks domain) _ _ growing.1 in
+      let retrying = no_reason (is_retrying decision domain) _ _ handled.1 in
       (no_reason (is_lingering ports) _ _ retrying.1).0
 
   stands_listed : (reader : ℕ) (subscriber : SubscriberPort) → subscriber_of reader ports.subscribers ≡ Some subscriber
@@ -156,7 +155,8 @@ module _ {T U X Y Z : Type 0} {F : X → Type 0} {G : Y → Type 0} {H : Z → T
       × (is_reader reader (get_or port.readers (tie_for port (Some subscriber)) None) ≡ true)
   goes_there at number reader port subscriber listed found read =
       let current = both (of_each_listed (is_current_publisher ports) 0 ports.publisher_list.places)
-      (of_each_listed (λ place entry. is_current_subscriber ports entry) 0 ports.subscriber_list.places) (is_current domain none) in
+      (of_each_listed (λ place entry. is_current_subscriber ports entry) 0 ports.subscriber_list.places) (is_current decision asks domain
+      none) in
       let (place, follows) = listed_current ports 0 ports.publisher_list.places at number current.0 listed in
       let follows_all = both ((port.seen == ports.subscriber_list.changes)
       && of_each_listed (is_connected place number port ports.subscribers) 0 ports.subscriber_list.places)

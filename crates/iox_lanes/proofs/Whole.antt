@@ -2,13 +2,12 @@
 use Rattle.std.proofs.Common.{arith, ℕ, ◌≡◌, ◌+◌, ◌*◌, ◌<◌, Bool, true, is_some, unwrap_or, List, length, slice_get, slice_index, Option}
 use Rattle.std.proofs.Common.{None, Some, refl, sym, ap, subst, ◌∙◌, inl, inr}
 use Rattle.std.proofs.lemmas.Option.{get_or_from_slice_get}
+use Rattle.iox_domain.specs.DomainValues.declared.backpressure.BackpressureDecision.{BackpressureDecision}
 use Rattle.iox_domain.specs.DomainPorts.Messages.{Message}
 use Rattle.iox_domain.specs.DomainPorts.Ports.{connection_of}
 use Rattle.iox_domain.specs.DomainPorts.Publishers.{port_of}
 use Rattle.iox_domain.specs.DomainPorts.declared.publisher_port.PublisherPort.{PublisherPort}
 use Rattle.iox_domain.specs.DomainPorts.declared.subscriber_port.SubscriberPort.{SubscriberPort}
-use Rattle.iox_domain.specs.DomainValues.declared.degradation_handler.DegradationHandler.{DegradationHandler}
-use Rattle.iox_domain.specs.DomainValues.declared.handlers.Handlers.{Handlers}
 use Rattle.iox_domain.specs.Subscribers.{subscriber_of}
 use Rattle.iox_domain.specs.declared.domain.Domain.{Domain}
 use Rattle.iox_lanes_machine.specs.LanesParties.Parties.{PublisherLaneState}
@@ -27,9 +26,9 @@ use Rattle.iox_lanes.proofs.Placing.{words_lie}
 use Rattle.iox_lanes.proofs.Presence.{readers_there, remembers_one, waits_one}
 use Rattle.iox_lanes.proofs.Saying.{told}
 
-module _ {T U X Y Z : Type 0} {F : X → Type 0} {G : Y → Type 0} {H : Z → Type 0} (spelling : Spelling T U)
-    (domain : Domain T U (Handlers X Y F G) (DegradationHandler Z H)) (publishers subscribers : List ℕ) (lanes : World)
-    (built : AreBuilt spelling domain publishers subscribers lanes) (none : first_reason domain ≡ None) where
+module _ {T U B D : Type 0} (decision : B → Option BackpressureDecision) (asks : D → Bool) (spelling : Spelling T U)
+    (domain : Domain T U B D) (publishers subscribers : List ℕ) (lanes : World)
+    (built : AreBuilt decision spelling domain publishers subscribers lanes) (none : first_reason decision asks domain ≡ None) where
   abbrev ports : List (ℕ × PublisherPort T U)
   ports = domain.state.ports.publishers
 
@@ -45,15 +44,15 @@ module _ {T U X Y Z : Type 0} {F : X → Type 0} {G : Y → Type 0} {H : Z → T
       → KeepsIf (Some port) lane → IsLaneIf spelling lanes.table (Some port) lane
   lane_whole place number port None listed found there keeps = absurd keeps
   lane_whole place number port (Some lane) listed found there keeps =
-      let says = told spelling domain publishers subscribers lanes built place number port lane listed found there in
+      let says = told decision spelling domain publishers subscribers lanes built place number port lane listed found there in
       record {
         slots = says.slots;
         most_loans = says.most_loans;
         history = laid_so spelling lanes.table lane.port.book.first port lane.port.book.history port.sender.uses.history keeps
             (λ at message is.
-            let one = remembers_one domain number port none found at message is in
+            let one = remembers_one decision asks domain number port none found at message is in
             moved_to place port lane message says.first
-            (words_lie spelling domain publishers subscribers lanes built place number
+            (words_lie decision spelling domain publishers subscribers lanes built place number
             port message one.0 listed found (inl (at, is)) one.1));
         named = says.named;
         last = says.last;
@@ -90,7 +89,7 @@ module _ {T U X Y Z : Type 0} {F : X → Type 0} {G : Y → Type 0} {H : Z → T
         → IsTied (Some port) (Some reader) (Some index)
         → IsLinkIf spelling lanes.table (Some port) (Some reader) (Some lane) (Some index) (Some link)
     link_whole_of number reader_number port reader lane index link listed found there read stands waits tied =
-        let says = told spelling domain publishers subscribers lanes built publisher number port lane listed found there in
+        let says = told decision spelling domain publishers subscribers lanes built publisher number port lane listed found there in
         let tie_is : index ≡ tie_for port (subscriber_of (slice_index subscribers subscriber) domain.state.ports.subscribers) =
         sym (ap (λ n. tie_for port (subscriber_of n domain.state.ports.subscribers))
         (get_or_from_slice_get subscribers subscriber reader_number 0 read) ∙ ap (tie_for port) stands ∙ ap (λ t. unwrap_or t 0)
@@ -100,10 +99,10 @@ module _ {T U X Y Z : Type 0} {F : X → Type 0} {G : Y → Type 0} {H : Z → T
           limit = waits.0;
           waiting = laid_so spelling lanes.table lane.port.book.first port link.found (connection_of index port).waiting waits.1
               (λ at message is.
-              let one = waits_one domain number port none found index at message is in
+              let one = waits_one decision asks domain number port none found index at message is in
               let laid = ap (λ n. slice_get (connection_of n port).waiting at) (sym tie_is) ∙ is in
               moved_to publisher port lane message says.first
-              (words_lie spelling domain publishers subscribers lanes built publisher
+              (words_lie decision spelling domain publishers subscribers lanes built publisher
               number port message one.0 listed found (inr (subscriber, at, below, laid)) one.1));
         }
 
@@ -143,7 +142,7 @@ module _ {T U X Y Z : Type 0} {F : X → Type 0} {G : Y → Type 0} {H : Z → T
     by_port number reader_number (Some port) listed found read waits tied =
         link_whole_by number reader_number port (subscriber_of reader_number domain.state.ports.subscribers) lane_at index_at link_at
         listed found refl read refl
-        (readers_there domain subscribers none numbered subscriber reader_number read) waits tied
+        (readers_there decision asks domain subscribers none numbered subscriber reader_number read) waits tied
 
     by_reader : (number : ℕ) (reader : Option ℕ) → slice_get publishers publisher ≡ Some number → slice_get subscribers subscriber ≡ reader
         → WaitsIf (port_of number ports) lane_at index_at link_at

@@ -2,7 +2,7 @@
 use Rattle.std.specs.Prelude.{ℕ, ◌≡◌, ◌<◌, ◌≤◌, ◌^◌, List, length, slice_get, Option, None, Some}
 use Rattle.iox_domain.specs.DomainPorts.Publishers.{port_of}
 use Rattle.iox_domain.specs.DomainPorts.declared.publisher_port.PublisherPort.{PublisherPort}
-use Rattle.iox_domain.specs.DomainValues.declared.handlers.Handlers.{Handlers}
+use Rattle.iox_domain.specs.DomainValues.declared.backpressure.BackpressureDecision.{BackpressureDecision}
 use Rattle.iox_domain.specs.declared.domain.Domain.{Domain}
 use Rattle.iox_lanes_machine.specs.LanesBase.Numbers.{words_of}
 use Rattle.iox_lanes_machine.specs.Made.{start, table_sizes}
@@ -29,19 +29,19 @@ HaveSlots ports numbers most = (place : ℕ) → HasSlotsAt ports numbers most p
 
 -- The lanes after they found what the domain has: first publisher by publisher, then the order in which each subscriber goes over its
 -- connections.
-abbrev pub domain_behind : {T U X Y D : Type 0} {F : X → Type 0} {G : Y → Type 0} → Spelling T U
-    → Domain T U (Handlers X Y F G) D → List ℕ → List ℕ → World → World
-domain_behind spelling domain publishers subscribers m =
+abbrev pub domain_behind : {T U B D : Type 0} → (B → Option BackpressureDecision) → Spelling T U → Domain T U B D → List ℕ → List ℕ
+    → World → World
+domain_behind decision spelling domain publishers subscribers m =
     readers_behind publishers domain.state.ports.subscribers subscribers
-    (publishers_behind spelling domain publishers subscribers m (length publishers)) (length subscribers)
+    (publishers_behind decision spelling domain publishers subscribers m (length publishers)) (length subscribers)
 
 -- The lanes of a domain were made of the agreed sizes and then found all that the domain has. Each publisher of the lanes has the largest
 -- number of slots that any of the domain's publishers has. There are fewer than 2^64 words, and each message that was found is alone in its
 -- slot.
-pub record AreBuilt {T U X Y D : Type 0} {F : X → Type 0} {G : Y → Type 0} (spelling : Spelling T U)
-    (domain : Domain T U (Handlers X Y F G) D) (publishers subscribers : List ℕ) (lanes : World) : Type 0 where
+pub record AreBuilt {T U B D : Type 0} (decision : B → Option BackpressureDecision) (spelling : Spelling T U)
+    (domain : Domain T U B D) (publishers subscribers : List ℕ) (lanes : World) : Type 0 where
   pub sized : AreSized domain.state.ports.sizes (length publishers) (length subscribers) spelling.payload_count spelling.middle_count lanes
   pub room : HaveSlots domain.state.ports.publishers publishers (sized.sizes).slots
   pub small : words_of (table_sizes sized.sizes) < 2 ^ 64
   pub alone : KeepAlone domain.state.ports publishers subscribers
-  pub behind : lanes ≡ domain_behind spelling domain publishers subscribers (start sized.sizes)
+  pub behind : lanes ≡ domain_behind decision spelling domain publishers subscribers (start sized.sizes)

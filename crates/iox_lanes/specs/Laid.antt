@@ -6,7 +6,7 @@ use Rattle.iox_domain.specs.DomainPorts.Ports.{connection_of}
 use Rattle.iox_domain.specs.DomainPorts.declared.publisher_port.PublisherPort.{PublisherPort}
 use Rattle.iox_domain.specs.DomainPorts.Publishers.{port_of}
 use Rattle.iox_domain.specs.DomainPorts.declared.subscriber_port.SubscriberPort.{SubscriberPort}
-use Rattle.iox_domain.specs.DomainValues.declared.handlers.Handlers.{Handlers}
+use Rattle.iox_domain.specs.DomainValues.declared.backpressure.BackpressureDecision.{BackpressureDecision}
 use Rattle.iox_domain.specs.Kept.{kept_under}
 use Rattle.iox_domain.specs.Subscribers.{subscriber_of}
 use Rattle.iox_domain.specs.declared.domain.Domain.{Domain}
@@ -110,11 +110,11 @@ publisher_behind spelling readers subscribers m place fails (Some port) =
     (first_slot (slice_get (sender_behind m place fails port).publishers place)) (sender_behind m place fails port)
 
 -- The lanes after they found all of the first `count` publishers of the list, each at its place.
-abbrev pub publishers_behind : {T U X Y D : Type 0} {F : X → Type 0} {G : Y → Type 0} → Spelling T U
-    → Domain T U (Handlers X Y F G) D → List ℕ → List ℕ → World → ℕ → World
-publishers_behind spelling domain publishers subscribers m zero = m
-publishers_behind spelling domain publishers subscribers m (suc count) =
+abbrev pub publishers_behind : {T U B D : Type 0} → (B → Option BackpressureDecision) → Spelling T U → Domain T U B D → List ℕ → List ℕ
+    → World → ℕ → World
+publishers_behind decision spelling domain publishers subscribers m zero = m
+publishers_behind decision spelling domain publishers subscribers m (suc count) =
     publisher_behind spelling domain.state.ports.subscribers subscribers
-    (publishers_behind spelling domain publishers subscribers m count) count
-    (would_fail (kept_under (slice_index publishers count) domain.state.publisher_handlers))
+    (publishers_behind decision spelling domain publishers subscribers m count) count
+    (would_fail decision (kept_under (slice_index publishers count) domain.state.publisher_handlers))
     (port_of (slice_index publishers count) domain.state.ports.publishers)

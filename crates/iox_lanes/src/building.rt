@@ -37,17 +37,18 @@ use iox_lanes_base::words::SlotWord;
 use iox_lanes_machine::{Found, LaneMachine, LaneSizes};
 use iox_lanes_opening::leaving::words::middle_count;
 use iox_lanes_opening::refusals::deciding::would_fail;
+use iox_lanes_opening::refusals::{AsksCaller, FixedDecision};
 use iox_queues_base::Words;
 use iox_queues_steps::rings::RingKind;
 use std::alloc::{AllocError, Global};
 
 /// Builds lanes that found all that the domain has. No reason of `refusal` may apply to the domain. `AllocError` is returned only where an
 /// allocation fails.
-pub(crate) fn build<T: Words, U: Words>(
+pub(crate) fn build<T: Words, U: Words, B: FixedDecision, D: AsksCaller>(
     alloc: Global,
-    domain: &Domain<T, U>,
+    domain: &Domain<T, U, B, D>,
 ) -> Result<Opened<T>, AllocError>
-    requires { first_reason domain.now ≡ None }
+    requires { first_reason B.decision D.asks domain.now ≡ None }
     ensures came { IfOk result (λ opened. CameTo opened.lanes) }
     ensures between { IfOk result (λ opened. AllBetween opened.lanes) }
     ensures sized { IfOk result (λ opened. AreSized domain.now.state.ports.sizes (length opened.publishers.items)
@@ -59,11 +60,11 @@ pub(crate) fn build<T: Words, U: Words>(
         ≡ numbers_of (λ entry. entry.publisher) domain.now.state.ports.publisher_list.places) }
     ensures subscribers { IfOk result (λ opened. opened.subscribers.items
         ≡ numbers_of (λ entry. entry.subscriber) domain.now.state.ports.subscriber_list.places) }
-    ensures built { IfOk result (λ opened. AreBuilt
+    ensures built { IfOk result (λ opened. AreBuilt B.decision
         (spelling_of domain.now.state.ports.sizes.sequence_numbers T.parts T.WORDS U.parts U.WORDS) domain.now opened.publishers.items
         opened.subscribers.items opened.lanes) }
     ensures some { IfOk result (λ opened. 0 < length opened.one.items) }
-    ensures fails { IfOk result (λ opened. FailAsAsked domain.now opened.lanes opened.publishers.items) }
+    ensures fails { IfOk result (λ opened. FailAsAsked B.decision domain.now opened.lanes opened.publishers.items) }
     ensures ties { IfOk result (λ opened. AreTies domain.now.state.ports opened.publishers.items opened.subscribers.items
         opened.connections.items) }
 {
@@ -99,8 +100,8 @@ pub(crate) fn build<T: Words, U: Words>(
 }
 
 // The sizes of the lanes: the loan limit and the number of slots are the largest that one of the publishers has.
-fn sizes_of<T: Words, U: Words>(
-    domain: &Domain<T, U>,
+fn sizes_of<T: Words, U: Words, B, D>(
+    domain: &Domain<T, U, B, D>,
     numbers: &[u64],
     publishers: u64,
     subscribers: u64,
@@ -140,7 +141,7 @@ fn kind_of(overflows: bool) -> RingKind
 }
 
 // The largest loan limit of the publishers with these numbers.
-fn most_loans<T: Words, U: Words>(domain: &Domain<T, U>, numbers: &[u64]) -> u64
+fn most_loans<T: Words, U: Words, B, D>(domain: &Domain<T, U, B, D>, numbers: &[u64]) -> u64
     ensures { result ≡ most_loans_of domain.now.state.ports.publishers numbers.now }
 {
     let mut most = 0;
@@ -151,7 +152,7 @@ fn most_loans<T: Words, U: Words>(domain: &Domain<T, U>, numbers: &[u64]) -> u64
 }
 
 // The loan limit of the publisher with this number; 0 if there is none.
-fn loans_at<T: Words, U: Words>(domain: &Domain<T, U>, number: u64) -> u64
+fn loans_at<T: Words, U: Words, B, D>(domain: &Domain<T, U, B, D>, number: u64) -> u64
     ensures { result ≡ loans_if (port_of number domain.now.state.ports.publishers) }
 {
     match domain.state.ports.publishers.get(number) {
@@ -161,7 +162,7 @@ fn loans_at<T: Words, U: Words>(domain: &Domain<T, U>, number: u64) -> u64
 }
 
 // The most slots that any of the publishers with these numbers has.
-fn most_slots<T: Words, U: Words>(domain: &Domain<T, U>, numbers: &[u64]) -> u64
+fn most_slots<T: Words, U: Words, B, D>(domain: &Domain<T, U, B, D>, numbers: &[u64]) -> u64
     ensures most { HaveSlots domain.now.state.ports.publishers numbers.now result }
     ensures exact { result ≡ most_slots_of domain.now.state.ports.publishers numbers.now }
 {
@@ -173,7 +174,7 @@ fn most_slots<T: Words, U: Words>(domain: &Domain<T, U>, numbers: &[u64]) -> u64
 }
 
 // How many slots the publisher with this number has; 0 if there is none.
-fn slots_at<T: Words, U: Words>(domain: &Domain<T, U>, number: u64) -> u64
+fn slots_at<T: Words, U: Words, B, D>(domain: &Domain<T, U, B, D>, number: u64) -> u64
     ensures { result ≡ slots_if (port_of number domain.now.state.ports.publishers) }
 {
     match domain.state.ports.publishers.get(number) {
@@ -190,9 +191,9 @@ fn slots_of<T: Words, U: Words>(port: &PublisherPort<T, U>) -> u64
     (slots.first() as u64).saturating_add(slots.size() as u64)
 }
 
-fn find_publishers<T: Words, U: Words>(
+fn find_publishers<T: Words, U: Words, B: FixedDecision, D>(
     lanes: &mut NewLanes,
-    domain: &Domain<T, U>,
+    domain: &Domain<T, U, B, D>,
     publishers: &[u64],
     subscribers: &[u64],
     connections: &mut Vec<usize>,
@@ -201,10 +202,10 @@ fn find_publishers<T: Words, U: Words>(
     requires there { AreThere domain.now.state.ports.publishers publishers.now }
     requires none { connections.old.items ≡ [] }
     ensures sizes { lanes.new.sizes ≡ lanes.old.sizes }
-    ensures fails { OnOk result (failing lanes.new.lanes ≡ asked domain.now.state.publisher_handlers publishers.now) }
+    ensures fails { OnOk result (failing lanes.new.lanes ≡ asked B.decision domain.now.state.publisher_handlers publishers.now) }
     ensures alone { OnOk result (KeepAlone domain.now.state.ports publishers.now subscribers.now) }
     ensures ties { OnOk result (AreTies domain.now.state.ports publishers.now subscribers.now connections.new.items) }
-    ensures behind { OnOk result (lanes.new.lanes ≡ publishers_behind
+    ensures behind { OnOk result (lanes.new.lanes ≡ publishers_behind B.decision
         (spelling_of domain.now.state.ports.sizes.sequence_numbers T.parts T.WORDS U.parts U.WORDS) domain.now publishers.now
         subscribers.now lanes.old.lanes (length publishers.now)) }
 {
@@ -220,7 +221,10 @@ fn find_publishers<T: Words, U: Words>(
 }
 
 // The publisher with this number.
-fn publisher_of<T: Words, U: Words>(domain: &Domain<T, U>, number: u64) -> &PublisherPort<T, U>
+fn publisher_of<T: Words, U: Words, B, D>(
+    domain: &Domain<T, U, B, D>,
+    number: u64,
+) -> &PublisherPort<T, U>
     requires { is_some (port_of number domain.now.state.ports.publishers) ≡ true }
     ensures { port_of number domain.now.state.ports.publishers ≡ Some result.now }
 {
@@ -231,18 +235,18 @@ fn publisher_of<T: Words, U: Words>(domain: &Domain<T, U>, number: u64) -> &Publ
 }
 
 // The lanes find a publisher's number of slots, its loan limit, the node and number that its headers name, and whether its sends fail.
-fn find_publisher<T: Words, U: Words>(
+fn find_publisher<T: Words, U: Words, B: FixedDecision, D>(
     lanes: &mut NewLanes,
-    domain: &Domain<T, U>,
+    domain: &Domain<T, U, B, D>,
     place: usize,
     number: u64,
     port: &PublisherPort<T, U>,
 ) -> Result<(), AllocError>
     ensures sizes { lanes.new.sizes ≡ lanes.old.sizes }
     ensures fails { OnOk result (failing lanes.new.lanes
-        ≡ set (failing lanes.old.lanes) place (would_fail (kept_under number domain.now.state.publisher_handlers))) }
+        ≡ set (failing lanes.old.lanes) place (would_fail B.decision (kept_under number domain.now.state.publisher_handlers))) }
     ensures behind { OnOk result (lanes.new.lanes ≡ sender_behind lanes.old.lanes place
-        (would_fail (kept_under number domain.now.state.publisher_handlers)) port.now) }
+        (would_fail B.decision (kept_under number domain.now.state.publisher_handlers)) port.now) }
 {
     lanes.find(Found::Slots {
         publisher: place,
@@ -293,9 +297,9 @@ fn find_history<T: Words, U: Words>(
     Ok(())
 }
 
-fn find_connections<T: Words, U: Words>(
+fn find_connections<T: Words, U: Words, B, D>(
     lanes: &mut NewLanes,
-    domain: &Domain<T, U>,
+    domain: &Domain<T, U, B, D>,
     place: usize,
     first: u64,
     port: &PublisherPort<T, U>,
@@ -330,8 +334,8 @@ fn find_connections<T: Words, U: Words>(
 }
 
 // The index of the connection to which a publisher has tied a subscriber's place; 0 if there is none.
-fn tie_to<T: Words, U: Words>(
-    domain: &Domain<T, U>,
+fn tie_to<T: Words, U: Words, B, D>(
+    domain: &Domain<T, U, B, D>,
     port: &PublisherPort<T, U>,
     subscriber: u64,
 ) -> usize
@@ -483,9 +487,9 @@ fn find_value<T: Words>(lanes: &mut NewLanes, slot: u64, value: &T) -> Result<()
 }
 
 // Each subscriber goes over its connections in the order of its keys.
-fn find_orders<T: Words, U: Words>(
+fn find_orders<T: Words, U: Words, B, D>(
     lanes: &mut NewLanes,
-    domain: &Domain<T, U>,
+    domain: &Domain<T, U, B, D>,
     publishers: &[u64],
     subscribers: &[u64],
 ) -> Result<(), AllocError>
@@ -506,8 +510,8 @@ fn find_orders<T: Words, U: Words>(
 }
 
 /// The subscriber whose number is at this place of the list, if there is one.
-pub(crate) fn subscriber_at<'a, T: Words, U: Words>(
-    domain: &'a Domain<T, U>,
+pub(crate) fn subscriber_at<'a, T: Words, U: Words, B, D>(
+    domain: &'a Domain<T, U, B, D>,
     subscribers: &[u64],
     place: usize,
 ) -> Option<&'a SubscriberPort>

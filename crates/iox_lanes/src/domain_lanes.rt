@@ -17,9 +17,10 @@ ghost use Rattle.iox_lanes.specs.Spelling.{spelling_of};
 
 use crate::building::build;
 use iox_domain::Domain;
+use iox_domain_values::{DegradationHandler, Handlers};
 use iox_lanes_laws::messages::Lanes;
 use iox_lanes_machine::LaneMachine;
-use iox_lanes_opening::refusals::{IntoLanesError, refusal};
+use iox_lanes_opening::refusals::{AsksCaller, FixedDecision, IntoLanesError, refusal};
 use iox_queues_base::Words;
 use std::alloc::{AllocError, Global};
 
@@ -27,12 +28,12 @@ use std::alloc::{AllocError, Global};
 ///
 /// Not in `iceoryx2`.
 #[derive(Drop)]
-pub struct DomainLanes<T, U> {
+pub struct DomainLanes<T, U, B = Handlers, D = DegradationHandler> {
     /// The lanes: a publisher and a subscriber for each one that the domain lists, in the order of their places there. They keep their
     /// messages, each under its number.
     pub lanes: Lanes,
     /// The domain, as it was when the lanes began.
-    pub domain: Domain<T, U>,
+    pub domain: Domain<T, U, B, D>,
     /// The numbers of the publishers in the domain, by place in the lanes.
     pub publishers: Vec<u64>,
     /// The numbers of the subscribers in the domain, by place in the lanes.
@@ -45,11 +46,11 @@ pub struct DomainLanes<T, U> {
 
 /// A domain that didn't become lanes, as it was, and why.
 #[derive(Drop)]
-pub struct Refused<T, U> {
+pub struct Refused<T, U, B = Handlers, D = DegradationHandler> {
     /// Why the domain didn't become lanes.
     pub error: IntoLanesError,
     /// The domain, as it was.
-    pub domain: Domain<T, U>,
+    pub domain: Domain<T, U, B, D>,
 }
 
 /// Lanes, and which ports and connections of the domain they have.
@@ -92,15 +93,15 @@ struct Recorded<T> {
 /// Returns the first error of `refusal` that applies, before anything is built. Otherwise it returns `OutOfMemory` only if an allocation
 /// fails, as it does for the numbers of 2^61 subscribers. With an error, the domain is returned as it was. The lanes check each piece that
 /// they take in; it is proved that none is left out, so they have all that the domain has.
-pub fn into_lanes<T: Words, U: Words>(
+pub fn into_lanes<T: Words, U: Words, B: FixedDecision, D: AsksCaller>(
     alloc: Global,
-    domain: Domain<T, U>,
-) -> Result<DomainLanes<T, U>, Refused<T, U>>
+    domain: Domain<T, U, B, D>,
+) -> Result<DomainLanes<T, U, B, D>, Refused<T, U, B, D>>
     ensures lanes { IfOk result (λ opened. LanesHold
         (spelling_of domain.state.ports.sizes.sequence_numbers T.parts T.WORDS U.parts U.WORDS)
         domain opened.lanes.lanes opened.publishers.items
         opened.subscribers.items opened.connections.items) }
-    ensures fails { IfOk result (λ opened. FailAsAsked domain opened.lanes.lanes opened.publishers.items) }
+    ensures fails { IfOk result (λ opened. FailAsAsked B.decision domain opened.lanes.lanes opened.publishers.items) }
     ensures came { IfOk result (λ opened. CameTo opened.lanes.lanes) }
     ensures between { IfOk result (λ opened. AllBetween opened.lanes.lanes) }
     ensures sized { IfOk result (λ opened. AreSized domain.state.ports.sizes (length opened.publishers.items)
@@ -116,8 +117,8 @@ pub fn into_lanes<T: Words, U: Words>(
     ensures joined { IfOk result (λ opened. IsJoined (spelling_of domain.state.ports.sizes.sequence_numbers T.parts T.WORDS U.parts U.WORDS)
         (length opened.one.items) opened.lanes.lanes
         domain.state.ports.publishers opened.publishers.items (length opened.subscribers.items) opened.connections.items) }
-    ensures none { OnOk result (first_reason domain ≡ None) }
-    ensures told { IfErr result (λ refused. refused.error ≡ told_of (first_reason domain)) }
+    ensures none { OnOk result (first_reason B.decision D.asks domain ≡ None) }
+    ensures told { IfErr result (λ refused. refused.error ≡ told_of (first_reason B.decision D.asks domain)) }
     ensures same { IfErr result (λ refused. refused.domain ≡ domain) }
 {
     if let Some(error) = refusal(&domain) {
@@ -133,7 +134,7 @@ pub fn into_lanes<T: Words, U: Words>(
 }
 
 // The lanes with their domain beside them.
-fn with<T, U>(opened: Recorded<T>, domain: Domain<T, U>) -> DomainLanes<T, U>
+fn with<T, U, B, D>(opened: Recorded<T>, domain: Domain<T, U, B, D>) -> DomainLanes<T, U, B, D>
     ensures { result ≡ record {
       lanes = opened.lanes;
       domain = domain;
@@ -155,8 +156,11 @@ fn with<T, U>(opened: Recorded<T>, domain: Domain<T, U>) -> DomainLanes<T, U>
 }
 
 // The lanes of a domain, unless an allocation fails.
-fn open<T: Words, U: Words>(alloc: Global, domain: &Domain<T, U>) -> Result<Recorded<T>, AllocError>
-    requires { first_reason domain.now ≡ None }
+fn open<T: Words, U: Words, B: FixedDecision, D: AsksCaller>(
+    alloc: Global,
+    domain: &Domain<T, U, B, D>,
+) -> Result<Recorded<T>, AllocError>
+    requires { first_reason B.decision D.asks domain.now ≡ None }
     ensures came { IfOk result (λ opened. CameTo opened.lanes.lanes) }
     ensures between { IfOk result (λ opened. AllBetween opened.lanes.lanes) }
     ensures sized { IfOk result (λ opened. AreSized domain.now.state.ports.sizes (length opened.publishers.items)
@@ -176,7 +180,7 @@ fn open<T: Words, U: Words>(alloc: Global, domain: &Domain<T, U>) -> Result<Reco
         (spelling_of domain.now.state.ports.sizes.sequence_numbers T.parts T.WORDS U.parts U.WORDS)
         domain.now opened.lanes.lanes opened.publishers.items
         opened.subscribers.items opened.connections.items) }
-    ensures fails { IfOk result (λ opened. FailAsAsked domain.now opened.lanes.lanes opened.publishers.items) }
+    ensures fails { IfOk result (λ opened. FailAsAsked B.decision domain.now opened.lanes.lanes opened.publishers.items) }
 {
     let opened = build(alloc, domain)?;
     let kept = with_messages(alloc, opened)?;

@@ -18,6 +18,7 @@ use crate::domain_lanes::DomainLanes;
 use crate::into_domain_error::IntoDomainError;
 use iox_domain::Domain;
 use iox_domain_ports::{PublisherPort, Publishers};
+use iox_domain_values::{DegradationHandler, Handlers};
 use iox_lanes_machine::{LaneMachine, Unrest};
 use iox_lanes_opening::leaving::words::middle_count;
 use iox_lanes_opening::leaving::{LeftPublisher, restore};
@@ -26,14 +27,14 @@ use iox_queues_base::Words;
 
 /// Lanes that didn't become a domain, as they were, and why.
 #[derive(Drop)]
-pub struct StillLanes<T, U> {
+pub struct StillLanes<T, U, B = Handlers, D = DegradationHandler> {
     /// Why the lanes didn't become a domain.
     pub error: IntoDomainError,
     /// The lanes, with their domain.
-    pub lanes: DomainLanes<T, U>,
+    pub lanes: DomainLanes<T, U, B, D>,
 }
 
-impl<T: Words, U: Words> DomainLanes<T, U> {
+impl<T: Words, U: Words, B, D> DomainLanes<T, U, B, D> {
     /// The domain as the lanes leave it. The messages that wait at each connection of the lanes, by its order, wait at the same connection
     /// of the domain. Each publisher's history is that of its lane. Each message has the values, user header, number of elements and
     /// sequence number that its slot contains, and each publisher has the last sequence number of its lane. All else is as it was when the
@@ -44,7 +45,7 @@ impl<T: Words, U: Words> DomainLanes<T, U> {
     /// domain beside them (`IsJoined`). The lanes of `into_lanes` are joined, and remain so after any steps.
     ///
     /// Not in `iceoryx2`.
-    pub fn into_domain(self) -> Result<Domain<T, U>, StillLanes<T, U>>
+    pub fn into_domain(self) -> Result<Domain<T, U, B, D>, StillLanes<T, U, B, D>>
         ensures told { IfErr result (λ still. IsUnrest (unrest_of still.error) self.lanes.lanes) }
         ensures kept { IfErr result (λ still. still.lanes ≡ self) }
         ensures rests { OnOk result (AllBetween self.lanes.lanes × NoneOut self.lanes.lanes) }
@@ -82,7 +83,7 @@ fn error_of(unrest: Unrest) -> IntoDomainError
 }
 
 // The domain with the messages that the lanes leave, if the lanes are joined with it.
-fn returned<T: Words, U: Words>(opened: DomainLanes<T, U>) -> Domain<T, U>
+fn returned<T: Words, U: Words, B, D>(opened: DomainLanes<T, U, B, D>) -> Domain<T, U, B, D>
     ensures rest { OnlyPublishers opened.domain result }
     ensures left { AllRest opened.lanes.lanes
         → IsJoined (spelling_of opened.domain.state.ports.sizes.sequence_numbers T.parts T.WORDS U.parts U.WORDS) (length opened.one.items)

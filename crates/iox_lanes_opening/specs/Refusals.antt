@@ -3,8 +3,7 @@ use Rattle.std.specs.Prelude.{Bool, true, false, not, Option, None, Some, if◌t
 use Rattle.std.specs.List.{list_any}
 use Rattle.iox_domain.specs.DomainValues.declared.data_segment.AllocationStrategy.{AllocationStrategy}
 use Rattle.iox_domain.specs.DomainValues.declared.data_segment.AllocationStrategy.TheVariants as strategy
-use Rattle.iox_domain.specs.DomainValues.declared.degradation_handler.DegradationHandler.{DegradationHandler}
-use Rattle.iox_domain.specs.DomainValues.declared.handlers.Handlers.{Handlers}
+use Rattle.iox_domain.specs.DomainValues.declared.backpressure.BackpressureDecision.{BackpressureDecision}
 use Rattle.iox_domain.specs.PortsPublishing as publishing
 use Rattle.iox_domain.specs.declared.ports.service_ports.ServicePorts.{ServicePorts}
 use Rattle.iox_domain.specs.declared.domain.Domain.{Domain}
@@ -31,15 +30,16 @@ may_grow strategy.Static = false
 abbrev pub has_growing : {T U : Type 0} → ServicePorts T U → Bool
 has_growing ports = list_any (λ entry. may_grow entry.1.allocation) ports.publishers
 
--- The first reason that applies, or none.
-abbrev pub first_reason : {T U X Y Z : Type 0} {F : X → Type 0} {G : Y → Type 0} {H : Z → Type 0}
-    → Domain T U (Handlers X Y F G) (DegradationHandler Z H) → Option IntoLanesError
-first_reason domain =
+-- The first reason that applies, or none. `decision` is what a publisher's handlers do at each full mailbox, if none of them is an object
+-- of
+-- the caller; `asks` is whether a subscriber's handler is one.
+abbrev pub first_reason : {T U B D : Type 0} → (B → Option BackpressureDecision) → (D → Bool) → Domain T U B D → Option IntoLanesError
+first_reason decision asks domain =
     if is_blocked domain.state.ports then Some reason.Blocked
     else if not (is_up_to_date domain.state.ports) then Some reason.ConnectionsNotUpToDate
     else if has_growing domain.state.ports then Some reason.NotStatic
-    else if has_handlers domain then Some reason.HasHandlers
-    else if is_retrying domain then Some reason.Retrying
+    else if has_handlers decision asks domain then Some reason.HasHandlers
+    else if is_retrying decision domain then Some reason.Retrying
     else if is_lingering domain.state.ports then Some reason.Lingering
     else if has_slices domain then Some reason.HasSlices
     else if is_unsound domain.state.ports then Some reason.Unsound

@@ -27,5 +27,6 @@ pub mod slices;
 pub mod soundness;
 pub mod up_to_date;
 
+pub use deciding::{AsksCaller, FixedDecision};
 pub use into_lanes_error::IntoLanesError;
 pub use reasons::refusal;

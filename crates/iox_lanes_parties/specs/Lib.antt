@@ -4,6 +4,7 @@ pub mod Parties
 pub mod Within
 pub mod Keeping
 pub mod PublisherKeeping
+pub mod UseCounts
 pub mod Publishers
 pub mod SendAnswers
 pub mod Values

@@ -1,6 +1,7 @@
 //! A publisher of a service whose words are shared: the call that it is in, and what it keeps for itself.
 //!
 //! - [`slot_book`]: what its slots are used for.
+//! - [`use_counts`]: how many uses each slot has.
 //! - [`lane_publisher`]: the publisher.
 //!
 //! First calls, of a loan of a publisher that nobody is connected to; `LaneMachine` of `iox_lanes_machine` makes them with the words of
@@ -16,6 +17,7 @@
 
 pub mod lane_publisher;
 pub mod slot_book;
+pub mod use_counts;
 
 pub use lane_publisher::LanePublisher;
 pub use slot_book::{LoanAnswer, LoanMark, SlotBook};

@@ -41,3 +41,9 @@ pub(crate) fn another(alloc: Global, aside: &mut Vec<LanePublisher>) -> Result<b
     let mut threads = opened(alloc, 2, ALONE)?;
     pass(&mut threads.publishers, 0, aside)
 }
+
+/// A publisher whose slots have a word, of a board with this number.
+pub(crate) fn narrow(alloc: Global, board: u64) -> Result<Option<LanePublisher>, AllocError> {
+    let mut threads = opened(alloc, board, ALONE)?;
+    Ok(threads.publishers.pop())
+}

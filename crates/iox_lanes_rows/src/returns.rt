@@ -228,6 +228,7 @@ const CASES: [Case; 12] = [
             Step::Opens(None),
             Step::Starts(None),
             Step::Threads(InThreads::Typed([2, 3, 1])),
+            Step::Threads(InThreads::Narrow(2)),
             Step::Ends(None),
         ],
     },

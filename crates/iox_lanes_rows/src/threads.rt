@@ -1,7 +1,7 @@
 //! What the ports of a domain send and receive in threads. Messages have sequence numbers, and ports are identified by their places.
 use crate::changes::NumberThreads;
 use crate::domain::in_both_words;
-use crate::ending::{another, pass, pass_last};
+use crate::ending::{another, narrow, pass, pass_last};
 use crate::lanes::{USER_HEADER, are_values};
 use crate::typed;
 use iox_lanes::{LanePublisher, LaneSubscriber, LoanAnswer, Receipt, SendAnswer};
@@ -29,6 +29,8 @@ pub(crate) enum InThreads {
     Typed([u64; 3]),
     /// The send of the publisher with this id fails at a full mailbox.
     Fails(u64),
+    /// A publisher of narrower slots, of another board with the number of this one, stands in for the one with this id, and refuses a value.
+    Narrow(u64),
 }
 
 // What a publisher's send of a value answers.
@@ -95,6 +97,10 @@ pub(crate) fn goes(
     match *step {
         InThreads::Typed(ids) => Ok(typed::go(rt, threads, ids) == Some(true)),
         InThreads::Fails(id) => Ok(typed::fails(threads, id) == Some(true)),
+        InThreads::Narrow(id) => {
+            let narrow = narrow(alloc, 1)?;
+            Ok(typed::is_refused_for_width(threads, id, narrow) == Some(true))
+        }
         _ => goes_by_places(rt, alloc, threads, aside, step),
     }
 }
@@ -123,6 +129,6 @@ fn goes_by_places(
         InThreads::Another => another(alloc, aside),
         InThreads::Parts => pass_last(publishers, aside),
         InThreads::Joins => pass(aside, 0, publishers),
-        InThreads::Typed(_) | InThreads::Fails(_) => Ok(false),
+        InThreads::Typed(_) | InThreads::Fails(_) | InThreads::Narrow(_) => Ok(false),
     }
 }

@@ -1,8 +1,8 @@
 //! Ports in threads that know the types of their service, by their ids in the domain.
 use crate::changes::NumberThreads;
 use crate::domain::in_both_words;
-use iox_lanes::Delivery;
 use iox_lanes::threads::{Loan, Publisher, SendError, Subscriber, Unsent, WriteError};
+use iox_lanes::{Delivery, LanePublisher};
 use std::sync::Wait;
 
 type Sender = Publisher<u128, ()>;
@@ -69,6 +69,22 @@ pub(crate) fn go(rt: &impl Wait, threads: &mut NumberThreads, ids: [u64; 3]) -> 
     threads.put_publisher(other).ok()?;
     threads.put_subscriber(reader).ok()?;
     Some(well)
+}
+
+/// Whether a publisher whose slots have a word, which has board number and place of the publisher with this id, refuses a value of two.
+pub(crate) fn is_refused_for_width(
+    threads: &mut NumberThreads,
+    id: u64,
+    narrow: Option<LanePublisher>,
+) -> Option<bool> {
+    let own = threads.take_publisher(id)?;
+    threads.publishers.push(narrow?).ok()?;
+    let mut port = threads.take_publisher(id)?;
+    let loan = port.loan().ok()?;
+    let written = port.write(&loan, &in_both_words(VALUE), &());
+    let dropped = port.drop_loan(loan).is_ok();
+    threads.put_publisher(own).ok()?;
+    Some(written == Err(WriteError::OtherWidth) && dropped)
 }
 
 /// Whether the send of the publisher with this id fails at the only mailbox, which is full, and its loan is gone.

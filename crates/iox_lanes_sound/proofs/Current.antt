@@ -6,6 +6,7 @@ use Rattle.std.proofs.lemmas.Bool.{cases_lt, eqb-true, ltb-false, ltb-true}
 use Rattle.std.proofs.lemmas.Bool.Decides.{eqb_tells}
 use Rattle.std.proofs.lemmas.List.{get_or_append_left, get_or_past, length-append, length-map, length-replicate}
 use Rattle.std.proofs.lemmas.List.{get_or-append_right}
+use Rattle.iox_domain.specs.DomainValues.declared.backpressure.BackpressureDecision.{BackpressureDecision}
 use Rattle.iox_domain.specs.Container.declared.container.Member.{Member}
 use Rattle.iox_domain.specs.DomainPorts.Places.{reached}
 use Rattle.iox_domain.specs.DomainPorts.Ports.{is_live}
@@ -18,8 +19,6 @@ use Rattle.iox_domain.specs.DomainPorts.declared.publisher_port.PublisherPort.{P
 use Rattle.iox_domain.specs.DomainPorts.declared.reader.Reader.{Reader}
 use Rattle.iox_domain.specs.DomainPorts.declared.subscriber_entry.SubscriberEntry.{SubscriberEntry}
 use Rattle.iox_domain.specs.DomainPorts.declared.subscriber_port.SubscriberPort.{SubscriberPort}
-use Rattle.iox_domain.specs.DomainValues.declared.degradation_handler.DegradationHandler.{DegradationHandler}
-use Rattle.iox_domain.specs.DomainValues.declared.handlers.Handlers.{Handlers}
 use Rattle.iox_domain.specs.Rolls.{is_listed}
 use Rattle.iox_domain.specs.Subscribers.{subscriber_of}
 use Rattle.iox_domain.specs.declared.domain.Domain.{Domain}
@@ -136,8 +135,8 @@ tied_or_not (tie ∷ rest) index = by tie (tied_or_not rest index)
         each apart zero is = apart (some_is other index is)
         each apart (suc place) is = none place is
 
-module _ {T U X Y Z : Type 0} {F : X → Type 0} {G : Y → Type 0} {H : Z → Type 0}
-    (domain : Domain T U (Handlers X Y F G) (DegradationHandler Z H)) (none : first_reason domain ≡ None) where
+module _ {T U B D : Type 0} (decision : B → Option BackpressureDecision) (asks : D → Bool)
+    (domain : Domain T U B D) (none : first_reason decision asks domain ≡ None) where
   abbrev ports : ServicePorts T U
   ports = domain.state.ports
 
@@ -167,7 +166,8 @@ module _ {T U X Y Z : Type 0} {F : X → Type 0} {G : Y → Type 0} {H : Z → T
   current : (of_each_listed (is_current_publisher ports) 0 ports.publisher_list.places ≡ true)
       × (of_each_listed (λ place entry. is_current_subscriber ports entry) 0 ports.subscriber_list.places ≡ true)
   current = both (of_each_listed (is_current_publisher ports) 0 ports.publisher_list.places)
-      (of_each_listed (λ place entry. is_current_subscriber ports entry) 0 ports.subscriber_list.places) (is_current domain none)
+      (of_each_listed (λ place entry. is_current_subscriber ports entry) 0 ports.subscriber_list.places) (is_current decision asks domain
+      none)
 
   -- each listed publisher has
   pub has_followed : (number : ℕ) (port : PublisherPort T U) (member : Member PublisherEntry)

@@ -15,6 +15,7 @@ use Rattle.std.specs.Bool.{beq}
 use Rattle.std.specs.List.{All, list_any}
 use Rattle.std.specs.Ordering.{nat_cmp}
 use Rattle.std.specs.Prelude.{filter}
+use Rattle.iox_domain.specs.DomainValues.declared.backpressure.BackpressureDecision.{BackpressureDecision}
 use Rattle.iox_domain.specs.Container.declared.container.Member.{Member}
 use Rattle.iox_domain.specs.DomainPorts.Messages.{Loan, Message}
 use Rattle.iox_domain.specs.DomainPorts.Ports.{connection_of}
@@ -25,8 +26,6 @@ use Rattle.iox_domain.specs.DomainPorts.declared.publisher_entry.PublisherEntry.
 use Rattle.iox_domain.specs.DomainPorts.declared.publisher_port.PublisherPort.{PublisherPort}
 use Rattle.iox_domain.specs.DomainPorts.declared.reader.Reader.{Reader}
 use Rattle.iox_domain.specs.DomainPorts.declared.subscriber_port.SubscriberPort.{SubscriberPort}
-use Rattle.iox_domain.specs.DomainValues.declared.degradation_handler.DegradationHandler.{DegradationHandler}
-use Rattle.iox_domain.specs.DomainValues.declared.handlers.Handlers.{Handlers}
 use Rattle.iox_domain.specs.Subscribers.{subscriber_of}
 use Rattle.iox_domain.specs.declared.domain.Domain.{Domain}
 use Rattle.iox_domain.specs.declared.ports.service_ports.ServicePorts.{ServicePorts}
@@ -199,17 +198,17 @@ link_of spelling table overflow publisher subscriber (Some a) (Some b) (Some c) 
     (a, refl, b, refl, c, refl, i, l, refl, leads, is)
 
 -- a publisher numbers its messages as agreed, and its last number isn't too large
-pub well_numbered : {T U X Y Z : Type 0} {F : X → Type 0} {G : Y → Type 0} {H : Z → Type 0}
-    (domain : Domain T U (Handlers X Y F G) (DegradationHandler Z H)) → first_reason domain ≡ None → (number : ℕ) (port : PublisherPort T U)
+pub well_numbered : {T U B D : Type 0} (decision : B → Option BackpressureDecision) (asks : D → Bool)
+    (domain : Domain T U B D) → first_reason decision asks domain ≡ None → (number : ℕ) (port : PublisherPort T U)
     → port_of number domain.state.ports.publishers ≡ Some port
     → (is_misnumbered domain.state.ports.sizes port ≡ false) × (is_too_large port.last_sequence ≡ false)
-well_numbered {T} {U} domain none number port there =
+well_numbered {T} {U} decision asks domain none number port there =
     let ports : ServicePorts T U = domain.state.ports in
     let blocked = no_reason (is_blocked ports) _ _ none in
     let current = no_reason (not (is_up_to_date ports)) _ _ blocked.1 in
     let growing = no_reason (has_growing ports) _ _ current.1 in
-    let handled = no_reason (has_handlers domain) _ _ growing.1 in
-    let retrying = no_reason (is_retrying domain) _ _ handled.1 in
+    let handled = no_reason (has_handlers decision asks domain) _ _ growing.1 in
+    let retrying = no_reason (is_retrying decision domain) _ _ handled.1 in
     let lingering = no_reason (is_lingering ports) _ _ retrying.1 in
     let sliced = no_reason (has_slices domain) _ _ lingering.1 in
     let sound = no_reason (is_unsound ports) _ _ sliced.1 in
@@ -233,9 +232,10 @@ pub some_middle : (numbered : Bool) (count : ℕ) → numbered ≡ true → 0 < 
 some_middle true count is = omega arith
 some_middle false count is = absurd (cc is)
 
-module _ {T U X Y Z : Type 0} {F : X → Type 0} {G : Y → Type 0} {H : Z → Type 0} (payload_words : T → List ℕ) (header_words : U → List ℕ)
+module _ {T U B D : Type 0} (decision : B → Option BackpressureDecision) (asks : D → Bool) (payload_words : T
+    → List ℕ) (header_words : U → List ℕ)
     (value : List ℕ → T) (payload_count header_count : ℕ) (long : (x : T) → length (payload_words x) ≡ payload_count)
-    (domain : Domain T U (Handlers X Y F G) (DegradationHandler Z H)) (none : first_reason domain ≡ None) (m : World) (came : CameTo m)
+    (domain : Domain T U B D) (none : first_reason decision asks domain ≡ None) (m : World) (came : CameTo m)
     (senders readers indices : List ℕ)
     (h : LanesHold (spelling_of domain.state.ports.sizes.sequence_numbers payload_words payload_count header_words header_count) domain m
     senders readers indices)
@@ -376,8 +376,8 @@ module _ {T U X Y Z : Type 0} {F : X → Type 0} {G : Y → Type 0} {H : Z → T
       subst (IsLaneOf spelling m.table port) same of in
       let there = port_at place port below is in
       let (publisher, by_name, p, boxes) = s.publishers (get_or senders place 0) port there in
-      let rest = rested domain (get_or senders place 0) port none there in
-      let fit = fits domain none (get_or senders place 0) port there in (
+      let rest = rested decision asks domain (get_or senders place 0) port none there in
+      let fit = fits decision asks domain none (get_or senders place 0) port there in (
         publisher,
         by_name,
         record {
@@ -438,7 +438,7 @@ module _ {T U X Y Z : Type 0} {F : X → Type 0} {G : Y → Type 0} {H : Z → T
       let there = port_at publisher a sends port_is in
       let read = subscriber_at subscriber b reads reader_is in
       let (one, by_name, p, box) = s.publishers number a there in
-      let goes = goes_there domain none publisher number reader a b
+      let goes = goes_there decision asks domain none publisher number reader a b
       (ap (λ numbers. slice_get numbers publisher) (sym h.publishers) ∙ sender_at publisher sends) there read in
       let index_is : i ≡ tie_for a (Some b) = some_is i (tie_for a (Some b)) (sym is.tie ∙ goes.0) in
       let reader_there : is_reader reader (get_or a.readers i None) ≡ true =
@@ -462,7 +462,7 @@ module _ {T U X Y Z : Type 0} {F : X → Type 0} {G : Y → Type 0} {H : Z → T
             (map (slot_message value own m.table) (mail_at m connection))
             (map (message_as (names.message number)) (connection_of i a).borrowed) [] (sym is.limit)
             (waits ∙ ap (map (slot_message value own m.table)) (sym mail))
-            (ap (map (message_as (names.message number))) ((rested domain number a none there).none i))),
+            (ap (map (message_as (names.message number))) ((rested decision asks domain number a none there).none i))),
         ap overflows led.2 ∙ kind_same ports.sizes.enable_safe_overflow ∙ ap (λ sizes. sizes.enable_safe_overflow) s.sizes,
       )
 
@@ -494,7 +494,7 @@ module _ {T U X Y Z : Type 0} {F : X → Type 0} {G : Y → Type 0} {H : Z → T
       let number_same : get_or senders one 0 ≡ get_or senders other 0 = s.named_publishers.apart (get_or senders one 0)
       (get_or senders other 0) (some_name names.publisher service.publishers (get_or senders one 0) publisher s.named_publishers by_name)
       same in
-      publishers_once domain none senders h.publishers one other (get_or senders one 0) (sender_at one one_below)
+      publishers_once decision asks domain none senders h.publishers one other (get_or senders one 0) (sender_at one one_below)
       (sender_at other other_below ∙ ap (λ n. Some n) (sym number_same))
 
   readers_apart : (one other : ℕ) → one < length m.subscribers → other < length m.subscribers
@@ -507,14 +507,14 @@ module _ {T U X Y Z : Type 0} {F : X → Type 0} {G : Y → Type 0} {H : Z → T
       let number_same : get_or readers one 0 ≡ get_or readers other 0 = s.named_subscribers.apart (get_or readers one 0)
       (get_or readers other 0)
       (some_name names.subscriber service.subscribers (get_or readers one 0) subscriber s.named_subscribers by_name) same in
-      subscribers_once domain none readers h.subscribers one other (get_or readers one 0) (reader_at one one_below)
+      subscribers_once decision asks domain none readers h.subscribers one other (get_or readers one 0) (reader_at one one_below)
       (reader_at other other_below ∙ ap (λ n. Some n) (sym number_same))
     where
       there : (place : ℕ) → place < length readers → (port : Option SubscriberPort)
           → subscriber_of (get_or readers place 0) ports.subscribers ≡ port
           → (one : SubscriberPort) × (subscriber_of (get_or readers place 0) ports.subscribers ≡ Some one)
       there place below None is = absurd (cc (
-        readers_there domain readers none h.subscribers place (get_or readers place 0)
+        readers_there decision asks domain readers none h.subscribers place (get_or readers place 0)
             (reader_at place below),
         is,
       ))
@@ -522,12 +522,14 @@ module _ {T U X Y Z : Type 0} {F : X → Type 0} {G : Y → Type 0} {H : Z → T
 
   lends_none : (number : ℕ) (port : Option (PublisherPort T U)) → port_of number ports.publishers ≡ port → loans_at_port port ≡ []
   lends_none number None is = refl
-  lends_none number (Some port) is = ap (map (λ (loan : Loan T U). loan.slot)) (rested domain number port none is).quiet.unlent
+  lends_none number (Some port) is = ap (map (λ (loan : Loan T U). loan.slot)) (rested decision asks domain number port none
+      is).quiet.unlent
 
   borrows_none : (number index : ℕ) (port : Option (PublisherPort T U)) → port_of number ports.publishers ≡ port
       → map (λ (message : Message T U). message.slot) (connection_at_port index port).borrowed ≡ []
   borrows_none number index None is = refl
-  borrows_none number index (Some port) is = ap (map (λ (message : Message T U). message.slot)) ((rested domain number port none is).none
+  borrows_none number index (Some port) is = ap (map (λ (message : Message T U). message.slot)) ((rested decision asks domain number port
+      none is).none
       index)
 
   -- a lane gave the same number last as its publisher
@@ -548,10 +550,10 @@ module _ {T U X Y Z : Type 0} {F : X → Type 0} {G : Y → Type 0} {H : Z → T
         let (number, port, there, last) = last_there place lane found in
         ap is_some last
         ∙ beq_same (is_some port.last_sequence) numbered (not_no (beq (is_some port.last_sequence) numbered)
-        (well_numbered domain none number port there).0);
+        (well_numbered decision asks domain none number port there).0);
     low = λ place lane last found is.
         let (number, port, there, same) = last_there place lane found in
-        let small = not_large last (ap is_too_large (sym is ∙ same) ∙ (well_numbered domain none number port there).1) in
+        let small = not_large last (ap is_too_large (sym is ∙ same) ∙ (well_numbered decision asks domain none number port there).1) in
         omega (arith, small);
   }
 

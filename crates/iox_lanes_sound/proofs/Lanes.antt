@@ -12,6 +12,7 @@ use Rattle.iox_command.specs.DomainValues.declared.backpressure.BackpressureDeci
 use Rattle.iox_command.specs.DomainValues.declared.backpressure.BackpressureDecision.TheVariants as decided
 use Rattle.iox_command.specs.DomainValues.Actions.{decision_of}
 use Rattle.iox_domain.proofs.Keys.{key_there, often_append}
+use Rattle.iox_domain.specs.DomainValues.declared.backpressure.BackpressureDecision.{BackpressureDecision}
 use Rattle.iox_domain.specs.Attaching as attaching
 use Rattle.iox_domain.specs.Container.declared.container.Member.{Member}
 use Rattle.iox_domain.specs.DomainPorts.Messages.{Message}
@@ -31,8 +32,6 @@ use Rattle.iox_domain.specs.DomainSlots.Uses as uses
 use Rattle.iox_domain.specs.DomainSlots.Uses.{Connection, held_by, in_use, is_open, is_there, nobody}
 use Rattle.iox_domain.specs.DomainSlots.declared.stage.Stage.{Stage}
 use Rattle.iox_domain.specs.DomainSlots.declared.stage.Stage.TheVariants as stage
-use Rattle.iox_domain.specs.DomainValues.declared.degradation_handler.DegradationHandler.{DegradationHandler}
-use Rattle.iox_domain.specs.DomainValues.declared.handlers.Handlers.{Handlers}
 use Rattle.iox_domain.specs.DomainValues.declared.service_sizes.ServiceSizes.{ServiceSizes}
 use Rattle.iox_domain.specs.Kept.{kept_under}
 use Rattle.iox_domain.specs.Roomy.{AreRoomy}
@@ -79,7 +78,7 @@ use Rattle.iox_lanes_machine.specs.Resting.{AllBetween, mail_at, mail_by}
 use Rattle.iox_lanes_machine.specs.Rings.{waiting}
 use Rattle.iox_lanes_machine.specs.WholeReads.{CameTo}
 use Rattle.iox_lanes_machine.specs.World.{World}
-use Rattle.iox_lanes_opening.specs.Deciding.{fixed_answer, has_handlers, is_failure, is_retry, is_retrying, retries, would_fail, would_wait}
+use Rattle.iox_lanes_opening.specs.Deciding.{has_handlers, is_failure, is_retry, is_retrying, retries, would_fail, would_wait}
 use Rattle.iox_lanes_opening.specs.Lingering.{connection_lingers, has_ended, has_left_over, has_out, is_listed_publisher}
 use Rattle.iox_lanes_opening.specs.Lingering.{is_listed_subscriber, leads_nowhere, publisher_lingers, subscriber_lingers}
 use Rattle.iox_lanes_opening.specs.Middles.{middle_count}
@@ -165,10 +164,11 @@ front_empty : {X : Type 0} (xs ys : List X) → xs ++ ys ≡ [] → xs ≡ []
 front_empty [] ys is = refl
 front_empty (x ∷ xs) ys is = absurd (cc is)
 
-passing : (decision : BackpressureDecision) → is_retry decision ≡ false → passing_over (is_failure decision) ≡ decision
-passing decided.Retry is = absurd (cc is)
-passing decided.DiscardData is = refl
-passing decided.DiscardDataAndFail is = refl
+passing : (decision : Option BackpressureDecision) → is_retry decision ≡ false → decision ≡ Some (passing_over (is_failure decision))
+passing None is = absurd (cc is)
+passing (Some decided.Retry) is = absurd (cc is)
+passing (Some decided.DiscardData) is = refl
+passing (Some decided.DiscardDataAndFail) is = refl
 
 -- nothing waits in a mailbox, and nothing is borrowed of it
 abbrev IsEmpty : {T : Type 0} → Mailbox T → Type 0
@@ -187,9 +187,10 @@ empty_by {T} publisher other service (Some one) found empty =
       ap (λ (box : Option (Mailbox T)). (unwrap_or box (record { limit = 0; waiting = []; borrowed = [] })).borrowed) found ∙ it.1,
     )
 
-module _ {T U X Y Z : Type 0} {F : X → Type 0} {G : Y → Type 0} {H : Z → Type 0} (payload_words : T → List ℕ) (header_words : U → List ℕ)
+module _ {T U B D : Type 0} (decision : B → Option BackpressureDecision) (asks : D → Bool) (payload_words : T
+    → List ℕ) (header_words : U → List ℕ)
     (value : List ℕ → T) (payload_count header_count : ℕ) (long : (x : T) → length (payload_words x) ≡ payload_count)
-    (domain : Domain T U (Handlers X Y F G) (DegradationHandler Z H)) (none : first_reason domain ≡ None) (m : World) (came : CameTo m)
+    (domain : Domain T U B D) (none : first_reason decision asks domain ≡ None) (m : World) (came : CameTo m)
     (senders readers indices : List ℕ)
     (h : LanesHold (spelling_of domain.state.ports.sizes.sequence_numbers payload_words payload_count header_words header_count) domain m
     senders readers indices)
@@ -198,7 +199,7 @@ module _ {T U X Y Z : Type 0} {F : X → Type 0} {G : Y → Type 0} {H : Z → T
     (s : StandsFor names lent held buffer domain.state.ports service) (roomy : AreRoomy domain.state.ports) (between : AllBetween m)
     (sized : AreSized domain.state.ports.sizes (length senders) (length readers) payload_count
     (middle_count domain.state.ports.sizes.sequence_numbers header_count) m)
-    (fail : FailAsAsked domain m senders) (choices : Choices T) (chosen : DecideAsKept choices names domain service) where
+    (fail : FailAsAsked decision domain m senders) (choices : Choices T) (chosen : DecideAsKept decision choices names domain service) where
   abbrev ports : ServicePorts T U
   ports = domain.state.ports
 
@@ -212,7 +213,8 @@ module _ {T U X Y Z : Type 0} {F : X → Type 0} {G : Y → Type 0} {H : Z → T
   spelling = spelling_of numbered payload_words payload_count header_words header_count
 
   has : HaveMessages value own m service
-  has = have_messages payload_words header_words value payload_count header_count long domain none m came senders readers indices h back
+  has = have_messages decision asks payload_words header_words value payload_count header_count long domain none m came senders readers
+      indices h back
       names lent held buffer service s
 
   kept : IsKept m
@@ -232,11 +234,11 @@ module _ {T U X Y Z : Type 0} {F : X → Type 0} {G : Y → Type 0} {H : Z → T
 
   publishers_linger : list_any (publisher_lingers ports.publisher_list) ports.publishers ≡ false
   publishers_linger = (neither (list_any (publisher_lingers ports.publisher_list) ports.publishers)
-      (list_any (subscriber_lingers ports.subscriber_list ports.publishers) ports.subscribers) (lingers domain none)).0
+      (list_any (subscriber_lingers ports.subscriber_list ports.publishers) ports.subscribers) (lingers decision asks domain none)).0
 
   subscribers_linger : list_any (subscriber_lingers ports.subscriber_list ports.publishers) ports.subscribers ≡ false
   subscribers_linger = (neither (list_any (publisher_lingers ports.publisher_list) ports.publishers)
-      (list_any (subscriber_lingers ports.subscriber_list ports.publishers) ports.subscribers) (lingers domain none)).1
+      (list_any (subscriber_lingers ports.subscriber_list ports.publishers) ports.subscribers) (lingers decision asks domain none)).1
 
   -- a publisher stands, and no connection of it ended
   stays : (number : ℕ) (port : PublisherPort T U) → port_of number ports.publishers ≡ Some port
@@ -265,7 +267,7 @@ module _ {T U X Y Z : Type 0} {F : X → Type 0} {G : Y → Type 0} {H : Z → T
     pub boxes : MailboxesStandFor (names.message (get_or senders place 0)) (names.reader (get_or senders place 0)) names.subscriber port
         (service.mailboxes (names.publisher (get_or senders place 0))) service.subscribers
     pub remembers : RemembersAs value own m lane publisher
-    pub follows : HasFollowed domain none (get_or senders place 0) port
+    pub follows : HasFollowed decision asks domain none (get_or senders place 0) port
 
   sender_there : (place : ℕ) (lane : PublisherLaneState) → slice_get m.publishers place ≡ Some lane → IsSender place lane
   sender_there place lane there =
@@ -295,7 +297,7 @@ module _ {T U X Y Z : Type 0} {F : X → Type 0} {G : Y → Type 0} {H : Z → T
         is = is_one;
         boxes = boxes;
         remembers = subst (RemembersAs value own m lane) same_publisher remembers;
-        follows = has_followed domain none (get_or senders place 0) port member at_place named found;
+        follows = has_followed decision asks domain none (get_or senders place 0) port member at_place named found;
       }
 
   -- nothing is borrowed
@@ -333,7 +335,7 @@ module _ {T U X Y Z : Type 0} {F : X → Type 0} {G : Y → Type 0} {H : Z → T
         ≡ times inner (slots_of o.port.sender).loans
         + (times inner (map (λ (one : Message T U). one.slot) o.port.sender.uses.history)
         + times inner (uses.held (map (connection_by (λ (one : Message T U). one.slot)) o.port.sender.uses.connections)))
-    in_domain inner = used_is o.port inner (rested domain (get_or senders place 0) o.port none o.found).quiet.idle
+    in_domain inner = used_is o.port inner (rested decision asks domain (get_or senders place 0) o.port none o.found).quiet.idle
 
     used_by : (slot : ℕ) → IsOwn lane.port.book slot → (messages : List (Message T U)) (index : ℕ) (message : Message T U)
         → slice_get messages index ≡ Some message → slot ≡ first + message.slot
@@ -434,7 +436,7 @@ module _ {T U X Y Z : Type 0} {F : X → Type 0} {G : Y → Type 0} {H : Z → T
           let u = is_used slot mine used in
           let from : nat_le o.publisher.first (name u.inner) ≡ true =
           o.is.named.current u.inner u.used
-          ∙ ap (λ n. nat_le n u.inner) (fits domain none (get_or senders place 0) o.port o.found).first ∙ from_zero u.inner in
+          ∙ ap (λ n. nat_le n u.inner) (fits decision asks domain none (get_or senders place 0) o.port o.found).first ∙ from_zero u.inner in
           omega (arith, leb-true o.publisher.first (name u.inner) from, named slot u);
       below = λ slot mine used.
           let u = is_used slot mine used in
@@ -445,7 +447,8 @@ module _ {T U X Y Z : Type 0} {F : X → Type 0} {G : Y → Type 0} {H : Z → T
     -- it is connected to the subscribers of its connections, in their order
     connected : those o.publisher.connected ≡ map (λ (route : Route). reader_name own m.links route.connection) lane.port.routes
     connected =
-        ap those (connected_listed domain none names lent held buffer service s roomy.tied.places (get_or senders place 0) o.port
+        ap those (connected_listed decision asks domain none names lent held buffer service s roomy.tied.places (get_or senders place 0)
+        o.port
         o.publisher o.follows o.is o.boxes)
         ∙ ap (λ (list : PortList). those list.places) s.subscriber_list
         ∙ listed_names (λ (entry : SubscriberEntry). entry.subscriber) names.subscriber ports.subscriber_list.places
@@ -475,42 +478,40 @@ module _ {T U X Y Z : Type 0} {F : X → Type 0} {G : Y → Type 0} {H : Z → T
         full : ports.sizes.enable_safe_overflow ≡ false
         full = ap (λ (z : ServiceSizes). z.enable_safe_overflow) s.sizes ∙ refusing
 
-        fails_so : lane.fails ≡ would_fail (kept_under (get_or senders place 0) domain.state.publisher_handlers)
+        fails_so : lane.fails ≡ would_fail decision (kept_under (get_or senders place 0) domain.state.publisher_handlers)
         fails_so =
             let mine : slice_get (map (λ (l : PublisherLaneState). l.fails) m.publishers) place ≡ Some lane.fails =
             slice_get-map (λ (l : PublisherLaneState). l.fails) m.publishers place
             ∙ ap (option_map (λ (l : PublisherLaneState). l.fails)) there in
-            let asked_so : slice_get (map (λ number. would_fail (kept_under number domain.state.publisher_handlers)) senders) place
-            ≡ Some (would_fail (kept_under (get_or senders place 0) domain.state.publisher_handlers)) =
-            slice_get-map (λ number. would_fail (kept_under number domain.state.publisher_handlers)) senders place
-            ∙ ap (option_map (λ number. would_fail (kept_under number domain.state.publisher_handlers))) (sender_is place o.below) in
-            some_is lane.fails (would_fail (kept_under (get_or senders place 0) domain.state.publisher_handlers))
+            let asked_so : slice_get (map (λ number. would_fail decision (kept_under number domain.state.publisher_handlers)) senders) place
+            ≡ Some (would_fail decision (kept_under (get_or senders place 0) domain.state.publisher_handlers)) =
+            slice_get-map (λ number. would_fail decision (kept_under number domain.state.publisher_handlers)) senders place
+            ∙ ap (option_map (λ number. would_fail decision (kept_under number domain.state.publisher_handlers))) (sender_is place o.below)
+            in
+            some_is lane.fails (would_fail decision (kept_under (get_or senders place 0) domain.state.publisher_handlers))
             (sym mine ∙ ap (λ bs. slice_get bs place) fail ∙ asked_so)
 
-        goes : would_wait (kept_under (get_or senders place 0) domain.state.publisher_handlers) ≡ false
+        goes : would_wait decision (kept_under (get_or senders place 0) domain.state.publisher_handlers) ≡ false
         goes =
             let blocked = no_reason (is_blocked ports) _ _ none in
             let current = no_reason (not (is_up_to_date ports)) _ _ blocked.1 in
             let growing = no_reason (has_growing ports) _ _ current.1 in
-            let handled = no_reason (has_handlers domain) _ _ growing.1 in
-            let retrying = (no_reason (is_retrying domain) _ _ handled.1).0 in
-            let waits : list_any (retries domain.state.publisher_handlers) ports.publishers ≡ false =
-            sym (ap (λ b. not b && list_any (retries domain.state.publisher_handlers) ports.publishers) full) ∙ retrying in
-            let one = none_at (retries domain.state.publisher_handlers) (get_or senders place 0) ports.publishers o.port waits o.found in
-            sym (ap (λ b. b && would_wait (kept_under (get_or senders place 0) domain.state.publisher_handlers)) o.stands) ∙ one
+            let handled = no_reason (has_handlers decision asks domain) _ _ growing.1 in
+            let retrying = (no_reason (is_retrying decision domain) _ _ handled.1).0 in
+            let waits : list_any (retries decision domain.state.publisher_handlers) ports.publishers ≡ false =
+            sym (ap (λ b. not b && list_any (retries decision domain.state.publisher_handlers) ports.publishers) full) ∙ retrying in
+            let one = none_at (retries decision domain.state.publisher_handlers) (get_or senders place 0) ports.publishers o.port waits
+            o.found in
+            sym (ap (λ b. b && would_wait decision (kept_under (get_or senders place 0) domain.state.publisher_handlers)) o.stands) ∙ one
 
-        by : (handlers : Option (Handlers X Y F G)) → kept_under (get_or senders place 0) domain.state.publisher_handlers ≡ handlers
+        by : (handlers : Option B) → kept_under (get_or senders place 0) domain.state.publisher_handlers ≡ handlers
             → choices.publisher_decides (names.publisher (get_or senders place 0)) 0 0
             (decision_of o.publisher.strategy o.publisher.handler) (passing_over lane.fails)
-        by None is = absurd (cc (goes, ap would_wait is))
+        by None is = absurd (cc (goes, ap (would_wait decision) is))
         by (Some handlers) is =
-            let decision : BackpressureDecision = decision_of handlers.strategy (fixed_answer handlers.backpressure) in
-            let same : passing_over lane.fails ≡ decision =
-            ap passing_over (fails_so ∙ ap would_fail is)
-            ∙ passing decision (sym (ap would_wait is) ∙ goes) in
-            subst (λ (d : BackpressureDecision). choices.publisher_decides (names.publisher (get_or senders place 0)) 0 0
-            (decision_of o.publisher.strategy o.publisher.handler) d) (sym same)
-            (chosen full (get_or senders place 0) handlers o.publisher is o.by_name)
+            chosen full (get_or senders place 0) handlers (passing_over lane.fails) o.publisher is
+            (passing (decision handlers) (sym (ap (would_wait decision) is) ∙ goes)
+            ∙ ap (λ b. Some (passing_over b)) (sym (fails_so ∙ ap (would_fail decision) is))) o.by_name
 
     publisher_is : LanePublisherIs choices value own m service place lane o.publisher
     publisher_is = record {
@@ -578,7 +579,7 @@ module _ {T U X Y Z : Type 0} {F : X → Type 0} {G : Y → Type 0} {H : Z → T
             (sym (o.boxes.live index live) ∙ ap (service.mailboxes (names.publisher (get_or senders place 0))) same ∙ found) in (
               ap (λ (b : Mailbox T). b.waiting) (sym box_is) ∙ ap (map (message_as name)) (is_empty index live same),
               ap (λ (b : Mailbox T). b.borrowed) (sym box_is)
-                  ∙ ap (map (message_as name)) ((rested domain (get_or senders place 0) o.port none o.found).none index),
+                  ∙ ap (map (message_as name)) ((rested decision asks domain (get_or senders place 0) o.port none o.found).none index),
             )
 
         some_box : (box : Mailbox T) → service.mailboxes (names.publisher (get_or senders place 0)) other ≡ Some box → IsEmpty box
@@ -632,7 +633,7 @@ module _ {T U X Y Z : Type 0} {F : X → Type 0} {G : Y → Type 0} {H : Z → T
     name_by = publisher_by names.publisher o.port
 
     current : (o.port.seen ≡ ports.publisher_list.changes) × (o.port.again ≡ false)
-    current = has_read domain none o.spot (get_or readers place 0) o.port o.member o.listed o.named o.found
+    current = has_read decision asks domain none o.spot (get_or readers place 0) o.port o.member o.listed o.named o.found
 
     none_expired : length o.port.expired.items ≡ 0
     none_expired =

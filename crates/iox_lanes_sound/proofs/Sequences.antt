@@ -8,13 +8,12 @@ use Rattle.std.proofs.lemmas.List.Elements.{All-head, All-tail}
 use Rattle.std.specs.Bool.{beq}
 use Rattle.std.specs.List.{All}
 use Rattle.std.specs.Option.{option_map_or}
+use Rattle.iox_domain.specs.DomainValues.declared.backpressure.BackpressureDecision.{BackpressureDecision}
 use Rattle.iox_domain.specs.DomainPorts.Messages.{Message}
 use Rattle.iox_domain.specs.DomainPorts.Places.{leads_to}
 use Rattle.iox_domain.specs.DomainPorts.Ports.{connection_of, goes_on, is_live}
 use Rattle.iox_domain.specs.DomainPorts.declared.publisher_port.PublisherPort.{PublisherPort}
 use Rattle.iox_domain.specs.DomainPorts.declared.reader.Reader.{Reader}
-use Rattle.iox_domain.specs.DomainValues.declared.degradation_handler.DegradationHandler.{DegradationHandler}
-use Rattle.iox_domain.specs.DomainValues.declared.handlers.Handlers.{Handlers}
 use Rattle.iox_domain.specs.Order.{leads_at}
 use Rattle.iox_domain.specs.declared.domain.Domain.{Domain}
 use Rattle.iox_domain.specs.declared.ports.service_ports.ServicePorts.{ServicePorts}
@@ -99,8 +98,9 @@ sequence_held m slot some have =
         → sequence_under (found_messages m) number ≡ sequence_of message
     sequence_is number message there = ap (λ (o : Option MessageState). option_map_or sequence_of o 0) there
 
-module _ {T U X Y Z : Type 0} {F : X → Type 0} {G : Y → Type 0} {H : Z → Type 0} (payload_words : T → List ℕ) (header_words : U → List ℕ)
-    (payload_count header_count : ℕ) (domain : Domain T U (Handlers X Y F G) (DegradationHandler Z H)) (none : first_reason domain ≡ None)
+module _ {T U B D : Type 0} (decision : B → Option BackpressureDecision) (asks : D → Bool) (payload_words : T
+    → List ℕ) (header_words : U → List ℕ)
+    (payload_count header_count : ℕ) (domain : Domain T U B D) (none : first_reason decision asks domain ≡ None)
     (m : World) (came : CameTo m) (senders readers indices : List ℕ)
     (h : LanesHold (spelling_of domain.state.ports.sizes.sequence_numbers payload_words payload_count header_words header_count) domain m
     senders readers indices) where
@@ -153,10 +153,11 @@ module _ {T U X Y Z : Type 0} {F : X → Type 0} {G : Y → Type 0} {H : Z → T
       let numbered : ports.sizes.sequence_numbers ≡ true =
       sym (beq_same (is_some j.port.last_sequence) ports.sizes.sequence_numbers
       (not_no (beq (is_some j.port.last_sequence) ports.sizes.sequence_numbers)
-      (well_numbered domain none (get_or senders link.publisher 0) j.port j.found).0)) ∙ ap is_some last_is in
+      (well_numbered decision asks domain none (get_or senders link.publisher 0) j.port j.found).0)) ∙ ap is_some last_is in
       let some : 0 < m.table.sizes.user_header_words = subst (λ n. 0 < n) (sym h.user_header)
       (some_middle ports.sizes.sequence_numbers header_count numbered) in
-      let goes = goes_there domain none link.publisher (get_or senders link.publisher 0) (get_or readers link.subscriber 0) j.port j.reader
+      let goes = goes_there decision asks domain none link.publisher (get_or senders link.publisher 0) (get_or readers link.subscriber 0)
+      j.port j.reader
       (ap (λ numbers. slice_get numbers link.publisher) (sym h.publishers)
       ∙ sender_at (spelling ports.sizes.sequence_numbers) domain m senders readers indices h link.publisher j.from) j.found j.read in
       let index_is : tie_for j.port (Some j.reader) ≡ j.index = some_is (tie_for j.port (Some j.reader)) j.index (sym goes.0 ∙ j.tie) in

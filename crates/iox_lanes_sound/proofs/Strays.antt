@@ -12,8 +12,6 @@ use Rattle.iox_domain.specs.DomainValues.declared.backpressure.BackpressureDecis
 use Rattle.iox_domain.specs.DomainValues.declared.backpressure.BackpressureInfo.{BackpressureInfo}
 use Rattle.iox_domain.specs.DomainValues.declared.degradation.DegradationAction.{DegradationAction}
 use Rattle.iox_domain.specs.DomainValues.declared.degradation.DegradationInfo.{DegradationInfo}
-use Rattle.iox_domain.specs.DomainValues.declared.degradation_handler.DegradationHandler.{DegradationHandler}
-use Rattle.iox_domain.specs.DomainValues.declared.handlers.Handlers.{Handlers}
 use Rattle.iox_domain.specs.Ports.{no_ports}
 use Rattle.iox_domain.specs.Rolls.{is_listed}
 use Rattle.iox_domain.specs.Subscribers.{subscriber_of}
@@ -175,8 +173,8 @@ this_reason : (test : Bool) (told : IntoLanesError) (rest : Option IntoLanesErro
 this_reason true told rest later is = absurd (later is)
 this_reason false told rest later is = refl
 
-module _ {T U X Y Z : Type 0} {F : X → Type 0} {G : Y → Type 0} {H : Z → Type 0}
-    (domain : Domain T U (Handlers X Y F G) (DegradationHandler Z H)) where
+module _ {T U B D : Type 0} (decision : B → Option BackpressureDecision) (asks : D → Bool)
+    (domain : Domain T U B D) where
   abbrev ports : ServicePorts T U
   ports = domain.state.ports
 
@@ -184,8 +182,8 @@ module _ {T U X Y Z : Type 0} {F : X → Type 0} {G : Y → Type 0} {H : Z → T
   abbrev later_reason : Option IntoLanesError
   later_reason =
       if has_growing ports then Some reason.NotStatic
-      else if has_handlers domain then Some reason.HasHandlers
-      else if is_retrying domain then Some reason.Retrying
+      else if has_handlers decision asks domain then Some reason.HasHandlers
+      else if is_retrying decision domain then Some reason.Retrying
       else if is_lingering ports then Some reason.Lingering
       else if has_slices domain then Some reason.HasSlices
       else if is_unsound ports then Some reason.Unsound
@@ -195,8 +193,9 @@ module _ {T U X Y Z : Type 0} {F : X → Type 0} {G : Y → Type 0} {H : Z → T
   never_later : later_reason ≡ Some reason.ConnectionsNotUpToDate → ⊥
   never_later later =
       let growing = other_reason (has_growing ports) reason.NotStatic reason.ConnectionsNotUpToDate _ (λ same. cc same) later in
-      let handled = other_reason (has_handlers domain) reason.HasHandlers reason.ConnectionsNotUpToDate _ (λ same. cc same) growing in
-      let retrying = other_reason (is_retrying domain) reason.Retrying reason.ConnectionsNotUpToDate _ (λ same. cc same) handled in
+      let handled = other_reason (has_handlers decision asks domain) reason.HasHandlers reason.ConnectionsNotUpToDate _ (λ same. cc same)
+      growing in
+      let retrying = other_reason (is_retrying decision domain) reason.Retrying reason.ConnectionsNotUpToDate _ (λ same. cc same) handled in
       let lingering = other_reason (is_lingering ports) reason.Lingering reason.ConnectionsNotUpToDate _ (λ same. cc same) retrying in
       let sliced = other_reason (has_slices domain) reason.HasSlices reason.ConnectionsNotUpToDate _ (λ same. cc same) lingering in
       let sound = other_reason (is_unsound ports) reason.Unsound reason.ConnectionsNotUpToDate _ (λ same. cc same) sliced in
@@ -205,11 +204,11 @@ module _ {T U X Y Z : Type 0} {F : X → Type 0} {G : Y → Type 0} {H : Z → T
       cc none
 
   -- so where that is the reason they aren't
-  is_behind : first_reason domain ≡ Some reason.ConnectionsNotUpToDate → is_up_to_date ports ≡ false
+  is_behind : first_reason decision asks domain ≡ Some reason.ConnectionsNotUpToDate → is_up_to_date ports ≡ false
   is_behind told =
       this_reason (is_up_to_date ports) reason.ConnectionsNotUpToDate later_reason never_later
       (other_reason (is_blocked ports) reason.Blocked reason.ConnectionsNotUpToDate _ (λ same. cc same) told)
 
-  pub refused_where_ports_lag : AreWithoutStrays ports → first_reason domain ≡ Some reason.ConnectionsNotUpToDate
+  pub refused_where_ports_lag : AreWithoutStrays ports → first_reason decision asks domain ≡ Some reason.ConnectionsNotUpToDate
       → SomePublisherLags ports ⊎ SomeSubscriberLags ports
   refused_where_ports_lag without told = some_lags ports without (is_behind told)

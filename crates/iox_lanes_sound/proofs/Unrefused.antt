@@ -11,8 +11,6 @@ use Rattle.iox_domain.specs.DomainValues.declared.data_segment.AllocationStrateg
 use Rattle.iox_domain.specs.DomainValues.declared.data_segment.AllocationStrategy.TheVariants as strategy
 use Rattle.iox_domain.specs.DomainValues.declared.degradation.DegradationAction.{DegradationAction}
 use Rattle.iox_domain.specs.DomainValues.declared.degradation.DegradationInfo.{DegradationInfo}
-use Rattle.iox_domain.specs.DomainValues.declared.degradation_handler.DegradationHandler.{DegradationHandler}
-use Rattle.iox_domain.specs.DomainValues.declared.handlers.Handlers.{Handlers}
 use Rattle.iox_domain.specs.Order.{Happen}
 use Rattle.iox_domain.specs.Ports.{no_ports}
 use Rattle.iox_domain.specs.Roomy.{AreRoomy}
@@ -93,26 +91,26 @@ never_told true large not_so is = cc not_so
 never_told false true not_so is = cc is
 never_told false false not_so is = cc is
 
-module _ {T U X Y Z : Type 0} {F : X → Type 0} {G : Y → Type 0} {H : Z → Type 0}
-    (domain : Domain T U (Handlers X Y F G) (DegradationHandler Z H)) where
+module _ {T U B D : Type 0} (decision : B → Option BackpressureDecision) (asks : D → Bool)
+    (domain : Domain T U B D) where
   abbrev ports : ServicePorts T U
   ports = domain.state.ports
 
   -- where that is the reason the ports aren't sound, though no room grows and nothing lingers
   told_unsound : (has_growing ports ≡ false → is_lingering ports ≡ false → is_unsound ports ≡ false)
-      → first_reason domain ≡ Some reason.Unsound → ⊥
+      → first_reason decision asks domain ≡ Some reason.Unsound → ⊥
   told_unsound so told =
       let unblocked = passed (is_blocked ports) reason.Blocked reason.Unsound _ (λ same. cc same) told in
       let current = passed_not (is_up_to_date ports) reason.ConnectionsNotUpToDate reason.Unsound _ (λ same. cc same) unblocked.1 in
       let growing = passed (has_growing ports) reason.NotStatic reason.Unsound _ (λ same. cc same) current in
-      let handled = passed (has_handlers domain) reason.HasHandlers reason.Unsound _ (λ same. cc same) growing.1 in
-      let retrying = passed (is_retrying domain) reason.Retrying reason.Unsound _ (λ same. cc same) handled.1 in
+      let handled = passed (has_handlers decision asks domain) reason.HasHandlers reason.Unsound _ (λ same. cc same) growing.1 in
+      let retrying = passed (is_retrying decision domain) reason.Retrying reason.Unsound _ (λ same. cc same) handled.1 in
       let lingering = passed (is_lingering ports) reason.Lingering reason.Unsound _ (λ same. cc same) retrying.1 in
       let sliced = passed (has_slices domain) reason.HasSlices reason.Unsound _ (λ same. cc same) lingering.1 in
       never_told (is_unsound ports) (has_too_large ports) (so growing.0 lingering.0) sliced.1
 
   pub never_unsound : (overrides : ℕ → ℕ → Type 0) (may : DegradationInfo → DegradationAction → Type 0)
-      (decide : BackpressureInfo → BackpressureDecision → Type 0) → NeverUnsound overrides may decide domain
+      (decide : BackpressureInfo → BackpressureDecision → Type 0) → NeverUnsound decision asks overrides may decide domain
   never_unsound overrides may decide = λ service sizes calls names lent held buffer machine some happen stands told.
       let kept : KeepToOneIfStatic ports =
       stay_to_one overrides may decide calls (no_ports service sizes) ports happen

@@ -1,6 +1,6 @@
 -- What calls of a domain keep of its publishers: slots of one segment, a history no longer than agreed, and connections where a message may
 -- wait.
-use Rattle.std.specs.Prelude.{ℕ, ◌≡◌, ◌≢◌, ◌<◌, ◌≤◌, true, false, List, length, get_or, None, Some}
+use Rattle.std.specs.Prelude.{ℕ, ◌≡◌, ◌≢◌, ◌<◌, ◌≤◌, Bool, true, false, List, length, get_or, Option, None, Some}
 use Rattle.std.specs.List.{All}
 use Rattle.iox_domain.specs.Calls.{PortCall, Happens}
 use Rattle.iox_domain.specs.Container.declared.container.Member.{Member}
@@ -15,8 +15,6 @@ use Rattle.iox_domain.specs.DomainValues.declared.backpressure.BackpressureInfo.
 use Rattle.iox_domain.specs.DomainValues.declared.data_segment.AllocationStrategy.TheVariants as strategy
 use Rattle.iox_domain.specs.DomainValues.declared.degradation.DegradationAction.{DegradationAction}
 use Rattle.iox_domain.specs.DomainValues.declared.degradation.DegradationInfo.{DegradationInfo}
-use Rattle.iox_domain.specs.DomainValues.declared.degradation_handler.DegradationHandler.{DegradationHandler}
-use Rattle.iox_domain.specs.DomainValues.declared.handlers.Handlers.{Handlers}
 use Rattle.iox_domain.specs.DomainValues.declared.service_sizes.ServiceSizes.{ServiceSizes}
 use Rattle.iox_domain.specs.Order.{Happen}
 use Rattle.iox_domain.specs.Ports.{no_ports}
@@ -69,10 +67,11 @@ pub record CallsKeepToOne (T U : Type 0) (overrides : ℕ → ℕ → Type 0) (m
 
 -- A domain whose ports were left by any calls from a new service on, and represent a service of the machine, is never refused as unsound,
 -- if the service lets at least one message wait.
-abbrev pub NeverUnsound : {T U X Y Z : Type 0} {F : X → Type 0} {G : Y → Type 0} {H : Z → Type 0} → (ℕ → ℕ → Type 0)
+abbrev pub NeverUnsound : {T U B D : Type 0} → (B → Option BackpressureDecision) → (D → Bool) → (ℕ → ℕ → Type 0)
     → (DegradationInfo → DegradationAction → Type 0) → (BackpressureInfo → BackpressureDecision → Type 0)
-    → Domain T U (Handlers X Y F G) (DegradationHandler Z H) → Type 0
-NeverUnsound {T} {U} overrides may decide domain = (service : ℕ) (sizes : ServiceSizes) (calls : List (PortCall T U × ServicePorts T U))
+    → Domain T U B D → Type 0
+NeverUnsound {T} {U} {B} {D} decision asks overrides may decide domain = (service : ℕ) (sizes : ServiceSizes) (calls : List (PortCall T U ×
+    ServicePorts T U))
     (names : Naming) (lent : List (ℕ × LentSlot)) (held : List (ℕ × Taken)) (buffer : ℕ) (machine : Service T)
     → 0 < sizes.subscriber_max_buffer_size → Happen overrides may decide calls (no_ports service sizes) domain.state.ports
-    → StandsFor names lent held buffer domain.state.ports machine → first_reason domain ≢ Some reason.Unsound
+    → StandsFor names lent held buffer domain.state.ports machine → first_reason decision asks domain ≢ Some reason.Unsound

@@ -41,6 +41,7 @@ ghost use Rattle.iox_machine.specs.Service.{Service};
 use iox_domain::Domain;
 use iox_domain_values::{Decides, Degrades, Overrides};
 use iox_lanes::DomainLanes;
+use iox_lanes_opening::refusals::{AsksCaller, FixedDecision};
 use iox_queues_base::Words;
 
 /// Ports that represent a service of the machine are never `Unsound`, if they have no loan, no sample, no connection of a closed publisher
@@ -62,8 +63,10 @@ pub fn standing_ports_are_sound<T, U>()
 ///
 /// The theorem requires of the lanes what `into_lanes` ensures. It requires of the messages that their words give their values back, and
 /// that each has a sequence number exactly if the service agreed on `sequence_numbers` (`AreReadBack`).
-pub fn lanes_have_messages<T: Words, U: Words>(opened: &DomainLanes<T, U>)
-    requires none { first_reason opened.now.domain ≡ None }
+pub fn lanes_have_messages<T: Words, U: Words, B: FixedDecision, D: AsksCaller>(
+    opened: &DomainLanes<T, U, B, D>,
+)
+    requires none { first_reason B.decision D.asks opened.now.domain ≡ None }
     requires came { CameTo opened.now.lanes.lanes }
     requires holds { LanesHold
         (spelling_of opened.now.domain.state.ports.sizes.sequence_numbers T.parts T.WORDS U.parts U.WORDS) opened.now.domain
@@ -88,13 +91,18 @@ pub fn lanes_have_messages<T: Words, U: Words>(opened: &DomainLanes<T, U>)
 /// back, and that each has a sequence number exactly if the service agreed on `sequence_numbers` (`AreReadBack`). If mailboxes may refuse,
 /// the decision of the fixed action that is kept for a publisher must be one that may be chosen for the machine's publisher
 /// (`DecideAsKept`): this holds if its command named that action, or its handlers are handed in.
-pub fn lanes_stand<T: Words + Default, U: Words, B: Decides + Degrades, D: Degrades>(
-    opened: &DomainLanes<T, U>,
-)
-    requires none { first_reason opened.now.domain ≡ None }
+pub fn lanes_stand<
+    T: Words + Default,
+    U: Words,
+    B: Decides + Degrades,
+    D: Degrades,
+    H: FixedDecision,
+    K: AsksCaller,
+>(opened: &DomainLanes<T, U, H, K>)
+    requires none { first_reason H.decision K.asks opened.now.domain ≡ None }
     requires came { CameTo opened.now.lanes.lanes }
     requires between { AllBetween opened.now.lanes.lanes }
-    requires fails { FailAsAsked opened.now.domain opened.now.lanes.lanes opened.now.publishers.items }
+    requires fails { FailAsAsked H.decision opened.now.domain opened.now.lanes.lanes opened.now.publishers.items }
     requires sized { AreSized opened.now.domain.state.ports.sizes (length opened.now.publishers.items)
         (length opened.now.subscribers.items) T.WORDS (middle_count opened.now.domain.state.ports.sizes.sequence_numbers U.WORDS)
         opened.now.lanes.lanes }
@@ -102,7 +110,7 @@ pub fn lanes_stand<T: Words + Default, U: Words, B: Decides + Degrades, D: Degra
         (spelling_of opened.now.domain.state.ports.sizes.sequence_numbers T.parts T.WORDS U.parts U.WORDS) opened.now.domain
         opened.now.lanes.lanes
         opened.now.publishers.items opened.now.subscribers.items opened.now.connections.items }
-    ensures { (handed : Handed B D) → StandAsPorts (chosen_by T.is_default (λ who. B.decides who) (λ who. B.degrades who)
+    ensures { (handed : Handed B D) → StandAsPorts H.decision (chosen_by T.is_default (λ who. B.decides who) (λ who. B.degrades who)
         (λ who. D.degrades who) handed) T.parts T.of_parts opened.now.domain opened.now.lanes.lanes opened.now.publishers.items
         opened.now.subscribers.items }
 {}
@@ -111,13 +119,18 @@ pub fn lanes_stand<T: Words + Default, U: Words, B: Decides + Degrades, D: Degra
 /// that the ports of their domain represent. Each call corresponds to a command, with its reply, and afterwards the lanes represent the
 /// service that the machine has. The premises are those of `lanes_stand`, and that there are fewer than 2^64 slots, as `into_lanes`
 /// ensures. This holds as long as at most 2^63 steps were made.
-pub fn turns_go_on_from_ports<T: Words + Default, U: Words, B: Decides + Degrades, D: Degrades>(
-    opened: &DomainLanes<T, U>,
-)
-    requires none { first_reason opened.now.domain ≡ None }
+pub fn turns_go_on_from_ports<
+    T: Words + Default,
+    U: Words,
+    B: Decides + Degrades,
+    D: Degrades,
+    H: FixedDecision,
+    K: AsksCaller,
+>(opened: &DomainLanes<T, U, H, K>)
+    requires none { first_reason H.decision K.asks opened.now.domain ≡ None }
     requires came { CameTo opened.now.lanes.lanes }
     requires between { AllBetween opened.now.lanes.lanes }
-    requires fails { FailAsAsked opened.now.domain opened.now.lanes.lanes opened.now.publishers.items }
+    requires fails { FailAsAsked H.decision opened.now.domain opened.now.lanes.lanes opened.now.publishers.items }
     requires sized { AreSized opened.now.domain.state.ports.sizes (length opened.now.publishers.items)
         (length opened.now.subscribers.items) T.WORDS (middle_count opened.now.domain.state.ports.sizes.sequence_numbers U.WORDS)
         opened.now.lanes.lanes }
@@ -126,7 +139,7 @@ pub fn turns_go_on_from_ports<T: Words + Default, U: Words, B: Decides + Degrade
         opened.now.lanes.lanes
         opened.now.publishers.items opened.now.subscribers.items opened.now.connections.items }
     requires slots { opened.now.lanes.lanes.table.sizes.slots < 2 ^ 64 }
-    ensures { (handed : Handed B D) → TurnsGoOnAsPorts (chosen_by T.is_default
+    ensures { (handed : Handed B D) → TurnsGoOnAsPorts H.decision (chosen_by T.is_default
         (λ who. B.decides who) (λ who. B.degrades who) (λ who. D.degrades who) handed) T.parts T.of_parts
         opened.now.domain opened.now.lanes.lanes opened.now.publishers.items opened.now.subscribers.items }
 {}
@@ -134,8 +147,10 @@ pub fn turns_go_on_from_ports<T: Words + Default, U: Words, B: Decides + Degrade
 /// In the lanes that `into_lanes` makes, the sequence numbers of what was found to wait at a connection rise, and are larger than 0 and at
 /// most the last number of its publisher, as `gaps_are_missed` of `iox_lanes_laws` requires. This holds if it does in the domain
 /// (`SequencesWait`), as `sequences_stay_up` says of any calls. The theorem requires of the lanes what `into_lanes` ensures.
-pub fn found_sequences_go_up<T: Words, U: Words>(opened: &DomainLanes<T, U>)
-    requires none { first_reason opened.now.domain ≡ None }
+pub fn found_sequences_go_up<T: Words, U: Words, B: FixedDecision, D: AsksCaller>(
+    opened: &DomainLanes<T, U, B, D>,
+)
+    requires none { first_reason B.decision D.asks opened.now.domain ≡ None }
     requires came { CameTo opened.now.lanes.lanes }
     requires messages { opened.now.lanes.messages ≡ found_messages opened.now.lanes.lanes }
     requires holds { LanesHold
@@ -170,9 +185,9 @@ pub fn calls_leave_no_strays<T, U, O: Overrides, B: Decides + Degrades>(
 /// A domain whose ports are as calls leave them (`AreWithoutStrays`) is refused as `ConnectionsNotUpToDate` only if a listed port isn't up
 /// to date. Either a listed publisher doesn't exist, hasn't seen all changes of the list of subscribers, or shares no connection with a
 /// listed subscriber; or a listed subscriber doesn't exist, hasn't followed the current list of publishers, or has to follow it again.
-pub fn refused_where_ports_lag<T, U>(domain: &Domain<T, U>)
+pub fn refused_where_ports_lag<T, U, B: FixedDecision, D: AsksCaller>(domain: &Domain<T, U, B, D>)
     requires without { AreWithoutStrays domain.now.state.ports }
-    requires told { first_reason domain.now ≡ Some reason.ConnectionsNotUpToDate }
+    requires told { first_reason B.decision D.asks domain.now ≡ Some reason.ConnectionsNotUpToDate }
     ensures { SomePublisherLags domain.now.state.ports ⊎ SomeSubscriberLags domain.now.state.ports }
 {}
 
@@ -191,12 +206,15 @@ pub fn calls_keep_to_one<T, U, O: Overrides, B: Decides + Degrades>(_overriding:
 /// A domain whose ports result from calls is never refused as `Unsound`: this holds for any calls from a new service on, if the service
 /// lets at least one message wait, whatever override and handlers answer. The ports represent a service of the machine, as the theorems of
 /// `iox_domain_machine` say of calls.
-pub fn never_refused_as_unsound<T, U, O: Overrides, B: Decides + Degrades>(
-    _overriding: &O,
-    _handlers: &B,
-    domain: &Domain<T, U>,
-)
-    ensures { NeverUnsound (O.overrides _overriding.now) (B.degrades _handlers.now cause.FailedToEstablishConnection)
+pub fn never_refused_as_unsound<
+    T,
+    U,
+    O: Overrides,
+    B: Decides + Degrades,
+    H: FixedDecision,
+    K: AsksCaller,
+>(_overriding: &O, _handlers: &B, domain: &Domain<T, U, H, K>)
+    ensures { NeverUnsound H.decision K.asks (O.overrides _overriding.now) (B.degrades _handlers.now cause.FailedToEstablishConnection)
         (B.decides _handlers.now) domain.now }
 {}
 

@@ -1,10 +1,11 @@
 //! A publisher with its share of the words.
 ghost use Rattle.std.specs.Prelude.{◌≡◌, ◌<◌, ℕ, true, not, is_some, IfSome};
 ghost use Rattle.iox_lanes_machine.specs.LanesBase.Publishing.{publisher_is_idle};
-ghost use Rattle.iox_lanes_machine.specs.LanesParties.Parties.{head_of, kept_head, with_user_header};
+ghost use Rattle.iox_lanes_machine.specs.LanesParties.Parties.{head_of, is_out, kept_head, with_user_header};
 ghost use Rattle.iox_lanes_machine.specs.LanesParties.PublisherKeeping.{loan_of};
 ghost use Rattle.iox_lanes_threads_ports.specs.LanesThreadsRule.Acts.{single};
 ghost use Rattle.iox_lanes_threads_ports.specs.Known.{KeepsPayload, KnowsHead, KnowsPayload, KnowsSent};
+ghost use Rattle.iox_lanes_threads_ports.specs.OtherLoans.{KeepsHead};
 ghost use Rattle.iox_lanes_threads_ports.specs.Ports.{PublisherStands};
 ghost use Rattle.iox_lanes_threads_ports.specs.Values.{Loans, Sends, Writes, Drops};
 ghost use Rattle.iox_lanes_threads.specs.Ports.{StaysPublisher};
@@ -86,6 +87,7 @@ impl LanePublisher {
         ensures call { Loans self.old.own self.new.own result }
         ensures others { (other : ℕ) → other < self.old.own.port.service.sizes.slots
             → KeepsPayload self.old.own.port self.new.own.port other }
+        ensures headers { (other : ℕ) → KeepsHead other self.old.own self.new.own }
     {
         self.port.loan_uninit(self.words.words())
     }
@@ -101,6 +103,8 @@ impl LanePublisher {
             ≡ with_user_header (kept_head loan self.old.own.lane) user_header.now }
         ensures others { result ≡ true → (other : ℕ) → (loan ≡ other → ⊥) → other < self.old.own.port.service.sizes.slots
             → KeepsPayload self.old.own.port self.new.own.port other }
+        ensures headers { result ≡ true → (other : ℕ) → (loan ≡ other → ⊥)
+            → is_out (loan_of other self.old.own.lane.port.book) ≡ true → KeepsHead other self.old.own self.new.own }
     {
         self.port
             .write(self.words.words(), loan, payload, user_header)
@@ -122,6 +126,8 @@ impl LanePublisher {
             ≡ with_user_header (kept_head loan self.old.own.lane) (U.parts user_header.now) }
         ensures others { result ≡ true → (other : ℕ) → (loan ≡ other → ⊥) → other < self.old.own.port.service.sizes.slots
             → KeepsPayload self.old.own.port self.new.own.port other }
+        ensures headers { result ≡ true → (other : ℕ) → (loan ≡ other → ⊥)
+            → is_out (loan_of other self.old.own.lane.port.book) ≡ true → KeepsHead other self.old.own self.new.own }
     {
         self.port
             .write_values(self.words.words(), loan, value, user_header)
@@ -139,6 +145,7 @@ impl LanePublisher {
             self.old.own.lane.port.routes loan told) }
         ensures others { (other : ℕ) → other < self.old.own.port.service.sizes.slots
             → KeepsPayload self.old.own.port self.new.own.port other }
+        ensures headers { (other : ℕ) → KeepsHead other self.old.own self.new.own }
     {
         self.port.send(self.words.words(), loan)
     }
@@ -150,6 +157,7 @@ impl LanePublisher {
         ensures call { Drops self.old.own loan self.new.own result }
         ensures others { (other : ℕ) → other < self.old.own.port.service.sizes.slots
             → KeepsPayload self.old.own.port self.new.own.port other }
+        ensures headers { (other : ℕ) → KeepsHead other self.old.own self.new.own }
     {
         self.port.drop_loan(loan)
     }

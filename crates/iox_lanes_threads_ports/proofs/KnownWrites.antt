@@ -319,13 +319,18 @@ write_refused old loan payload user_header stands off = by_test (write_fits old.
         absurd (off (body ∙ stands.within.payload) (omega (arith, head, wide)))
 
 -- what a publisher keeps for its sends
-record KeepsHeads (lane : PublisherLaneState) (now : PublisherLaneState) : Type 0 where
-  heads : now.heads ≡ lane.heads
-  first : now.port.book.first ≡ lane.port.book.first
+pub record KeepsHeads (lane : PublisherLaneState) (now : PublisherLaneState) : Type 0 where
+  pub heads : now.heads ≡ lane.heads
+  pub first : now.port.book.first ≡ lane.port.book.first
 
-heads_stay : (lane now : PublisherLaneState) (n : ℕ) → KeepsHeads lane now → KeepsHeads lane (publisher_after n now)
+pub heads_stay : (lane now : PublisherLaneState) (n : ℕ) → KeepsHeads lane now → KeepsHeads lane (publisher_after n now)
 heads_stay lane now n h
     = record { heads = h.heads; first = (publishers.changed_slots (publisher_change now.port.call n) now.port.book).first ∙ h.first }
+
+pub heads_along : (p : Port) (lane : PublisherLaneState) (q : Port) (now : PublisherLaneState) → PublisherGoes p lane q now
+    → KeepsHeads lane now
+heads_along p lane _ _ stays = record { heads = refl; first = refl }
+heads_along p lane _ _ (goes q now n run told) = heads_stay lane now n (heads_along p lane q now run)
 
 head_there : (lane now : PublisherLaneState) (loan : ℕ) (payload user_header : List ℕ) → loan - lane.port.book.first < length lane.heads
     → KeepsHeads (write_begins lane loan payload user_header) now
@@ -354,8 +359,3 @@ write_keeps old new loan payload user_header true stands h e =
     (and_left (is_out (loan_of loan old.lane.port.book)) (length payload == length old.lane.port.payload) first) in
     let heads = stands.within.heads in
     head_there old.lane new.lane loan payload user_header (omega (arith, mine.0, mine.1, heads)) ended
-  where
-    heads_along : (p : Port) (lane : PublisherLaneState) (q : Port) (now : PublisherLaneState) → PublisherGoes p lane q now
-        → KeepsHeads lane now
-    heads_along p lane _ _ stays = record { heads = refl; first = refl }
-    heads_along p lane _ _ (goes q now n run told) = heads_stay lane now n (heads_along p lane q now run)

@@ -27,3 +27,4 @@ pub mod OneValue
 pub mod Holding
 pub mod Dropped
 pub mod OtherLoans
+mod OtherHeads

@@ -1,15 +1,16 @@
--- Calls on other loans leave the payload of a loan.
-use Rattle.std.specs.Prelude.{ℕ, ◌≡◌, ◌<◌, Bool, Option}
+-- Calls on other loans leave the payload and the user header of a loan.
+use Rattle.std.specs.Prelude.{ℕ, ◌≡◌, ◌<◌, Bool, true, List, Option}
 use Rattle.iox_lanes_machine.specs.LanesBase.declared.calls.publisher.PublisherCall.{PublisherCall}
 use Rattle.iox_lanes_machine.specs.LanesBase.declared.calls.publisher.PublisherCall.TheVariants as publishing
-use Rattle.iox_lanes_machine.specs.LanesParties.Parties.{PublisherLaneState}
+use Rattle.iox_lanes_machine.specs.LanesParties.Parties.{PublisherLaneState, is_out, kept_head}
+use Rattle.iox_lanes_machine.specs.LanesParties.PublisherKeeping.{loan_of}
 use Rattle.iox_lanes_machine.specs.LanesParties.declared.call.SendAnswer.{SendAnswer}
 use Rattle.iox_lanes_machine.specs.LanesParties.declared.publisher.slot_book.LoanAnswer.{LoanAnswer}
 use Rattle.iox_lanes_threads_rule.specs.declared.view.Port.{Port}
 use Rattle.iox_lanes_threads_ports.specs.Courses.{PublisherGoes}
 use Rattle.iox_lanes_threads_ports.specs.Known.{KeepsPayload}
 use Rattle.iox_lanes_threads_ports.specs.Ports.{PublisherStands}
-use Rattle.iox_lanes_threads_ports.specs.Values.{PublisherPort, Loans, Sends, Drops}
+use Rattle.iox_lanes_threads_ports.specs.Values.{PublisherPort, Loans, Sends, Drops, Writes}
 
 -- The call writes no payload into this slot.
 abbrev pub SparesPayload : ℕ → PublisherCall → Type 0
@@ -37,3 +38,17 @@ CallsKeepPayloads = (slot : ℕ) (old new : PublisherPort) → PublisherStands o
     → ((given : Option LoanAnswer) → Loans old new given → KeepsPayload old.port new.port slot)
     × ((loan : ℕ) (told : Option SendAnswer) → Sends old loan new told → KeepsPayload old.port new.port slot)
     × ((loan : ℕ) (done : Bool) → Drops old loan new done → KeepsPayload old.port new.port slot)
+
+-- The words that a send of this slot stores as header and user header, besides a sequence number, are as they were.
+abbrev pub KeepsHead : ℕ → PublisherPort → PublisherPort → Type 0
+KeepsHead slot old new = kept_head slot new.lane ≡ kept_head slot old.lane
+
+-- A loan, a send and a drop of a loan leave the user header that is kept for each slot, with or without an answer. A write leaves those of
+-- all other loans.
+abbrev pub CallsKeepHeads : Type 0
+CallsKeepHeads = (slot : ℕ) (old new : PublisherPort)
+    → ((given : Option LoanAnswer) → Loans old new given → KeepsHead slot old new)
+    × ((loan : ℕ) (told : Option SendAnswer) → Sends old loan new told → KeepsHead slot old new)
+    × ((loan : ℕ) (done : Bool) → Drops old loan new done → KeepsHead slot old new)
+    × ((loan : ℕ) (payload user_header : List ℕ) (done : Bool) → Writes old loan payload user_header new done → (loan ≡ slot → ⊥)
+    → is_out (loan_of slot old.lane.port.book) ≡ true → KeepsHead slot old new)

@@ -4,7 +4,7 @@ ghost use Rattle.iox_lanes_threads_ports.specs.Counts.{PublishersCount, Subscrib
 ghost use Rattle.iox_lanes_threads_ports.specs.GivenBack.{NoMoreComesBack};
 ghost use Rattle.iox_lanes_threads_ports.specs.Holding.{HeldReadsStay, HeldReadsAgree, HeldReadsAreKnown};
 ghost use Rattle.iox_lanes_threads_ports.specs.OneValue.{ReadsGiveOneValue};
-ghost use Rattle.iox_lanes_threads_ports.specs.OtherLoans.{SparedPayloadsStay, CallsKeepPayloads};
+ghost use Rattle.iox_lanes_threads_ports.specs.OtherLoans.{SparedPayloadsStay, CallsKeepHeads, CallsKeepPayloads};
 ghost use Rattle.iox_lanes_threads_ports.specs.Ports.{PublishersGoOn, SubscribersGoOn};
 ghost use Rattle.iox_lanes_threads_ports.specs.ReadLaw.{ReadsStand, ListedWordsStay};
 
@@ -68,7 +68,9 @@ pub fn held_reads_agree()
 
 /// A loan keeps its payload while its publisher works on other loans: the steps of a call store payload words of a slot only if the call
 /// writes into this slot. So a loan, a send, a drop, and a write into another slot don't change what the port knows of this loan's payload.
+/// They don't change the user header either that is kept for its send.
 pub fn other_loans_stay()
     ensures steps { SparedPayloadsStay }
     ensures calls { CallsKeepPayloads }
+    ensures headers { CallsKeepHeads }
 {}

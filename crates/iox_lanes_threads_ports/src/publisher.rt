@@ -2,9 +2,11 @@
 ghost use Rattle.std.specs.Prelude.{◌≡◌, ◌<◌, ℕ, true, false, length, is_some, IfOk, IfSome};
 ghost use Rattle.iox_lanes_machine.specs.LanesBase.Numbers.{IsSmall};
 ghost use Rattle.std.specs.List.{All};
-ghost use Rattle.iox_lanes_machine.specs.LanesParties.Parties.{head_of, kept_head, with_user_header, publisher_fits};
+ghost use Rattle.iox_lanes_machine.specs.LanesParties.Parties.{head_of, is_out, kept_head, with_user_header, publisher_fits};
+ghost use Rattle.iox_lanes_machine.specs.LanesParties.PublisherKeeping.{loan_of};
 ghost use Rattle.iox_lanes_threads_rule.specs.Acts.{single, port_of};
 ghost use Rattle.iox_lanes_threads_ports.specs.Known.{KeepsPayload, KnowsHead, KnowsPayload, KnowsSent};
+ghost use Rattle.iox_lanes_threads_ports.specs.OtherLoans.{KeepsHead};
 ghost use Rattle.iox_lanes_threads_ports.specs.Ports.{PublisherStands};
 ghost use Rattle.iox_lanes_threads_ports.specs.Pace.{HasSteps};
 ghost use Rattle.iox_lanes_threads_ports.specs.Paces.{sweep_steps, loan_steps, write_steps, send_steps};
@@ -229,15 +231,18 @@ impl ThreadedPublisher {
         }
     }
 
-    /// Loans a slot in at most `loan_steps` steps, which suffice for each connection to return as many samples as its completion ring has
-    /// cells, and one more. Returns None, and does nothing, if the port is inside a call. It also returns None if the loan isn't over after
-    /// that many steps; then the port stays inside that call. That happens only where a write position was 2^64 - 1 when the call loaded a
-    /// word, and more samples came back at one connection than its completion ring has cells.
+    /// Loans a slot that nothing uses, in at most `loan_steps` steps. In so many steps each connection can return as many samples as its
+    /// completion ring has cells, and one more.
+    ///
+    /// Returns None in two cases. If the port is inside a call, nothing is done. If the loan isn't over after these steps, the port stays
+    /// inside this call. The second case needs a write position that was 2^64 - 1 when the call loaded it, and a connection that returned
+    /// more samples than its completion ring has cells.
     pub fn loan_uninit<K: Opening>(&mut self, words: &Words<K>) -> Option<LoanAnswer>
         requires { self.old.table ≡ words.now.table_id }
         ensures same { SamePublisher self.old self.new }
         ensures call { Loans self.old self.new result }
         ensures others { (other : ℕ) → other < self.old.port.service.sizes.slots → KeepsPayload self.old.port self.new.port other }
+        ensures headers { (other : ℕ) → KeepsHead other self.old self.new }
     {
         let most = loan_steps(&self.sizes);
         let step = Move::Begin(Call::LoanUninit);
@@ -269,6 +274,8 @@ impl ThreadedPublisher {
         ensures header { result ≡ true → kept_head loan self.new.lane ≡ with_user_header (kept_head loan self.old.lane) user_header.now }
         ensures others { result ≡ true → (other : ℕ) → (loan ≡ other → ⊥) → other < self.old.port.service.sizes.slots
             → KeepsPayload self.old.port self.new.port other }
+        ensures headers { result ≡ true → (other : ℕ) → (loan ≡ other → ⊥) → is_out (loan_of other self.old.lane.port.book) ≡ true
+            → KeepsHead other self.old self.new }
     {
         if !fill(&mut self.asked, loan, payload, user_header) {
             return false;
@@ -301,6 +308,8 @@ impl ThreadedPublisher {
             ≡ with_user_header (kept_head loan self.old.lane) (U.parts user_header.now) }
         ensures others { result ≡ true → (other : ℕ) → (loan ≡ other → ⊥) → other < self.old.port.service.sizes.slots
             → KeepsPayload self.old.port self.new.port other }
+        ensures headers { result ≡ true → (other : ℕ) → (loan ≡ other → ⊥) → is_out (loan_of other self.old.lane.port.book) ≡ true
+            → KeepsHead other self.old self.new }
     {
         if !fill_values(&mut self.asked, loan, value, user_header) {
             return false;
@@ -329,6 +338,7 @@ impl ThreadedPublisher {
         ensures sent { IfSome result (λ told. KnowsSent self.old.port self.new.port self.old.lane.fails self.old.lane.port.routes loan
             told) }
         ensures others { (other : ℕ) → other < self.old.port.service.sizes.slots → KeepsPayload self.old.port self.new.port other }
+        ensures headers { (other : ℕ) → KeepsHead other self.old self.new }
     {
         let most = send_steps(&self.sizes);
         let step = Move::Begin(Call::Send { loan });
@@ -349,6 +359,7 @@ impl ThreadedPublisher {
         ensures same { SamePublisher self.old self.new }
         ensures call { Drops self.old loan self.new result }
         ensures others { (other : ℕ) → other < self.old.port.service.sizes.slots → KeepsPayload self.old.port self.new.port other }
+        ensures headers { (other : ℕ) → KeepsHead other self.old self.new }
     {
         let step = Move::Begin(Call::DropLoan { loan });
         if !self.lane.fits(&step) {

@@ -25,7 +25,7 @@ pub enum WriteError {
     /// The loan isn't one of this port.
     #[error("WriteError::NotMine")]
     NotMine,
-    /// The slots have values of another width. No port of `DomainThreads` has such slots.
+    /// The slots have values or user headers of another width: the port is one of another board that was opened with the same number.
     #[error("WriteError::OtherWidth")]
     OtherWidth,
 }

@@ -20,11 +20,11 @@ use std::alloc::Global;
 /// a party is inside a call (`PartyInCall`), a loan or a sample is out (`SamplesOut`), more than 2^63 steps were made (`TooManySteps`), or
 /// an allocation fails (`OutOfMemory`), checked in this order. From then on the ports allocate nothing, and they step on the board's own
 /// words (`own`), as `end` requires. Not in `iceoryx2`.
-pub fn open_threads<T: Words, U: Words>(
+pub fn open_threads<T: Words, U: Words, B, D>(
     alloc: Global,
     board: u64,
-    lanes: DomainLanes<T, U>,
-) -> Result<DomainThreads<T, U>, (OpenError, DomainLanes<T, U>)>
+    lanes: DomainLanes<T, U, B, D>,
+) -> Result<DomainThreads<T, U, B, D>, (OpenError, DomainLanes<T, U, B, D>)>
     ensures opened { IfOk result (λ threads. MayOpen lanes.lanes.lanes
         × IsOpened board lanes.lanes.lanes lanes.domain lanes.publishers.items lanes.subscribers.items threads) }
     ensures own { IfOk result (λ threads. ArePublishersOf threads.board.board threads.publishers.items

@@ -1,8 +1,10 @@
 //! A publisher in threads that knows the types of its service.
 ghost use Rattle.std.specs.Prelude.{◌≡◌, ◌<◌, ℕ, true, false, IfOk, IfErr, OnOk, Some, None};
-ghost use Rattle.iox_lanes_parties.specs.Parties.{head_of, kept_head, with_user_header};
+ghost use Rattle.iox_lanes_parties.specs.Parties.{head_of, is_out, kept_head, with_user_header};
+ghost use Rattle.iox_lanes_parties.specs.PublisherKeeping.{loan_of};
 ghost use Rattle.iox_lanes_threads_ports.specs.Known.{KeepsPayload, KnowsHead, KnowsPayload, KnowsSent};
-ghost use Rattle.iox_lanes_threads_ports.specs.Values.{Drops, Loans, Sends, StaysPut, Writes};
+ghost use Rattle.iox_lanes_threads_ports.specs.OtherLoans.{KeepsHead};
+ghost use Rattle.iox_lanes_threads_ports.specs.Values.{Drops, Loans, Sends, StaysPut, Writes, write_fits};
 ghost use Rattle.iox_lanes.specs.HeldByNone.{IsHeldByNone};
 ghost use Rattle.iox_lanes.specs.Typed.{is_loan_of, middle_parts};
 ghost use Rattle.iox_lanes.specs.TypedCalls.{StaysTheSame, refused_loan, is_mine, is_ready, why_unwritten};
@@ -133,7 +135,8 @@ impl<T, U> Publisher<T, U> {
     /// with `InsideCall` if the port is inside a call.
     ///
     /// It returns after at most `loan_steps` steps: as many as its connections need to give back all the samples that they have cells for,
-    /// and one sample more each. All loans keep their values (`others`).
+    /// and one sample more each. All loans keep their values (`others`) and
+    /// user headers (`headers`).
     ///
     /// Ported from `iceoryx2::port::publisher::Publisher::loan_uninit`.
     /// Example: `let loan = publisher.loan()?;`
@@ -144,6 +147,7 @@ impl<T, U> Publisher<T, U> {
         ensures refused { IfErr result (λ error. Loans self.old.port.own self.new.port.own (refused_loan error)) }
         ensures others { (other : ℕ) → other < self.old.port.own.port.service.sizes.slots
             → KeepsPayload self.old.port.own.port self.new.port.own.port other }
+        ensures headers { (other : ℕ) → KeepsHead other self.old.port.own self.new.port.own }
     {
         match self.port.loan_uninit() {
             Some(LoanAnswer::Slot(slot)) => Ok(Loan::new(slot, self.board(), self.port.place())),
@@ -153,8 +157,8 @@ impl<T, U> Publisher<T, U> {
         }
     }
 
-    /// Drops a loan, so that its slot is free again; all other loans keep their values (`others`). The loan comes back if it isn't a loan
-    /// of this port, or the port is inside a call.
+    /// Drops a loan, so that its slot is free again; all other loans keep their values (`others`) and user headers (`headers`). The loan
+    /// comes back if it isn't a loan of this port, or the port is inside a call.
     ///
     /// Ported from the drop of an `iceoryx2::sample_mut_uninit::SampleMutUninit`.
     /// Example: `publisher.drop_loan(loan);`
@@ -165,6 +169,7 @@ impl<T, U> Publisher<T, U> {
         ensures why { IfErr result (λ _. is_loan_of self.old loan ≡ true → Drops self.old.port.own loan.slot self.new.port.own false) }
         ensures others { (other : ℕ) → other < self.old.port.own.port.service.sizes.slots
             → KeepsPayload self.old.port.own.port self.new.port.own.port other }
+        ensures headers { (other : ℕ) → KeepsHead other self.old.port.own self.new.port.own }
     {
         if self.lent(&loan) && self.port.drop_loan(loan.slot()) {
             return Ok(());
@@ -178,7 +183,8 @@ impl<T, U> Publisher<T, U> {
     /// nothing was written into it, checked in this order; then nothing is done, and the loan comes back. Where the publisher fails at a
     /// full mailbox and a connection refused the message, the error is `UnableToDeliver`; the other connections have the message.
     ///
-    /// The send stores words of the loan's slot alone, which no subscriber holds (`unheld`); all other loans keep their values (`others`).
+    /// The send stores words of the loan's slot alone, which no subscriber holds (`unheld`); all other loans keep their values (`others`)
+    /// and user headers (`headers`).
     ///
     /// Ported from `iceoryx2::sample_mut::SampleMut::send`.
     /// Example: `publisher.send(loan).map_err(|unsent| unsent.error)?;`
@@ -193,6 +199,7 @@ impl<T, U> Publisher<T, U> {
         ensures unheld { IfOk result (λ _. IsHeldByNone self.old.port.own.port loan.slot) }
         ensures others { (other : ℕ) → other < self.old.port.own.port.service.sizes.slots
             → KeepsPayload self.old.port.own.port self.new.port.own.port other }
+        ensures headers { (other : ℕ) → KeepsHead other self.old.port.own self.new.port.own }
         ensures unsent { IfErr result (λ unsent. IsUnsent self.old loan self.new unsent.error unsent.loan) }
     {
         if self.port.is_inside_call() {
@@ -236,9 +243,11 @@ impl<T: Words, U: FewWords> Publisher<T, U> {
     /// Writes a value into a loan, and keeps a user header for its send. A loan may be written again until it is sent.
     ///
     /// Refused with `InsideCall` if the port is inside a call, with `NotMine` if the loan isn't one of this port, and with `OtherWidth` if
-    /// the slots have values of another width, checked in this order; then nothing is done.
+    /// the slots have values or user headers of another width (`width`), checked in this order; then nothing is done. Slots have another
+    /// width only if the port is one of another board that was opened with the same number.
     ///
-    /// The write stores words of the loan's slot alone, which no subscriber holds (`unheld`); other loans keep their values (`others`).
+    /// The write stores words of the loan's slot alone, which no subscriber holds (`unheld`); other loans keep their values (`others`) and
+    /// user headers (`headers`).
     ///
     /// Ported from `iceoryx2::sample_mut_uninit::SampleMutUninit::write_payload` and `iceoryx2::sample_mut::SampleMut::user_header_mut`.
     /// Example: `publisher.write(&loan, &reading, &())?;`
@@ -252,8 +261,12 @@ impl<T: Words, U: FewWords> Publisher<T, U> {
         ensures unheld { OnOk result (IsHeldByNone self.old.port.own.port loan.now.slot) }
         ensures others { OnOk result ((other : ℕ) → (loan.now.slot ≡ other → ⊥) → other < self.old.port.own.port.service.sizes.slots
             → KeepsPayload self.old.port.own.port self.new.port.own.port other) }
+        ensures headers { OnOk result ((other : ℕ) → (loan.now.slot ≡ other → ⊥)
+            → is_out (loan_of other self.old.port.own.lane.port.book) ≡ true → KeepsHead other self.old.port.own self.new.port.own) }
         ensures refused { IfErr result (λ error. (error ≡ why_unwritten self.old loan.now)
             × StaysPut self.old.port.own self.new.port.own) }
+        ensures width { IfErr result (λ error. error ≡ WriteError.OtherWidth → write_fits self.old.port.own.lane loan.now.slot
+            (T.parts value.now) (middle_parts self.old.port.own.lane.last (U.parts user_header.now)) ≡ false) }
     {
         if self.port.is_inside_call() {
             return Err(WriteError::InsideCall);
@@ -278,6 +291,8 @@ impl<T: Words, U: FewWords> Publisher<T, U> {
             (kept_head slot self.old.port.own.lane) (middle_parts self.old.port.own.lane.last (U.parts user_header.now)) }
         ensures others { result ≡ true → (other : ℕ) → (slot ≡ other → ⊥) → other < self.old.port.own.port.service.sizes.slots
             → KeepsPayload self.old.port.own.port self.new.port.own.port other }
+        ensures headers { result ≡ true → (other : ℕ) → (slot ≡ other → ⊥)
+            → is_out (loan_of other self.old.port.own.lane.port.book) ≡ true → KeepsHead other self.old.port.own self.new.port.own }
     {
         match self.port.last_sequence() {
             None => self.port.write_values(slot, value, user_header),

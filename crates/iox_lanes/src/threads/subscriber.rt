@@ -170,7 +170,7 @@ impl<T, U> Subscriber<T, U> {
 
 impl<T: Words, U: FewWords> Subscriber<T, U> {
     /// Reads a sample: its header, user header and value. None if the sample isn't one of this port, or its slot has values of another
-    /// width, which no slot of a port of `DomainThreads` has.
+    /// width: then the port is one of another board that was opened with the same number.
     ///
     /// No publisher overwrites a slot that the subscriber holds: the words that were read are still those of the slot (`stands`), whatever
     /// the other ports do, until the release. So each read of a held sample returns the same (`held_reads_agree` of

@@ -2,7 +2,7 @@
 ghost use Rattle.std.specs.Prelude.{◌≡◌};
 ghost use Rattle.iox_lanes_opening.specs.Refusals.{is_blocked, may_grow, has_growing, first_reason};
 
-use crate::refusals::deciding::{has_handlers, is_retrying};
+use crate::refusals::deciding::{AsksCaller, FixedDecision, has_handlers, is_retrying};
 use crate::refusals::each_asked::{Question, has_such};
 use crate::refusals::into_lanes_error::IntoLanesError;
 use crate::refusals::lingering::is_lingering;
@@ -23,8 +23,10 @@ use iox_domain_values::AllocationStrategy;
 /// loan or a sample exists, a connection of a closed publisher still exists, or a closed port still exists. `HasSlices`: some publisher has
 /// another number of values than one in an element, a slot or a message. `Unsound`: the ports are in a state that no calls leave.
 /// `SequenceTooLarge`: the last sequence number of some publisher is 2^63 or more. This function never returns `OutOfMemory`.
-pub fn refusal<T: Copy, U: Copy>(domain: &Domain<T, U>) -> Option<IntoLanesError>
-    ensures { result ≡ first_reason domain.now }
+pub fn refusal<T: Copy, U: Copy, B: FixedDecision, D: AsksCaller>(
+    domain: &Domain<T, U, B, D>,
+) -> Option<IntoLanesError>
+    ensures { result ≡ first_reason B.decision D.asks domain.now }
 {
     if is_blocked(&domain.state.ports) {
         return Some(IntoLanesError::Blocked);

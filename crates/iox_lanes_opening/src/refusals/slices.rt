@@ -12,7 +12,7 @@ use iox_domain_ports::reading::waiting_at;
 
 /// Whether some publisher has slices: an element of it has another number of values than one, its slots have capacity for another number,
 /// or one of its messages, waiting or in its history, has another number.
-pub fn has_slices<T: Copy, U: Copy>(domain: &Domain<T, U>) -> bool
+pub fn has_slices<T: Copy, U: Copy, B, D>(domain: &Domain<T, U, B, D>) -> bool
     ensures { result ≡ has_slices domain.now }
 {
     has_such(&domain.state.ports, Question::Slices)

@@ -1,12 +1,13 @@
 //! What the slots of a publisher are used for.
 ghost use Rattle.std.specs.Prelude.{◌≡◌, ◌+◌, ◌-◌, ◌*◌, ◌<◌, ◌≤◌, ◌^◌, ◌++◌, ◌∷◌, [], None, true, false, length, take, get_or, remove};
 ghost use Rattle.std.specs.Prelude.{replicate, IfOk, vec_len, vec_capacity};
-ghost use Rattle.iox_lanes_parties.specs.PublisherKeeping.{put_at, first_free, number_in, new_book, loan_of};
+ghost use Rattle.iox_lanes_parties.specs.PublisherKeeping.{put_at, number_in, new_book, loan_of};
 ghost use Rattle.iox_lanes_parties.specs.PublisherKeeping.{changed, lent, remembered, dropped, marked, referred_at, unreferred_at};
 ghost use Rattle.iox_lanes_parties.specs.PublisherKeeping.{newest_of, is_own, may_have, stands_in, may_remember, found_newest};
 ghost use Rattle.iox_lanes_parties.specs.PublisherKeeping.{are_unused, may_resize, resized};
 
-use crate::places::{count_down, count_up, put};
+use crate::places::put;
+use crate::publisher::use_counts::UseCounts;
 use iox_lanes_base::calls::PublisherChange;
 use std::alloc::{AllocError, Global};
 use std::marker::Model;
@@ -49,7 +50,7 @@ pub struct SlotBook {
     // For each connection, and each slot, whether the connection has the slot.
     referred: Vec<bool>,
     // How many loans, places of the history and connections have each slot.
-    uses: Vec<u64>,
+    uses: UseCounts,
     answer: Option<LoanAnswer>,
 }
 
@@ -67,7 +68,7 @@ impl Model for SlotBook {
       loans = b.loans.items;
       history = b.history.items;
       referred = b.referred.items;
-      uses = b.uses.items;
+      uses = b.uses;
       answer = b.answer;
     } };
 
@@ -98,7 +99,7 @@ impl SlotBook {
             loans: vec![in alloc; LoanMark::No; slots]?,
             history: Vec::with_capacity(alloc, kept)?,
             referred: vec![in alloc; false; marks]?,
-            uses: vec![in alloc; 0; slots]?,
+            uses: UseCounts::new(alloc, slots)?,
             answer: None,
         })
     }
@@ -186,14 +187,14 @@ impl SlotBook {
         ensures { self.new ≡ found_newest slot self.old }
     {
         self.history.push_reserved(slot);
-        count_up(&mut self.uses, slot.saturating_sub(self.first));
+        self.uses.count_up(slot.saturating_sub(self.first));
     }
 
     /// Whether the publisher may be reduced to its first `slots` slots: it has at least this many, and none of its slots is used.
     pub fn may_resize(&self, slots: u64) -> bool
         ensures { result ≡ may_resize slots self.now }
     {
-        slots <= self.uses.len() as u64 && are_unused(&self.uses)
+        slots <= self.uses.len() as u64 && are_unused(self.uses.as_slice())
     }
 
     /// Keeps only the first `slots` slots, for this many connections, and sets the loan limit.
@@ -233,12 +234,12 @@ impl SlotBook {
             self.answer = Some(LoanAnswer::ExceedsMaxLoans);
             return;
         }
-        let Some(index) = first_free(&self.uses) else {
+        let Some(index) = self.uses.first_free() else {
             self.answer = Some(LoanAnswer::OutOfMemory);
             return;
         };
         put(&mut self.loans, index, LoanMark::Lent);
-        count_up(&mut self.uses, index);
+        self.uses.count_up(index);
         self.out = self.out.saturating_add(1);
         self.answer = Some(LoanAnswer::Slot(self.first.saturating_add(index)));
     }
@@ -258,7 +259,7 @@ impl SlotBook {
     {
         let index = slot.saturating_sub(self.first);
         put(&mut self.loans, index, LoanMark::No);
-        count_down(&mut self.uses, index);
+        self.uses.count_down(index);
         self.out = self.out.saturating_sub(1);
     }
 
@@ -269,12 +270,12 @@ impl SlotBook {
         put(&mut self.loans, index, LoanMark::No);
         self.out = self.out.saturating_sub(1);
         if self.kept == 0 {
-            count_down(&mut self.uses, index);
+            self.uses.count_down(index);
             return;
         }
         if self.history.len() == self.kept {
             let oldest = self.history.remove(0);
-            count_down(&mut self.uses, oldest.saturating_sub(self.first));
+            self.uses.count_down(oldest.saturating_sub(self.first));
         }
         self.history.push_reserved(slot);
     }
@@ -290,7 +291,7 @@ impl SlotBook {
             index,
             true,
         );
-        count_up(&mut self.uses, index);
+        self.uses.count_up(index);
     }
 
     fn unrefer(&mut self, place: u64, slot: u64)
@@ -304,24 +305,8 @@ impl SlotBook {
             index,
             false,
         );
-        count_down(&mut self.uses, index);
+        self.uses.count_down(index);
     }
-}
-
-// The first place without a use.
-fn first_free(uses: &[u64]) -> Option<u64>
-    ensures { result ≡ first_free uses.now 0 }
-{
-    let mut at = 0;
-    let mut rest = uses;
-    while let Some((count, tail)) = rest.split_first() {
-        if *count == 0 {
-            return Some(at);
-        }
-        at += 1;
-        rest = tail;
-    }
-    None
 }
 
 // Whether the number is in the list.

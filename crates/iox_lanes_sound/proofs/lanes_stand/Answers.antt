@@ -4,7 +4,8 @@ use Rattle.iox_machine.specs.Choices.{chosen_by}
 
 pub returns : goal.returns
 returns g c = λ handed names lent held buffer service stands roomy back chosen.
-    stand g.T.Words.parts g.U.Words.parts g.T.Words.of_parts g.T.Words.WORDS g.U.Words.WORDS g.met.T.Words.as_many
+    stand g.H.FixedDecision.decision g.K.AsksCaller.asks g.T.Words.parts g.U.Words.parts g.T.Words.of_parts g.T.Words.WORDS g.U.Words.WORDS
+    g.met.T.Words.as_many
     c.args.opened.now.domain c.requires.none c.args.opened.now.lanes.lanes c.requires.came c.args.opened.now.publishers.items
     c.args.opened.now.subscribers.items c.args.opened.now.connections.items c.requires.holds back names lent held buffer service stands
     roomy c.requires.between c.requires.sized c.requires.fails

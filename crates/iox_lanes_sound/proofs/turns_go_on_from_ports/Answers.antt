@@ -11,7 +11,8 @@ returns g c = λ handed types most_buffered names lent held buffer service stand
     (λ who. g.B.Degrades.degrades who) (λ who. g.D.Degrades.degrades who) handed) g.T.Words.of_parts types most_buffered
     (begun_numbers (lane_names names c.args.opened.now.domain.state.ports.sizes.sequence_numbers c.args.opened.now.publishers.items
     c.args.opened.now.subscribers.items c.args.opened.now.lanes.lanes)) c.args.opened.now.lanes.lanes n service state calls
-    (stand g.T.Words.parts g.U.Words.parts g.T.Words.of_parts g.T.Words.WORDS g.U.Words.WORDS g.met.T.Words.as_many
+    (stand g.H.FixedDecision.decision g.K.AsksCaller.asks g.T.Words.parts g.U.Words.parts g.T.Words.of_parts g.T.Words.WORDS
+    g.U.Words.WORDS g.met.T.Words.as_many
     c.args.opened.now.domain c.requires.none c.args.opened.now.lanes.lanes c.requires.came c.args.opened.now.publishers.items
     c.args.opened.now.subscribers.items c.args.opened.now.connections.items c.requires.holds back names lent held buffer service stands
     roomy c.requires.between c.requires.sized c.requires.fails

@@ -32,13 +32,14 @@ returns-clause-exact g c =
     c.sizes_of.ensures.exact counted publishers subscribers c.into_lanes.ensures.found (search rules)
 
 pub find_publishers-requires-clause-there : goal.find_publishers-requires-clause-there
-find_publishers-requires-clause-there g c = are_there c.args.domain.now c.deref-2.result.now c.requires (search rules)
+find_publishers-requires-clause-there g c = are_there g.B.FixedDecision.decision g.D.AsksCaller.asks c.args.domain.now c.deref-2.result.now
+    c.requires (search rules)
 
 pub returns-clause-fails : goal.returns-clause-fails
 returns-clause-fails g c =
     let same : c.deref-2.result.now ≡ c.in_ok-publishers.publishers.items = search rules in
     ap failing c.into_lanes.ensures.lanes ∙ c.find_orders.ensures.fails ∙ c.in_ok-find_publishers.ensures.fails
-    ∙ ap (asked c.args.domain.now.state.publisher_handlers) same
+    ∙ ap (asked g.B.FixedDecision.decision c.args.domain.now.state.publisher_handlers) same
 
 pub returns-clause-ties : goal.returns-clause-ties
 returns-clause-ties g c =
@@ -55,7 +56,7 @@ returns-clause-built g c =
     let ordering : c.deref-5.result.now ≡ c.in_ok-subscribers.subscribers.items = search rules in
     let publisher_count : c.len.result ≡ length c.in_ok-publishers.publishers.items = search rules in
     let subscriber_count : c.len-2.result ≡ length c.in_ok-subscribers.subscribers.items = search rules in
-    are_built
+    are_built g.B.FixedDecision.decision
     (spelling_of c.args.domain.now.state.ports.sizes.sequence_numbers g.T.Words.parts g.T.Words.WORDS g.U.Words.parts g.U.Words.WORDS)
     c.args.domain.now
     c.in_ok-publishers.publishers.items
@@ -73,12 +74,12 @@ returns-clause-built g c =
     (subst (λ p. KeepAlone c.args.domain.now.state.ports p c.deref-3.result.now) publishers c.in_ok-find_publishers.ensures.alone))
     c.in_ok-lanes.ensures.start
     (subst (λ s. c.find_publishers.new.lanes.lanes
-    ≡ publishers_behind
+    ≡ publishers_behind g.B.FixedDecision.decision
     (spelling_of c.args.domain.now.state.ports.sizes.sequence_numbers g.T.Words.parts g.T.Words.WORDS g.U.Words.parts g.U.Words.WORDS)
     c.args.domain.now
     c.in_ok-publishers.publishers.items s c.in_ok-lanes.lanes.lanes (length c.in_ok-publishers.publishers.items)) subscribers
     (subst (λ p. c.find_publishers.new.lanes.lanes
-    ≡ publishers_behind
+    ≡ publishers_behind g.B.FixedDecision.decision
     (spelling_of c.args.domain.now.state.ports.sizes.sequence_numbers g.T.Words.parts g.T.Words.WORDS g.U.Words.parts g.U.Words.WORDS)
     c.args.domain.now p
     c.deref-3.result.now

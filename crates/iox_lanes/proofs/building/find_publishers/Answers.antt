@@ -20,14 +20,17 @@ publisher_of-port-requires g c =
 
 pub loop-place-preserved : goal.loop-place-preserved
 loop-place-preserved g c =
-    let wanted = asked c.args.domain.now.state.publisher_handlers c.args.publishers.now in
+    let wanted = asked g.B.FixedDecision.decision c.args.domain.now.state.publisher_handlers c.args.publishers.now in
     let there : slice_get c.args.publishers.now c.loop-place.place ≡ Some (slice_index_or c.args.publishers.now c.loop-place.place 0) =
     slice_get-get_or c.args.publishers.now c.loop-place.place 0 (search rules) in
-    let is = slice_get-map (λ number. would_fail (kept_under number c.args.domain.now.state.publisher_handlers)) c.args.publishers.now
+    let is = slice_get-map (λ number. would_fail g.B.FixedDecision.decision (kept_under number c.args.domain.now.state.publisher_handlers))
+    c.args.publishers.now
     c.loop-place.place
-    ∙ ap (option_map (λ number. would_fail (kept_under number c.args.domain.now.state.publisher_handlers))) there in
+    ∙ ap (option_map (λ number. would_fail g.B.FixedDecision.decision (kept_under number c.args.domain.now.state.publisher_handlers)))
+    there in
     let as_many : length (failing c.args.lanes.now.lanes) ≡ length wanted = c.requires.publishers
-    ∙ sym (length-map c.args.publishers.now (λ number. would_fail (kept_under number c.args.domain.now.state.publisher_handlers))) in
+    ∙ sym (length-map c.args.publishers.now (λ number. would_fail g.B.FixedDecision.decision (kept_under number
+    c.args.domain.now.state.publisher_handlers))) in
     let next = ties_next c.args.domain.now.state.ports c.args.publishers.now c.args.subscribers.now c.loop-place.connections.items
     c.find_connections.new.connections.items c.loop-place.place _ c.publisher_of-port.result.now there
     c.publisher_of-port.ensures c.loop-place.invariant.2 c.in_ok-find_connections.ensures.ties c.loop-place.invariant.3 in (
@@ -37,7 +40,7 @@ loop-place-preserved g c =
           (c.find_connections.ensures.fails ∙ c.find_history.ensures.fails ∙ c.in_ok-find_publisher.ensures.fails),
       next.0,
       next.1,
-      next_publisher
+      next_publisher g.B.FixedDecision.decision
           (spelling_of c.args.domain.now.state.ports.sizes.sequence_numbers g.T.Words.parts g.T.Words.WORDS g.U.Words.parts g.U.Words.WORDS)
           c.args.domain.now c.args.publishers.now
           c.args.subscribers.now c.args.lanes.now.lanes c.loop-place.lanes.lanes c.find_publisher.new.lanes.lanes

@@ -19,7 +19,8 @@ returns-in-Ok-clause-lanes g c =
 
 pub returns-in-Ok-clause-fails : goal.returns-in-Ok-clause-fails
 returns-in-Ok-clause-fails g c
-    = subst (λ made. FailAsAsked c.args.domain made.lanes.lanes made.publishers.items) (sym c.with.ensures) c.in-Ok.ensures.fails
+    = subst (λ made. FailAsAsked g.B.FixedDecision.decision c.args.domain made.lanes.lanes made.publishers.items) (sym c.with.ensures)
+    c.in-Ok.ensures.fails
 
 pub returns-in-Ok-clause-exact : goal.returns-in-Ok-clause-exact
 returns-in-Ok-clause-exact g c =

@@ -22,7 +22,7 @@ returns-clause-holds g c =
     c.args.domain.now
     made.lanes.lanes
     made.publishers.items made.subscribers.items made.connections.items) (sym c.in_ok-kept.ensures.made)
-    (lanes_hold
+    (lanes_hold g.B.FixedDecision.decision g.D.AsksCaller.asks
     (spelling_of c.args.domain.now.state.ports.sizes.sequence_numbers g.T.Words.parts g.T.Words.WORDS g.U.Words.parts g.U.Words.WORDS)
     c.args.domain.now
     c.in_ok-opened.opened.publishers.items c.in_ok-opened.opened.subscribers.items c.in_ok-opened.opened.connections.items
@@ -36,12 +36,12 @@ returns-clause-joined g c =
     (length made.one.items) made.lanes.lanes
     c.args.domain.now.state.ports.publishers made.publishers.items (length made.subscribers.items) made.connections.items)
     (sym c.in_ok-kept.ensures.made)
-    (are_joined
+    (are_joined g.B.FixedDecision.decision g.D.AsksCaller.asks
     (spelling_of c.args.domain.now.state.ports.sizes.sequence_numbers g.T.Words.parts g.T.Words.WORDS g.U.Words.parts g.U.Words.WORDS)
     c.args.domain.now c.in_ok-opened.opened.lanes
     c.in_ok-opened.opened.publishers.items c.in_ok-opened.opened.subscribers.items c.in_ok-opened.opened.connections.items c.requires
     c.in_ok-opened.ensures.sized
-    (lanes_hold
+    (lanes_hold g.B.FixedDecision.decision g.D.AsksCaller.asks
     (spelling_of c.args.domain.now.state.ports.sizes.sequence_numbers g.T.Words.parts g.T.Words.WORDS g.U.Words.parts g.U.Words.WORDS)
     c.args.domain.now
     c.in_ok-opened.opened.publishers.items c.in_ok-opened.opened.subscribers.items c.in_ok-opened.opened.connections.items
@@ -69,13 +69,14 @@ returns-clause-exact g c =
 
 pub returns-clause-fails : goal.returns-clause-fails
 returns-clause-fails g c =
-    subst (λ made. FailAsAsked c.args.domain.now made.lanes.lanes made.publishers.items) (sym c.in_ok-kept.ensures.made)
+    subst (λ made. FailAsAsked g.B.FixedDecision.decision c.args.domain.now made.lanes.lanes made.publishers.items) (sym
+    c.in_ok-kept.ensures.made)
     c.in_ok-opened.ensures.fails
 
 pub returns-clause-few : goal.returns-clause-few
 returns-clause-few g c =
     subst (λ made. made.lanes.lanes.table.sizes.slots < 2 ^ 64) (sym c.in_ok-kept.ensures.made)
-    (few_slots
+    (few_slots g.B.FixedDecision.decision
     (spelling_of c.args.domain.now.state.ports.sizes.sequence_numbers g.T.Words.parts g.T.Words.WORDS g.U.Words.parts g.U.Words.WORDS)
     c.args.domain.now
     c.in_ok-opened.opened.publishers.items c.in_ok-opened.opened.subscribers.items c.in_ok-opened.opened.lanes

@@ -5,5 +5,7 @@ use Rattle.iox_lanes_opening.specs.Deciding.{is_kept_object}
 use Rattle.iox_lanes_opening.proofs.refusals.deciding.has_subscriber_handlers.Given as goal
 
 abbrev pub invariant-loop-number : goal.invariant-loop-number
-invariant-loop-number g l = list_any (λ entry. is_kept_object (kept_under entry.0 l.domain.state.subscriber_handlers)) l.number-iterator
-    ≡ list_any (λ entry. is_kept_object (kept_under entry.0 l.domain.state.subscriber_handlers)) l.domain.state.ports.subscribers
+invariant-loop-number g l = list_any (λ entry. is_kept_object g.D.AsksCaller.asks (kept_under entry.0 l.domain.state.subscriber_handlers))
+    l.number-iterator
+    ≡ list_any (λ entry. is_kept_object g.D.AsksCaller.asks (kept_under entry.0 l.domain.state.subscriber_handlers))
+    l.domain.state.ports.subscribers

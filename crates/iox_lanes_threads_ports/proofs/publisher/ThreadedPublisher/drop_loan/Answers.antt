@@ -3,6 +3,7 @@ use Rattle.iox_lanes_threads_rule.specs.Acts.{port_of}
 use Rattle.iox_lanes_threads_ports.specs.Ports.{PublisherStands}
 use Rattle.iox_lanes_threads_ports.specs.Values.{PublisherPort, Drops}
 use Rattle.iox_lanes_threads_ports.proofs.Dropped.{drop_done, drop_stands}
+use Rattle.iox_lanes_threads_ports.proofs.OtherHeads.{calls_keep_heads}
 use Rattle.iox_lanes_threads_ports.proofs.OtherLoans.{calls_keep_payloads}
 use Rattle.iox_lanes_threads_ports.proofs.publisher.ThreadedPublisher.drop_loan.Goals as goal
 
@@ -31,3 +32,9 @@ returns-clause-others c other there =
     (calls_keep_payloads other c.args.self.now now
     (subst (λ (v : PublisherPort). PublisherStands v.port v.lane) c.self.view_is c.self.invariant.1) there).2 c.args.loan true
     (returns-clause-call c)
+
+pub returns-clause-headers : goal.returns-clause-headers
+returns-clause-headers c other =
+    let now : PublisherPort
+    = record { table = c.self.inside.seat.table_id; port = port_of c.self.inside.seat.me; lane = c.go_on.new.self } in
+    (calls_keep_heads other c.args.self.now now).2 c.args.loan true (returns-clause-call c)

@@ -6,6 +6,7 @@ use Rattle.iox_lanes_threads_ports.specs.Paces.{loan_steps}
 use Rattle.iox_lanes_threads_ports.specs.Ports.{PublisherStands}
 use Rattle.iox_lanes_threads_ports.specs.Values.{PublisherPort, PublisherDoes, Loans}
 use Rattle.iox_lanes_threads_ports.proofs.KnownLoans.{loan_called}
+use Rattle.iox_lanes_threads_ports.proofs.OtherHeads.{calls_keep_heads}
 use Rattle.iox_lanes_threads_ports.proofs.OtherLoans.{calls_keep_payloads}
 use Rattle.iox_lanes_threads_ports.proofs.publisher.ThreadedPublisher.loan_uninit.Goals as goal
 
@@ -28,3 +29,9 @@ returns-clause-others g c other there =
     (calls_keep_payloads other c.args.self.now now
     (subst (λ (v : PublisherPort). PublisherStands v.port v.lane) c.self.view_is c.self.invariant.1) there).0 c.lent.result
     (returns-clause-call g c)
+
+pub returns-clause-headers : goal.returns-clause-headers
+returns-clause-headers g c other =
+    let now : PublisherPort
+    = record { table = c.does-answer.new.seat.table_id; port = port_of c.does-answer.new.seat.me; lane = c.does-answer.new.lane } in
+    (calls_keep_heads other c.args.self.now now).0 c.lent.result (returns-clause-call g c)

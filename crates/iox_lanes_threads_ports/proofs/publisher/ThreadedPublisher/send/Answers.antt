@@ -10,6 +10,7 @@ use Rattle.iox_lanes_threads_ports.specs.Ports.{PublisherStands}
 use Rattle.iox_lanes_threads_ports.specs.Values.{PublisherPort, PublisherDoes, Sends}
 use Rattle.iox_lanes_threads_ports.proofs.KnownPushes.{send_sent}
 use Rattle.iox_lanes_threads_ports.proofs.KnownSends.{send_known, send_called}
+use Rattle.iox_lanes_threads_ports.proofs.OtherHeads.{calls_keep_heads}
 use Rattle.iox_lanes_threads_ports.proofs.OtherLoans.{calls_keep_payloads}
 use Rattle.iox_lanes_threads_ports.proofs.publisher.ThreadedPublisher.send.Goals as goal
 
@@ -49,3 +50,9 @@ returns-clause-others g c other there =
     (calls_keep_payloads other c.args.self.now now
     (subst (λ (v : PublisherPort). PublisherStands v.port v.lane) c.self.view_is c.self.invariant.1) there).1 c.args.loan c.sent.result
     (returns-clause-call g c)
+
+pub returns-clause-headers : goal.returns-clause-headers
+returns-clause-headers g c other =
+    let now : PublisherPort
+    = record { table = c.does-answer.new.seat.table_id; port = port_of c.does-answer.new.seat.me; lane = c.does-answer.new.lane } in
+    (calls_keep_heads other c.args.self.now now).1 c.args.loan c.sent.result (returns-clause-call g c)

@@ -6,6 +6,7 @@ use Rattle.iox_lanes_threads_ports.specs.Paces.{write_steps}
 use Rattle.iox_lanes_threads_ports.specs.Ports.{PublisherStands}
 use Rattle.iox_lanes_threads_ports.specs.Values.{PublisherPort, PublisherDoes, Writes}
 use Rattle.iox_lanes_threads_ports.proofs.KnownWrites.{write_known, write_called, write_refused, write_keeps}
+use Rattle.iox_lanes_threads_ports.proofs.OtherHeads.{calls_keep_heads}
 use Rattle.iox_lanes_threads_ports.proofs.OtherLoans.{write_keeps_others}
 use Rattle.iox_lanes_threads_ports.proofs.publisher.ThreadedPublisher.write.Goals as goal
 
@@ -60,3 +61,10 @@ returns-clause-others g c = λ e.
     (write_keeps_others c.write_steps-most.result (port_of c.self.inside.seat.me) c.self.inside.lane (port_of c.does-answer.new.seat.me)
     c.does-answer.new.lane c.args.loan c.args.payload.now c.args.user_header.now c.fill.new.asked c.does-answer.result c.self.invariant.1
     (c.fill.ensures.fills c.if-not-fill.false) c.does-answer.ensures.does (sym c.is_some.ensures ∙ e))
+
+pub returns-clause-headers : goal.returns-clause-headers
+returns-clause-headers g c = λ e other apart out.
+    let now : PublisherPort
+    = record { table = c.does-answer.new.seat.table_id; port = port_of c.does-answer.new.seat.me; lane = c.does-answer.new.lane } in
+    (calls_keep_heads other c.args.self.now now).3 c.args.loan c.args.payload.now c.args.user_header.now c.is_some.result
+    (returns-clause-call g c) apart out
