@@ -6,6 +6,7 @@ import shutil
 import signal
 import subprocess
 import sys
+import tempfile
 import time
 
 from tool.progress import UNPROVED
@@ -150,12 +151,10 @@ def a_stopped_launcher_stops_the_build():
 @case
 def ctrl_c_at_a_build_leaves_no_half_line():
     terminal, its_side = pty.openpty()
-    # A shell has what it runs in the background ignore this signal.
-    heard = {"preexec_fn": lambda: signal.signal(signal.SIGINT, signal.SIG_DFL)}
     with Copy() as copy:
         (copy.top / "wait").touch()
         words = [sys.executable, copy.top / "iox", "--proved"]
-        with subprocess.Popen(words, stdin=subprocess.DEVNULL, stderr=its_side, **heard, **copy.how) as ran:
+        with subprocess.Popen(words, stdin=subprocess.DEVNULL, stderr=its_side, **copy.how) as ran:
             os.close(its_side)
             copy.await_call()
             time.sleep(0.5)
@@ -190,6 +189,41 @@ def what_the_gate_built_is_served_unless_it_failed_or_a_source_changed():
         (copy.top / "none").touch()
         copy.edit("crates/iox/src/main.rt")
         expect(ran(copy), (0, b"7 passed, 0 failed", ["copy ci", *BUILD]))
+
+
+# Two cases: one waits for ever for a process that it has started, in a folder of its own, and one ends.
+STUCK = """
+import subprocess
+import tempfile
+
+from cases.kit import case
+
+
+@case
+def it_never_ends():
+    with tempfile.TemporaryDirectory(dir={folder!r}) as folder:
+        subprocess.run(["sleep", "1000000"], cwd=folder)
+
+
+@case
+def it_ends():
+    pass
+"""
+
+
+@case
+def a_case_that_does_not_end_is_told_by_its_name_and_line_and_holds_nobody_up():
+    with Copy() as copy, tempfile.TemporaryDirectory(prefix="iox-check-") as folder:
+        shutil.copytree(TOP / "examples", copy.top / "examples", dirs_exist_ok=True)
+        (copy.top / "cases" / "stuck.py").write_text(STUCK.format(folder=folder), encoding="utf-8")
+        words = [sys.executable, copy.top / "check", "--without-proofs", "it_never_ends", "it_ends"]
+        how = {"stdout": subprocess.PIPE, "stderr": subprocess.STDOUT, "timeout": PATIENCE, "env": {**os.environ, "CHECK_LIMIT": "3", "CHECK_TIMES": ""}}
+        ran = subprocess.run(words, **how)
+        late = "FAILED it_never_ends: not ended after 0.1 minutes, it is at cases/stuck.py:11"
+        # The process of the case is ended: as long as it lived, what was read here would have no end.
+        wanted = ["ok it_ends", late, "ok the_work_tree_stays_as_it_was", "2 passed, 1 failed"]
+        expect((ran.returncode, ran.stdout.decode().splitlines()), (1, wanted))
+        expect(os.listdir(folder), [])
 
 
 @case

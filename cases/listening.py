@@ -14,30 +14,58 @@ import time
 from concurrent.futures import ThreadPoolExecutor
 from pathlib import Path
 
-from cases.kit import SCRIPT, TOP, NotHere, Ran, case, case_of_program, expect, expect_in
+from cases.kit import PATIENCE, SCRIPT, TOP, Differs, NotHere, Ran, case, case_of_program, expect, expect_in
+from cases.running import descendants
 
 # In seconds: how long a reply may take on a slow machine with much other work.
 REPLY = 120
 CLIENTS = 50
 
 
+def kill(server):
+    """Kills a server, with the program that it began, which has the same streams."""
+    for it in descendants(server.pid):
+        with contextlib.suppress(ProcessLookupError):
+            os.kill(it, signal.SIGKILL)
+    server.kill()
+
+
+@contextlib.contextmanager
+def ended_after(seconds, server):
+    """Kills a server that takes longer to say something or to end, so that nobody waits for it for ever."""
+    timer = threading.Timer(seconds, kill, [server])
+    timer.start()
+    try:
+        yield
+    finally:
+        timer.cancel()
+
+
+def said_to_listen(server, host):
+    """What the server says as soon as it listens on an address of this host."""
+    with ended_after(PATIENCE, server):
+        for said in server.stderr:
+            if said.startswith(f"iox: listening on {host}:".encode()):
+                return said
+    raise Differs(f"the server ended, or was killed after {PATIENCE} s, and didn't say that it listens on {host}: status {server.wait()}")
+
+
 @contextlib.contextmanager
 def listening(*words, ends_by=signal.SIGTERM, at="0", host="127.0.0.1"):
     """A launcher that listens on a free port. It ends by a signal, if it didn't end before, and `said` is what it said meanwhile."""
     how = {"stdin": subprocess.DEVNULL, "stdout": subprocess.PIPE, "stderr": subprocess.PIPE}
-    heard = {"preexec_fn": lambda: signal.signal(signal.SIGINT, signal.default_int_handler)}
-    with subprocess.Popen([sys.executable, TOP / "iox", *words, "--listen", at], **how, **heard) as server:
+    with subprocess.Popen([sys.executable, TOP / "iox", *words, "--listen", at], **how) as server:
         try:
-            said = server.stderr.readline()
-            while said and not said.startswith(f"iox: listening on {host}:".encode()):
-                said = server.stderr.readline()
-            server.port, server.status = int(said.rpartition(b":")[2]), 128 + ends_by
+            server.port, server.status = int(said_to_listen(server, host).rpartition(b":")[2]), 128 + ends_by
             yield server
             server.send_signal(ends_by)
-            server.said = server.stderr.read()
-            expect((server.wait(REPLY), server.stdout.read()), (server.status, b""))
+            with ended_after(REPLY, server):
+                server.said, out, status = server.stderr.read(), server.stdout.read(), server.wait()
+            if status == -signal.SIGKILL:
+                raise Differs(f"the server didn't end within {REPLY} s of {ends_by.name}, and was killed; it said {server.said!r}")
+            expect((status, out), (server.status, b""))
         finally:
-            server.kill()
+            kill(server)
 
 
 def connect(port, host="127.0.0.1"):
@@ -284,9 +312,25 @@ def the_end_of_the_program_ends_the_server():
     with listening("-q", "--unproved") as server, connect(server.port) as client:
         client.sendall(b"node\n")
         expect(client.recv(100), b"ok n1\n")
-        for it in Path(f"/proc/{server.pid}/task/{server.pid}/children").read_text(encoding="ascii").split():
-            os.kill(int(it), signal.SIGKILL)
+        for it in descendants(server.pid):
+            os.kill(it, signal.SIGKILL)
         client.sendall(b"node\n")
         server.status = 128 + signal.SIGKILL
         expect((client.recv(100), server.wait(REPLY)), (b"", server.status))
     expect(server.said, b"")
+
+
+@case_of_program
+def a_signal_ends_the_server_while_its_program_answers_nothing():
+    if sys.platform != "linux":
+        raise NotHere("no /proc")
+    for number in (signal.SIGTERM, signal.SIGHUP, signal.SIGINT):
+        with listening("-q", "--unproved", ends_by=number) as server, connect(server.port) as client:
+            client.sendall(b"node\n")
+            expect(client.recv(100), b"ok n1\n")
+            for it in descendants(server.pid):
+                os.kill(it, signal.SIGSTOP)
+            client.sendall(b"node\n")
+            # Meanwhile the server reads the line, and then waits for the program.
+            time.sleep(0.5)
+        expect(server.said, b"")

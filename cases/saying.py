@@ -452,8 +452,12 @@ def the_page_of_the_launcher_names_each_option_and_has_its_picture():
         if option.option_strings:
             expect_in(option.option_strings[0], page)
     with tempfile.TemporaryDirectory(prefix="iox-check-") as folder:
-        Ran("--model", "--svg", Path(folder) / "first.svg", SCRIPT)
-        expect((TOP / "docs" / "first-steps.svg").read_bytes(), (Path(folder) / "first.svg").read_bytes())
+        # The picture in docs/ has a sum of its script's place beside it, so it is drawn at such a place.
+        for it in ("docs", "examples"):
+            (Path(folder) / it).mkdir()
+        script = shutil.copy(SCRIPT, Path(folder) / "examples")
+        Ran("--model", "--svg", Path(folder) / "docs" / "first-steps.svg", script)
+        expect((TOP / "docs" / "first-steps.svg").read_bytes(), (Path(folder) / "docs" / "first-steps.svg").read_bytes())
 
 
 @case

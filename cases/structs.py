@@ -160,13 +160,20 @@ def a_struct_that_is_not_supported_is_refused_with_its_line():
 def a_file_that_was_written_otherwise_stays():
     with tempfile.TemporaryDirectory(prefix="iox-check-") as folder:
         text = "#[derive(Clone, Copy)]\npub struct A {\n    pub x: u64,\n}\n"
-        (Path(folder) / "own_words.rt").write_text("mine\n", encoding="utf-8")
-        ran, made = written(folder, text)
-        expect((ran.returncode, ran.stdout, made), (64, "", "mine\n"))
-        (Path(folder) / "own_words.rt").unlink()
-        for _ in range(2):
-            ran, made = written(folder, text)
+        own = Path(folder) / "own_words.rt"
+        for fields in (text, text.replace("x: u64", "y: u64")):
+            ran, made = written(folder, fields)
             expect((ran.returncode, ran.stderr), (0, ""))
+        first = made.partition("\n")[0]
+        # A file of the user's, also below such a first line, and what was written and then changed. Lines that are broken otherwise are none.
+        for mine in ("mine\n", f"{first}\n// mine\n", made.replace("_ => 0", "_ => 1"), made + "// mine\n"):
+            own.write_text(mine, encoding="utf-8")
+            ran, left = written(folder, text)
+            expect((ran.returncode, ran.stdout, left), (64, "", mine))
+            expect_in("own_words.rt exists, and `vendor --struct` didn't write it, or it was changed since: move it away", ran.stderr)
+        own.write_text(made.replace(" {\n", "\n{\n\n"), encoding="utf-8")
+        ran, made = written(folder, text)
+        expect((ran.returncode, ran.stderr), (0, ""))
         expect(ran.stdout, f"wrote {folder}/own_words.rt: name it beside `mod own;` by `mod own_words;`\n")
         expect(sorted(it.name for it in Path(folder).iterdir()), ["own.rt", "own_words.rt"])
 

@@ -1,5 +1,6 @@
 """What `./vendor` copies, writes, updates and refuses: from this repository, and from a small one with a history of its own."""
 import json
+import os
 import shutil
 import subprocess
 import sys
@@ -114,6 +115,21 @@ def vendor_refuses_in_one_line_and_then_writes_nothing():
             ran = vendor(*words)
             expect((ran.returncode, ran.stdout, ran.stderr.count("\n")), (status, "", 1))
         expect(sorted(it.name for it in Path(folder).rglob("*")), ["crates", "file", "iox_container"])
+
+
+@case
+def vendor_says_nothing_if_nobody_reads_what_it_prints_and_tells_of_a_full_disk():
+    with Small() as small, open("/dev/full", "w", encoding="utf-8") as full:
+        for words, status in ((["--list"], 0), (["--help"], 0), ([small.user, "low"], 0)):
+            reads, nobody = os.pipe()
+            os.close(reads)
+            how = {"stdout": nobody, "stderr": subprocess.PIPE, "text": True}
+            ran = subprocess.run([sys.executable, "-S", small.top / "vendor", *words], **how)
+            os.close(nobody)
+            expect((words, ran.returncode, ran.stderr), (words, status, ""))
+        expect([*small.record()["copied"]], ["LICENSE and NOTICE", "low"])
+        ran = subprocess.run([sys.executable, small.top / "vendor", "--list"], stdout=full, stderr=subprocess.PIPE, text=True)
+        expect((ran.returncode, ran.stderr), (66, "vendor: standard output: No space left on device\n"))
 
 
 @case

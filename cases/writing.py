@@ -2,22 +2,22 @@
 import contextlib
 import json
 import os
-import resource
 import shutil
 import signal
 import subprocess
 import sys
 import tempfile
 from contextlib import ExitStack, contextmanager
+from functools import cache
 from itertools import product
 from pathlib import Path
 
-from cases.kit import PATIENCE, REPLIES, SCRIPT, TOP, NotHere, Ran, await_that, case, case_of_program, expect, expect_in
+from cases.kit import PATIENCE, REPLIES, SCRIPT, TOP, NotHere, Ran, await_that, case, case_of_program, expect, expect_in, takes_long
 
 # The options that write a file, with its suffix if none is named, and what such a file begins with.
 WRITING = (("svg", ".svg", b"<svg "), ("html", ".html", b"<!DOCTYPE html>"))
 MINE = b"a text of mine\n"
-# How pictures and pages of the launcher begin.
+# How pictures and pages of the launcher begin. There a sum of the text is behind the name of the option.
 PICTURE = b"""<svg xmlns="http://www.w3.org/2000/svg" width="728" height="460" viewBox="0 0 728 460" role="img">
 <metadata>Kohepuri ./iox --svg</metadata>
 <title>first.iox</title>
@@ -65,6 +65,17 @@ OUTCOMES = [
     ("--it to-mine --force own.iox", 0, "iox: wrote to-mine", "mine.end"),
     ("--it ours.end own.iox", 0, "iox: wrote ours.end", "ours.end"),
     ("-q --it ours.end own.iox", 0, "", "ours.end"),
+    ("--it ours.end ./own.iox", 0, "iox: wrote ours.end", "ours.end"),
+    ("- --it piped.end <own.iox", 0, "iox: wrote piped.end", "piped.end"),
+    # What the launcher wrote, too, once it was changed, or for another script.
+    ("--it edited.end own.iox", 64, "edited.end was changed since ./iox wrote it, or shows another script: --force replaces it", ""),
+    ("--it longer.end own.iox", 64, "longer.end was changed since", ""),
+    ("--it edited.end --force own.iox", 0, "iox: wrote edited.end", "edited.end"),
+    ("--it headed.end own.iox", 64, "headed.end exists, and ./iox didn't write it: --force replaces it", ""),
+    ("--it ours.end mine.iox", 64, "ours.end was changed since ./iox wrote it, or shows another script: --force replaces it", ""),
+    ("--it ours.end <-", 64, "ours.end was changed since ./iox wrote it, or shows another script: `./iox ours.end --it` draws it", ""),
+    ("--it piped.end own.iox", 64, "piped.end was changed since ./iox wrote it, or shows another script", ""),
+    ("--it ours.end mine.iox --force", 0, "iox: wrote ours.end", "ours.end"),
     ("--it pasted own.iox", 64, "pasted exists, and ./iox didn't write it: --force replaces it", ""),
     ("--it framed own.iox", 64, "framed exists, and ./iox didn't write it: --force replaces it", ""),
     ("--it quoting own.iox", 64, "quoting exists, and ./iox didn't write it: --force replaces it", ""),
@@ -83,6 +94,10 @@ OUTCOMES = [
     ("own.iox --it -", 0, "", "-"),
     ("--json --it - own.iox", 64, "--json and --it can't both be written to standard output", ""),
     ("--svg - --html - own.iox", 64, "--svg and --html can't both be written to standard output", ""),
+    ("--svg --html own.iox", 64, "own.iox is a script, so nothing is written there: `./iox own.iox --svg --html` writes own.svg and", ""),
+    ("--svg other.svg --html own.iox", 64, "`./iox own.iox --svg other.svg --html` writes other.svg and own.html", ""),
+    ("--html own.svg own.iox", 64, "own.svg is a name for a picture, and --html writes a page: `--html own.html`", ""),
+    ("--svg OWN.HTML --force own.iox", 64, "OWN.HTML is a name for a page, and --svg writes a picture: `--svg OWN.svg`", ""),
     ("--svg it --html ./it own.iox", 64, "--svg and --html can't both be written to ./it", ""),
     ("--it /dev/stdout own.iox", 64, "/dev/stdout is where the replies go: `--it -` writes to standard output", ""),
     ("--it replies own.iox >replies", 64, "replies is where the replies go", ""),
@@ -119,13 +134,25 @@ def own_script():
         yield script
 
 
+@cache
+def written(suffix):
+    """What the launcher wrote of one line: as the script `own.iox` beside it, and from a pipe."""
+    with own_script() as script:
+        script.write_bytes(b"node\n")
+        for name, words in (("ours", ["own.iox"]), ("piped", [])):
+            expect(ran("-q", f"--{suffix[1:]}", f"{name}{suffix}", *words, given=b"node\n", cwd=script.parent).status, 0)
+        return [script.with_name(f"{name}{suffix}").read_bytes() for name in ("ours", "piped")]
+
+
 @contextmanager
 def own_folder(suffix):
-    """A folder with scripts, replies and texts of the user's, and with pictures or pages that the launcher wrote."""
+    """A folder with scripts, replies and texts of the user's, and with pictures or pages that the launcher wrote, some of them edited."""
     with own_script() as script:
-        folder, ours = script.parent, OURS[suffix]
+        folder, (ours, piped) = script.parent, written(suffix)
         texts = {"mine.iox": SCRIPT.read_bytes(), f"mine{suffix}": MINE, "own.replies": REPLIES, "empty": b"", **MARKED}
-        for name, text in {**texts, f"ours{suffix}": ours, f"locked{suffix}": ours}.items():
+        of_ours = {"ours": ours, "locked": ours, "piped": piped, "edited": ours.replace(b"own", b"Own", 1), "longer": ours + b"\n"}
+        of_ours["headed"] = OURS[suffix] + MINE
+        for name, text in {**texts, **{f"{it}{suffix}": text for it, text in of_ours.items()}}.items():
             (folder / name).write_bytes(text)
         (folder / f"mine{suffix}").chmod(0o640)
         (folder / f"locked{suffix}").chmod(0o444)
@@ -176,11 +203,14 @@ def ran(*words, **how):
 
 
 @case
+@takes_long
 def each_output_is_written_or_refused_as_the_table_says():
-    for option in WRITING:
-        for row in OUTCOMES:
-            if "/dev/full" not in row[0] or os.path.exists("/dev/full"):
-                expect_outcome(row, option)
+    for row in OUTCOMES:
+        if "/dev/full" in row[0] and not os.path.exists("/dev/full"):
+            continue
+        # (a row that names the options itself is the same for both)
+        for option in WRITING if "--it" in row[0] else WRITING[:1]:
+            expect_outcome(row, option)
 
 
 def nobody():
@@ -201,17 +231,24 @@ def an_output_that_may_not_be_written_is_refused_before_anything_runs():
             expect_outcome(row, option, **how)
 
 
+def files_of(count):
+    """How a process is begun whose files may have so many bytes."""
+    if not shutil.which("prlimit"):
+        raise NotHere("no prlimit: util-linux has it")
+    return ["prlimit", f"--fsize={count}:{count}"]
+
+
 @case
 def a_full_disk_leaves_what_was_there_and_nothing_half_written():
     for option in WRITING:
         for row in FULL:
-            expect_outcome(row, option, preexec_fn=lambda: resource.setrlimit(resource.RLIMIT_FSIZE, (100, 100)))
+            expect_outcome(row, option, under=files_of(100))
 
 
 @case
 def a_comparison_that_cannot_write_what_it_found_leaves_nothing_half_written():
     words, reply = ("--against", "sh -c 'while read line; do echo no; done'", "own.iox"), b"node  no\n"
-    limit = {"preexec_fn": lambda: resource.setrlimit(resource.RLIMIT_FSIZE, (4, 4))}
+    limit = {"under": files_of(4)}
     for how, told in ((limit, "iox: against-1.iox: File too large"), ({}, "iox: 3 of 3 runs of these 1 lines show it: against-1.iox")):
         with own_folder(".svg") as folder:
             before = contents(folder)
@@ -233,13 +270,13 @@ def what_one_run_wrote_the_next_replaces():
 @case
 def a_replaced_file_keeps_its_rights_and_a_new_one_has_the_users():
     with own_folder(".svg") as folder:
-        ran("--svg", "mine.svg", "--force", "own.iox", cwd=folder, preexec_fn=lambda: os.umask(0o027))
-        ran("--svg", "new.svg", "own.iox", cwd=folder, preexec_fn=lambda: os.umask(0o027))
+        ran("--svg", "mine.svg", "--force", "own.iox", cwd=folder, umask=0o027)
+        ran("--svg", "new.svg", "own.iox", cwd=folder, umask=0o027)
         expect([(folder / it).stat().st_mode & 0o777 for it in ("mine.svg", "new.svg")], [0o640, 0o640])
 
 
 # What is to be written where a run is stopped: the words, and the line or the file by which it is seen that the run is in its midst.
-STOPPED: list = [(("--model", f"--{name}", f"ours{suffix}"), b"ok n1\n") for name, suffix, _ in WRITING]
+STOPPED: list = [(("--model", f"--{name}", f"piped{suffix}"), b"ok n1\n") for name, suffix, _ in WRITING]
 STOPPED.append((("--against", "sh -c 'exec cat >begun'", "own.iox"), None))
 SIGNALS = (signal.SIGINT, signal.SIGTERM, signal.SIGHUP)
 
@@ -247,11 +284,10 @@ SIGNALS = (signal.SIGINT, signal.SIGTERM, signal.SIGHUP)
 @case
 def a_stopped_run_leaves_what_was_there_and_nothing_half_written():
     how = {"stdin": subprocess.PIPE, "stdout": subprocess.PIPE, "stderr": subprocess.PIPE}
-    heard = {"preexec_fn": lambda: [signal.signal(it, signal.SIG_DFL) for it in (signal.SIGINT, signal.SIGHUP)]}
     for (words, reply), number in product(STOPPED, SIGNALS):
         with own_folder(".html" if "--html" in words else ".svg") as folder:
             before, begun = contents(folder), folder / "begun"
-            with subprocess.Popen([sys.executable, TOP / "iox", *words], cwd=folder, **heard, **how) as stopped:
+            with subprocess.Popen([sys.executable, TOP / "iox", *words], cwd=folder, **how) as stopped:
                 if reply:
                     stopped.stdin.write(b"node\n")
                     stopped.stdin.flush()
@@ -418,8 +454,7 @@ def the_explained_examples_are_the_examples():
 def a_run_that_is_stopped_tells_of_no_fault():
     for number in (signal.SIGTERM, signal.SIGINT):
         how = {"stdin": subprocess.PIPE, "stdout": subprocess.PIPE, "stderr": subprocess.PIPE}
-        heard = {"preexec_fn": lambda: signal.signal(signal.SIGINT, signal.default_int_handler)}
-        with subprocess.Popen([sys.executable, TOP / "iox", "--json", "-q"], **how, **heard) as stopped:
+        with subprocess.Popen([sys.executable, TOP / "iox", "--json", "-q"], **how) as stopped:
             # Its replies are read by nobody, so it is stopped while the program answers.
             stopped.stdin.write(b"node\n" * 3000)
             stopped.stdin.flush()

@@ -31,6 +31,7 @@ from tool.trace import Trace
 
 # In seconds: how long a reply may take, and the end of the program behind its last line.
 PATIENCE, ENDING = 20.0, 10.0
+AGAIN = 1.0
 # In bytes: what is read of a reply before its end.
 LONGEST_REPLY = 65_536
 # So often the shortest script is run, and of scripts up to that length two lines at once are left out.
@@ -80,16 +81,20 @@ class Side:
 
     def ask(self, line: str) -> str:
         """The reply to a line. One in parentheses says why there is none; then the program is ended."""
-        signal.setitimer(signal.ITIMER_REAL, PATIENCE)
+        reply = None
+        # (told again, since Python may drop what a signal raises)
+        signal.setitimer(signal.ITIMER_REAL, PATIENCE, AGAIN)
         try:
             with contextlib.suppress(BrokenPipeError):
                 self.child.stdin.write(line.encode("latin-1") + b"\n")
                 self.child.stdin.flush()
             reply = self.child.stdout.readline(LONGEST_REPLY + 1)
         except TimeoutError:
-            return self.give_up(f"no reply in {PATIENCE:.0f} s")
+            pass
         finally:
             signal.setitimer(signal.ITIMER_REAL, 0)
+        if reply is None:
+            return self.give_up(f"no reply in {PATIENCE:.0f} s")
         if reply.endswith(b"\n"):
             return reply[:-1].decode("latin-1")
         if len(reply) > LONGEST_REPLY:

@@ -45,7 +45,7 @@ OPTIONS: list = [
     ],
     (["--svg"], "draw the conversation (default OUT: FILE.svg)", OUT),
     (["--html"], "write a page that plays it (default OUT: FILE.html)", OUT),
-    (["--force"], "replace an OUT that ./iox didn't write", FLAG),
+    (["--force"], "replace an OUT that ./iox wouldn't overwrite", FLAG),
     (["--expect"], "compare the replies with the file REPLIES", {"metavar": "REPLIES"}),
     (["--strict"], "fail if a reply is err or skip", FLAG),
     (["--comments"], "skip blank lines and lines that begin with #", FLAG),

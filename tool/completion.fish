@@ -8,7 +8,7 @@ complete -c iox -n 'not __fish_contains_opt json json=strings' -l json -d 'write
 complete -c iox -n 'not __fish_contains_opt json json=strings' -l json=strings -d 'the same, messages\' numbers as strings'
 complete -c iox -l svg -r -F -d 'draw the conversation (default OUT: FILE.svg)'
 complete -c iox -l html -r -F -d 'write a page that plays it (default OUT: FILE.html)'
-complete -c iox -l force -d 'replace an OUT that ./iox didn\'t write'
+complete -c iox -l force -d 'replace an OUT that ./iox wouldn\'t overwrite'
 complete -c iox -l expect -r -F -d 'compare the replies with the file REPLIES'
 complete -c iox -l strict -d 'fail if a reply is err or skip'
 complete -c iox -l comments -d 'skip blank lines and lines that begin with #'

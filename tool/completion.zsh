@@ -9,7 +9,7 @@ _iox() {
         '(--json --json=strings)'--json=strings'[the same, messages'\'' numbers as strings]' \
         '(--svg)'--svg'[draw the conversation (default OUT\: FILE.svg)]:OUT:_files' \
         '(--html)'--html'[write a page that plays it (default OUT\: FILE.html)]:OUT:_files' \
-        '(--force)'--force'[replace an OUT that ./iox didn'\''t write]' \
+        '(--force)'--force'[replace an OUT that ./iox wouldn'\''t overwrite]' \
         '(--expect)'--expect'[compare the replies with the file REPLIES]:REPLIES:_files' \
         '(--strict)'--strict'[fail if a reply is err or skip]' \
         '(--comments)'--comments'[skip blank lines and lines that begin with #]' \

@@ -67,7 +67,7 @@ class Model:
     def end(self):
         pass
 
-    close = end
+    close = kill = end
 
 
 class Said(Model):
@@ -102,10 +102,14 @@ class Program:
         with contextlib.suppress(BrokenPipeError):
             self.given.close()
 
-    def close(self):
-        """Ends the program, where it hasn't ended by itself, before it finds that nobody reads its replies."""
+    def kill(self):
+        """Ends the program, so that nothing waits for a reply of it."""
         if self.child.poll() is None:
             self.child.kill()
+
+    def close(self):
+        """Ends the program, where it hasn't ended by itself, before it finds that nobody reads its replies."""
+        self.kill()
         self.end()
         self.taken.close()
         self.child.wait()

@@ -2,17 +2,20 @@
 from __future__ import annotations
 
 import asyncio
+import contextlib
 import ipaddress
 import logging
 import socket
 import time
 import warnings
 from argparse import Namespace
+from typing import Any
 
 from tool.converse import LONGEST_LINE, PIECE, Line, Lines, Model, Output, Program, is_comment, writer_of
 from tool.main import find_program
 from tool.notes import Follower, Notes
 from tool.progress import MISUSED, NO_INPUT, NOT_BUILT, say, stop
+from tool.stops import STOPS
 
 HOST = "127.0.0.1"
 MOST_CLIENTS = 128
@@ -56,6 +59,9 @@ class Server:
     def __init__(self, options: Namespace, answers: Model | Program, listener: socket.socket, idle: float = IDLE):
         self.options, self.answers, self.listener, self.idle = options, answers, listener, idle
         self.follower, self.count, self.connected = Follower(), 0, 0
+        self.loop: Any = None
+        self.main: Any = None
+        self.stopped_by = 0
 
     async def meet(self, reader: asyncio.StreamReader, writer: asyncio.StreamWriter):
         """Serves who connects up to the end of what is sent, or refuses him."""
@@ -111,6 +117,9 @@ class Server:
 
     async def run(self) -> int:
         """Answers the lines that wait, of each client one, until the program ends. Returns its status."""
+        self.main, self.loop = asyncio.current_task(), asyncio.get_running_loop()
+        if self.stopped_by:
+            return 0
         self.asked: asyncio.Queue = asyncio.Queue()
         self.server = await asyncio.start_server(self.meet, sock=self.listener, limit=AT_ONCE)
         while True:
@@ -121,15 +130,27 @@ class Server:
             if not self.answer(turn):
                 return self.answers.status
 
+    def end_by(self, number: int):
+        """Ends the server for a signal, from another thread: also where it waits for the program, or didn't begin yet."""
+        self.stopped_by = number
+        self.answers.kill()
+        if self.loop:
+            # (a loop that has ended by itself takes nothing)
+            with contextlib.suppress(RuntimeError):
+                self.loop.call_soon_threadsafe(self.main.cancel)
+
     def serve(self) -> int:
         # Who was cut off is no news, nor what a signal left undone.
         logging.getLogger("asyncio").setLevel(logging.CRITICAL)
         warnings.simplefilter("ignore", RuntimeWarning)
+        status = 0
         try:
-            return asyncio.run(self.run())
+            with contextlib.suppress(asyncio.CancelledError):
+                status = asyncio.run(self.run())
         finally:
             self.answers.close()
             self.listener.close()
+        return 128 + self.stopped_by if self.stopped_by else status
 
 
 def open_listener(text: str) -> socket.socket:
@@ -154,4 +175,6 @@ def run(options: Namespace) -> int:
     say(f"listening on {f'[{host}]' if ':' in host else host}:{port}")
     if not ipaddress.ip_address(host).is_loopback:
         say(f"whoever can reach {host} can use this hub: there is no password")
-    return Server(options, Program(program) if program else Model(), listener).serve()
+    server = Server(options, Program(program) if program else Model(), listener)
+    with STOPS.told_to(server.end_by):
+        return server.serve()

@@ -14,6 +14,7 @@ from typing import Any
 from tool.arguments import read_arguments
 from tool.converse import Fault
 from tool.progress import NO_INPUT, NOT_BUILT, UNPROVED, say, stop
+from tool.stops import STOPS
 
 # The options that have a way of their own to run: the module with its `run(options)`, which returns the status.
 OWN_WAYS = {"listen": "tool.listen", "against": "tool.against", "random": "tool.against"}
@@ -135,9 +136,7 @@ def run() -> int:
         if not os.path.exists(f"/dev/fd/{number}"):
             os.open(os.devnull, how)
     sys.stderr = sys.stderr or open(os.devnull, "w")
-    for it in (signal.SIGTERM, signal.SIGHUP):
-        if signal.getsignal(it) == signal.SIG_DFL:
-            signal.signal(it, lambda number, _: sys.exit(128 + number))
+    STOPS.begin()
     try:
         return main()
     except KeyboardInterrupt:
@@ -154,4 +153,4 @@ def run() -> int:
         from tool.sources import OUT, cache
 
         is_built = str(error.filename).startswith((str(OUT), str(cache())))
-        stop(NOT_BUILT if is_built else NO_INPUT, f"{error.filename}: {error.strerror}")
+        stop(NOT_BUILT if is_built else NO_INPUT, f"{error.filename or 'standard output'}: {error.strerror}")

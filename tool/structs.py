@@ -4,14 +4,16 @@
 """
 from __future__ import annotations
 
+import hashlib
 import re
 from dataclasses import dataclass
 from pathlib import Path
 
 from tool.outputs import put
 
-# The first words of each file that this writes: no other file is written over.
-WRITTEN = "//! Written by `vendor --struct`"
+# The first line of each file that this writes. Its sum is of the words below it, so that no file is written over that was changed since.
+HEAD = "//! Written by `vendor --struct` from the fields in `{}.rt`, sum {}: write it again when they change.\n"
+WRITTEN = re.compile(HEAD.replace("{}", r"(\w+)"))
 PRELUDE = "Rattle.std.specs.Prelude"
 HUB = "Rattle.iox_hub.specs"
 # Where a name of a clause is imported from, in the order of the lines.
@@ -324,15 +326,26 @@ def written(module: str, structs: list[Struct]) -> str:
     blocks = "\n".join(f"{words_block(it)}\n{detail_blocks(it)}" for it in structs)
     names = ", ".join(sorted(it.name for it in structs))
     names = names if len(structs) == 1 else f"{{{names}}}"
-    head = f"{WRITTEN} from the fields in `{module}.rt`: write it again when they change.\n"
-    return f"{head}{import_lines(blocks)}\nuse super::{module}::{names};\nuse iox_hub::prelude::*;\n\n{blocks}"
+    below = f"{import_lines(blocks)}\nuse super::{module}::{names};\nuse iox_hub::prelude::*;\n\n{blocks}"
+    return HEAD.format(module, sum_of(below)) + below
+
+
+def sum_of(text: str) -> str:
+    """The sum of a text's words, in whatever lines they are."""
+    return hashlib.sha256(" ".join(text.split()).encode()).hexdigest()[:16]
+
+
+def is_ours(text: str) -> bool:
+    """Whether this wrote a file, and nobody changed it since."""
+    head = WRITTEN.match(text)
+    return head is not None and head[2] == sum_of(text[head.end() :])
 
 
 def write_for(source: Path) -> Path:
     """Writes what the structs of a file need into a file beside it, and returns that file."""
     text = written(source.stem, read_structs(source.read_text(encoding="utf-8")))
     made = source.with_name(f"{source.stem}_words.rt")
-    if made.exists() and not made.read_text(encoding="utf-8").startswith(WRITTEN):
-        raise NotTaken(f"{made} exists and wasn't written by `vendor --struct`: move it away")
+    if made.exists() and not is_ours(made.read_text(encoding="utf-8")):
+        raise NotTaken(f"{made} exists, and `vendor --struct` didn't write it, or it was changed since: move it away")
     put(made, text.encode())
     return made

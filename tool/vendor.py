@@ -389,21 +389,34 @@ def write_structs(source: Path) -> None:
     print(f"wrote {made}: name it beside `mod {source.stem};` by `mod {made.stem};`")
 
 
-def main() -> int:
-    parser = arguments()
-    given = parser.parse_args()
-    refuse_misuse(given, parser)
+def run(given: argparse.Namespace) -> None:
     if given.struct:
-        write_structs(Path(given.struct))
-        return 0
+        return write_structs(Path(given.struct))
     if given.list:
-        print("\n".join(it for it in lines_of(TOP / "crates.txt") if not has_tests_alone(it)))
-        return 0
+        return print("\n".join(it for it in lines_of(TOP / "crates.txt") if not has_tests_alone(it)))
     folder = Path(given.folder)
     if not folder.is_dir():
         stop(NO_FOLDER, f"{folder}: {'not a directory' if folder.exists() else 'no such directory'}")
     try:
         vendor(folder, given.names, given.update, given.force)
+    except BrokenPipeError:
+        raise
     except (OSError, UnicodeError) as error:
         stop(NO_FOLDER, f"{getattr(error, 'filename', None) or folder}: {getattr(error, 'strerror', None) or error}")
+
+
+def main() -> int:
+    try:
+        try:
+            parser = arguments()
+            given = parser.parse_args()
+            refuse_misuse(given, parser)
+            run(given)
+        finally:
+            sys.stdout.flush()
+    except OSError as error:
+        # All is done by now. If nobody reads what was done, that is no failure.
+        os.dup2(os.open(os.devnull, os.O_WRONLY), 1)
+        if not isinstance(error, BrokenPipeError):
+            stop(NO_FOLDER, f"standard output: {error.strerror}")
     return 0
