@@ -75,11 +75,12 @@ def figures(script, count=counting.instructions):
 
 def judge(name, line, found):
     """What is wrong with the figures of a line, or nothing."""
-    least = found[min(found)]
+    first, least = min(found), found[min(found)]
     grown = {number: it for number, it in found.items() if it > GROWTH * least}
     told = ", ".join(f"{it:,} after {number:,}" for number, it in found.items())
     if line.mark == "walks":
-        return ""
+        steep = any(it > GROWTH * least * number / first for number, it in found.items())
+        return f"{name}: `{line.text}` takes {told}: more than so many times {GROWTH} of the first" if steep else ""
     if line.mark == "known":
         is_so = any(it > GONE * least for it in found.values())
         return "" if is_so else f"{name}: `{line.text}`: {line.why}: no longer so ({told}): take the mark out of cases/costs/rows.txt"
@@ -254,6 +255,8 @@ def a_line_that_grows_and_a_known_one_that_does_not_are_told():
     expect_told(judge("visits", known, grown))
     expect_told(judge("visits", known, {10: 1_000, 10_000: 1_049}), "it is lame: no longer so", "take the mark out of cases/costs/rows.txt")
     expect_told(judge("visits", walking, grown))
+    expect_told(judge("visits", walking, {10: 1_000, 1_000: 114_999}))
+    expect_told(judge("visits", walking, {10: 1_000, 1_000: 115_001}), "visits: `put p1 3` takes 1,000 after 10, 115,001 after 1,000")
     figure = Line("put p1 3", True, "takes", "1,000")
     expect_told(above(Script("a message"), [(figure, {10: 1_149, 20: 1_149})]))
     expect_told(above(Script("a message"), [(figure, {10: 1_151, 20: 1_151})]), "`put p1 3` takes 1,151, and 1,000 by")

@@ -16,8 +16,9 @@ from planted.trying.edits import TOP, Edit, changed, write
 MOST_ASKED = 3
 LEFT_OUT = shutil.ignore_patterns("out", "must-fail", "__pycache__")
 # The cases of ./check that look at the libraries' text, and those that count what a program takes, in the order in which they are asked.
+TEXT = "each_place_of_out_of_memory_stands_in_the_table_with_its_reason"
 CASES = (
-    "each_place_of_out_of_memory_stands_in_the_table_with_its_reason",
+    TEXT,
     "calls_that_take_no_memory_ask_for_none_and_what_ends_keeps_none",
     "a_line_takes_no_more_once_much_has_been",
     "a_line_of_each_verb_takes_what_the_table_says",
@@ -133,9 +134,38 @@ def counted_program(top: Path, case: str) -> tuple[dict[str, str], float]:
     return {variable: str(program)}, took
 
 
+def fall_in_text(edit: Edit) -> Fallen:
+    """The case on the libraries' text, if it fails with an edit: in a copy of what it reads, which takes seconds."""
+    with tempfile.TemporaryDirectory(prefix="planted-") as folder:
+        top = Path(folder)
+        shutil.copytree(TOP / "docs", top / "docs", ignore=unread)
+        shutil.copy(TOP / "crates.txt", top)
+        (top / "crates").mkdir()
+        for crate in (TOP / "crates").iterdir():
+            if crate.name != edit.crate:
+                (top / "crates" / crate.name).symlink_to(crate)
+        shutil.copytree(TOP / "crates" / edit.crate, top / "crates" / edit.crate, ignore=LEFT_OUT)
+        write(changed(edit, top / "crates" / edit.crate), top / "crates" / edit.crate)
+        ran = prover.timed([sys.executable, "docs/memory.py"], top)
+        fell = ran.status != 0 and bool(re.search("(?m)^(a new or changed place of out of memory|no place any longer): ", ran.said))
+    return Fallen("case", "check", TEXT, ran.seconds) if fell else Fallen("", "", "", ran.seconds)
+
+
+def unread(folder: str, names: list[str]) -> list[str]:
+    """What docs/memory.py doesn't read of a folder."""
+    return [it for it in names if not (Path(folder) / it).is_dir() and it != "MEMORY.md" and not it.endswith(".py")]
+
+
 def fall_in_cases(edit: Edit, cases: tuple[str, ...]) -> Fallen:
     """The first of these cases of ./check that fails with an edit, in a copy of the work tree."""
     seconds = 0.0
+    if TEXT in cases:
+        fallen = fall_in_text(edit)
+        if fallen.kind:
+            return fallen
+        seconds, cases = fallen.seconds, tuple(it for it in cases if it != TEXT)
+    if not cases:
+        return Fallen("", "", "", seconds)
     with tempfile.TemporaryDirectory(prefix="planted-") as folder:
         top = Path(folder) / "top"
         shutil.copytree(TOP, top, ignore=shutil.ignore_patterns("out", "__pycache__", ".git"), symlinks=True)
