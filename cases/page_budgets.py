@@ -10,7 +10,9 @@ MOST_WORDS = {
     "CONTRIBUTING": 2500,
     "LANES": 2500,
     "MACHINE": 5000,
+    "MACHINE-PROOFS": 7500,
     "PROMISES": 12000,
+    "PROMISES-STEPS": 8500,
 }
 PAGES = [it for it in sorted(TOP.rglob("*.md")) if not {"out", ".git"} & set(it.relative_to(TOP).parts)]
 
