@@ -345,7 +345,7 @@ def write_for(source: Path) -> Path:
     """Writes what the structs of a file need into a file beside it, and returns that file."""
     text = written(source.stem, read_structs(source.read_text(encoding="utf-8")))
     made = source.with_name(f"{source.stem}_words.rt")
-    if made.exists() and not is_ours(made.read_text(encoding="utf-8")):
+    if made.exists() and not is_ours(made.read_text(encoding="utf-8", errors="replace")):
         raise NotTaken(f"{made} exists, and `vendor --struct` didn't write it, or it was changed since: move it away")
     put(made, text.encode())
     return made
