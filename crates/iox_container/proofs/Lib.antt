@@ -26,3 +26,5 @@ pub mod Owned
 pub mod Padded
 pub mod Recovering
 pub mod Told
+pub mod Numbers
+pub mod Valued

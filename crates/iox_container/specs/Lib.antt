@@ -34,6 +34,8 @@ pub mod Wide
 pub mod NumberLaws
 pub mod NumberTable
 pub mod NumberedLends
+pub mod ByNumber
+pub mod ByNumberLends
 pub mod ByNumberPlaces
 pub mod Container
 pub mod Head

@@ -10,7 +10,7 @@
 //! | `semantic_strings` | texts that always obey the rules of their type: `Semantic` over `Rules` |
 //! | `slot_map` | slot maps, which generate the keys of their values: `SlotMap` and `FixedSizeSlotMap` |
 //! | `flat_map` | flat maps, whose keys the caller provides: `FlatMap` and `FixedSizeFlatMap` |
-//! | `by_number` | values under numbers, each of which is given out once: `Numbered` |
+//! | `by_number` | values under numbers: `Numbered`, which gives each number out once, and `ByNumber`, a list by rising number |
 //! | `byte_cells` | values that are copied byte by byte: `FixedSizeByteAtomic`, `MaybeTorn`, `ByteMachine` |
 //! | `unique` | index sets that hand out the index released last first: `UniqueIndexSet` |
 //! | `robust` | index sets that know the owner of each held index, so that all indices of one owner can be recovered |
@@ -84,7 +84,7 @@ pub mod string;
 pub mod unique;
 pub mod vector;
 
-pub use by_number::Numbered;
+pub use by_number::{ByNumber, Numbered, RoomyByNumber};
 pub use byte_cells::{ByteAnswer, ByteMachine, ByteStep, Coded, FixedSizeByteAtomic, MaybeTorn};
 pub use callback_progression::CallbackProgression;
 pub use container::{Container, ContainerHandle, ContainerState, Member};

@@ -20,7 +20,8 @@ const LOST_TURNS: u32 = 1 << 20;
 /// The link of the last free index. It is the largest number that a head can store, so no set that can be shared has it as an index.
 const END: u32 = (1 << 24) - 1;
 
-/// A set of fewer than 2^24 indices that threads share.
+/// A set of fewer than 2^24 indices that threads share. Its head counts changes in 16 bits: if other threads make 65,536 changes during one
+/// `acquire`, two guards may have the same index.
 ///
 /// Ported from `iceoryx2_bb_lock_free::mpmc::unique_index_set::UniqueIndexSet`.
 #[derive(Drop)]
