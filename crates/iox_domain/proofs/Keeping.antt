@@ -1,5 +1,5 @@
 -- What is kept under a number, and put back.
-use Rattle.std.proofs.Common.{ℕ, ◌≡◌, ◌∷◌, [], List, true, Option, None, Some, refl, sym, ap, ◌∙◌, cond}
+use Rattle.std.proofs.Common.{ℕ, ◌≡◌, ◌∷◌, [], List, true, Option, None, Some, Result, Ok, Err, refl, sym, ap, ◌∙◌, cond}
 use Rattle.std.proofs.lemmas.Cmp.{nat_cmp_total}
 use Rattle.std.proofs.lemmas.Map.{lookup-none}
 use Rattle.std.proofs.lemmas.Map.Entries.{none_below_head}
@@ -9,6 +9,7 @@ use Rattle.std.specs.Cmp.{nat_cmp_is}
 use Rattle.std.specs.List.Sorted.{IsStrictlySortedBy}
 use Rattle.std.specs.Map.{lookup, remove_entry, keys_of}
 use Rattle.std.specs.Ordering.{nat_cmp, is_eq, match_ordering}
+use Rattle.std.specs.Prelude.{IfOk, OnOk}
 use Rattle.std.specs.declared.cmp.Ordering.{Ordering}
 use Rattle.std.specs.declared.cmp.Ordering.TheVariants.{Less, Equal, Greater}
 use Rattle.iox_domain.specs.Kept.{kept_under, kept, put_back}
@@ -68,6 +69,13 @@ undone number x [] sorted = ap (λ test. cond test [] ((number, x) ∷ [])) (sam
 undone number x (entry ∷ entries) sorted =
     undone-at number entry.0 x entry.1 entries (nat_cmp number entry.0) refl sorted
     (undone number x entries (sorted_tail nat_cmp entry.0 (keys_of entries) sorted))
+
+-- the same of a keeping that may fail
+pub undone_kept : {X E : Type 0} (number : ℕ) (x : X) (values after : List (ℕ × X)) (result : Result (Option X) E)
+    → IsStrictlySortedBy nat_cmp (keys_of values) → IfOk result (λ before. before ≡ kept_under number values)
+    → OnOk result (after ≡ kept number x values) → IfOk result (λ before. put_back number before after ≡ values)
+undone_kept number x values after (Ok before) sorted was is = rw was (rw is (undone number x values sorted))
+undone_kept number x values after (Err error) sorted was is = tt
 
 -- values that are both there are one
 pub same_value : {X : Type 0} {x y : X} → Some x ≡ Some y → x ≡ y

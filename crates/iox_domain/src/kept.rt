@@ -2,8 +2,8 @@
 ghost use Rattle.std.specs.Prelude.{◌≡◌, option_copied, is_some, IfOk, OnOk, OnErr, OnSome, Some, [], true};
 ghost use Rattle.iox_domain.specs.Kept.{kept_under, kept, forgotten, put_back};
 
+use iox_container::ByNumber;
 use std::alloc::{AllocError, Global};
-use std::collections::BTreeMap;
 use std::marker::Model;
 
 /// Values that are stored for ports, by their numbers: at most one for each.
@@ -11,7 +11,7 @@ use std::marker::Model;
 /// Contracts see each value with its number, by rising number.
 #[derive(Drop)]
 pub struct Kept<H> {
-    values: BTreeMap<u64, H>,
+    values: ByNumber<H>,
 }
 
 impl<H> Model for Kept<H> {
@@ -19,7 +19,7 @@ impl<H> Model for Kept<H> {
 
     ghost Value = { List (ℕ × H) };
 
-    ghost view = { λ k. k.values.entries };
+    ghost view = { λ k. k.values };
 }
 
 impl<H: Drop> Kept<H> {
@@ -28,7 +28,7 @@ impl<H: Drop> Kept<H> {
         ensures { result ≡ [] }
     {
         Kept {
-            values: BTreeMap::new(alloc),
+            values: ByNumber::new(alloc),
         }
     }
 
@@ -36,7 +36,7 @@ impl<H: Drop> Kept<H> {
     pub fn get(&self, number: u64) -> Option<&H>
         ensures { option_copied result ≡ kept_under number self.now }
     {
-        self.values.get(&number)
+        self.values.get(number)
     }
 
     /// Stores a value under this number, and answers the value that was stored there before. The call fails only if an
@@ -48,7 +48,7 @@ impl<H: Drop> Kept<H> {
         ensures undone { IfOk result (λ before. put_back number before self.new ≡ self.old) }
         ensures there { OnOk result (kept_under number self.new ≡ Some value) }
     {
-        Ok(self.values.insert(number, value)?)
+        self.values.insert(number, value)
     }
 
     /// Undoes a `keep` of this number that answered `before`.
@@ -69,6 +69,6 @@ impl<H: Drop> Kept<H> {
     pub fn forget(&mut self, number: u64)
         ensures { self.new ≡ forgotten number self.old }
     {
-        let _ = self.values.remove(&number);
+        self.values.remove(number);
     }
 }

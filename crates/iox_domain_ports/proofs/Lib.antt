@@ -7,6 +7,7 @@ pub mod Beginning
 pub mod Listing
 pub mod Enough
 pub mod Counted
+mod Owned
 pub mod Lent
 pub mod Finding
 pub mod RowsIn
@@ -34,6 +35,7 @@ pub mod Lacking
 pub mod First
 pub mod Sweeping
 pub mod Walking
+pub mod Trying
 pub mod Serving
 pub mod Asking
 pub mod Flagging

@@ -9,35 +9,36 @@ use Rattle.iox_domain_values.specs.declared.degradation.DegradationInfo.{Degrada
 use Rattle.iox_domain_slots.specs.Container.declared.container.Member.{Member}
 use Rattle.iox_domain_ports.specs.declared.publisher_port.PublisherPort.{PublisherPort}
 use Rattle.iox_domain_ports.specs.Following.{FollowsNoneAt}
-use Rattle.iox_domain_ports.specs.SubscriberUpdating.{is_listed, FollowsOne, AsksOf, FollowsFrom, FollowsNoneIf, FollowsNones}
+use Rattle.iox_domain_ports.specs.SubscriberUpdating.{is_listed, FollowsExactly, AsksOf, FollowsEach, FollowsNoneIf, FollowsNones}
 use Rattle.iox_domain_ports.specs.declared.publisher_entry.PublisherEntry.{PublisherEntry}
 use Rattle.iox_domain_ports.specs.declared.subscriber_port.SubscriberPort.{SubscriberPort}
 
 -- The state of an update before it reaches a place: what the rest of the places results in is the result of all places.
-pub record Following {T U : Type 0} (may : DegradationInfo → DegradationAction → Type 0)
+pub record Following {T U : Type 0} (may : DegradationInfo → DegradationAction → Type 0) (is_new : Bool)
     (listed : List (Option (Member PublisherEntry))) (first : SubscriberPort) (first_ports : List (ℕ × PublisherPort T U))
     (found : Option ConnectionFailure) (now : SubscriberPort) (now_ports : List (ℕ × PublisherPort T U)) (place : ℕ) : Type 0 where
   pub rest : (after : Option ConnectionFailure) (new : SubscriberPort) (new_ports : List (ℕ × PublisherPort T U))
-      → FollowsFrom may place (drop place listed) found now now_ports after new new_ports
-      → FollowsFrom may 0 listed None first first_ports after new new_ports
+      → FollowsEach may is_new place (drop place listed) found now now_ports after new new_ports
+      → FollowsEach may is_new 0 listed None first first_ports after new new_ports
 
 -- nothing was followed yet
-pub following_none : {T U : Type 0} (may : DegradationInfo → DegradationAction → Type 0)
+pub following_none : {T U : Type 0} (may : DegradationInfo → DegradationAction → Type 0) (is_new : Bool)
     (listed : List (Option (Member PublisherEntry))) (first : SubscriberPort) (first_ports : List (ℕ × PublisherPort T U))
-    → Following may listed first first_ports None first first_ports 0
-following_none may listed first first_ports = record { rest = λ after new new_ports further. further }
+    → Following may is_new listed first first_ports None first first_ports 0
+following_none may is_new listed first first_ports = record { rest = λ after new new_ports further. further }
 
 -- one place more is followed
-pub following_on : {T U : Type 0} (may : DegradationInfo → DegradationAction → Type 0) (listed : List (Option (Member PublisherEntry)))
+pub following_on : {T U : Type 0} (may : DegradationInfo → DegradationAction → Type 0) (is_new : Bool)
+    (listed : List (Option (Member PublisherEntry)))
     (first now next : SubscriberPort)
     (first_ports now_ports next_ports : List (ℕ × PublisherPort T U)) (place : ℕ) (member asked : Option (Member PublisherEntry))
     (found after : Option ConnectionFailure) (outcome : Result (Unit {0}) ZeroCopyCreationError)
-    → Following may listed first first_ports found now now_ports place → place < length listed → member ≡ get_or listed place member
+    → Following may is_new listed first first_ports found now now_ports place → place < length listed → member ≡ get_or listed place member
     → asked ≡ get_or listed place asked
-    → FollowsOne place member now now_ports outcome next next_ports → AsksOf may asked next found outcome after
-    → Following may listed first first_ports after next next_ports (place + 1)
-following_on may listed first now next first_ports now_ports next_ports place member asked found after outcome so_far within is_member
-    is_asked follows asks =
+    → FollowsExactly is_new place member now now_ports outcome next next_ports → AsksOf may asked next found outcome after
+    → Following may is_new listed first first_ports after next next_ports (place + 1)
+following_on may is_new listed first now next first_ports now_ports next_ports place member asked found after outcome so_far within
+    is_member is_asked follows asks =
     let left : drop place listed ≡ member ∷ drop (place + 1) listed
     = drop_more listed place member within ∙ ap (λ one. one ∷ drop (place + 1) listed) (sym is_member) in
     let one : asked ≡ member = is_asked ∙ get_or_default listed place asked member within ∙ sym is_member in
@@ -48,12 +49,13 @@ following_on may listed first now next first_ports now_ports next_ports place me
     }
 
 -- no place is left
-pub followed : {T U : Type 0} (may : DegradationInfo → DegradationAction → Type 0) (listed : List (Option (Member PublisherEntry)))
+pub followed : {T U : Type 0} (may : DegradationInfo → DegradationAction → Type 0) (is_new : Bool)
+    (listed : List (Option (Member PublisherEntry)))
     (first now : SubscriberPort) (first_ports now_ports : List (ℕ × PublisherPort T U))
-    (place : ℕ) (found : Option ConnectionFailure) → Following may listed first first_ports found now now_ports place
+    (place : ℕ) (found : Option ConnectionFailure) → Following may is_new listed first first_ports found now now_ports place
     → length listed ≤ place
-    → FollowsFrom may 0 listed None first first_ports found now now_ports
-followed may listed first now first_ports now_ports place found so_far over
+    → FollowsEach may is_new 0 listed None first first_ports found now now_ports
+followed may is_new listed first now first_ports now_ports place found so_far over
     = so_far.rest found now now_ports (rw (drop_all place listed over) (refl, refl, refl))
 
 -- The state of the second walk, at the places without a listed publisher, before it reaches a place.

@@ -2,6 +2,7 @@
 use Rattle.std.specs.Prelude.{ℕ, ◌+◌, [], replicate, None, true}
 use Rattle.std.specs.List.{range_with_len}
 use Rattle.iox_domain_values.specs.declared.port_owner.PortIdentity.{PortIdentity}
+use Rattle.iox_domain_ports.specs.Keys.{no_keys}
 use Rattle.iox_domain_ports.specs.Ties.{no_ties}
 use Rattle.iox_domain_ports.specs.declared.subscriber_port.SubscriberPort.{SubscriberPort}
 
@@ -24,5 +25,5 @@ new_subscriber identity buffer_size most_connections most_expired = record {
     free
         = range_with_len 0 (most_connections + most_expired);
   };
-  expired = record { items = []; room = most_expired };
+  expired = no_keys most_expired (most_connections + most_expired);
 }

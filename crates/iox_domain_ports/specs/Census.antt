@@ -37,7 +37,7 @@ count_under owner counts = unwrap_or (lookup (is_at (nat_cmp owner)) counts) 0
 -- The count of the owner, or the total if no owner is named.
 abbrev pub tallied : Option ℕ → Census → ℕ
 tallied None census = census.total
-tallied (Some owner) census = count_under owner census.owners.entries
+tallied (Some owner) census = count_under owner census.owners
 
 -- The sum of these ports' shares that count for `owner`; all of them if no owner is named.
 abbrev pub shared : {P : Type 0} → (P → Share) → Option ℕ → List (ℕ × P) → ℕ

@@ -1,6 +1,6 @@
 -- What a subscriber does at one place of the list of publishers.
-use Rattle.std.specs.Prelude.{ℕ, ◌+◌, ◌<◌, ◌==◌, ◌≡◌, ◌≢◌, ◌||◌, is_none, Bool, true, false, List, [], length, get_or, slice_get, nat_le}
-use Rattle.std.specs.Prelude.{Option, None, Some, Result, Ok, Err}
+use Rattle.std.specs.Prelude.{ℕ, ◌+◌, ◌<◌, ◌==◌, ◌≡◌, ◌≢◌, ◌||◌, ◌&&◌, is_none, Bool, true, false, List, [], length, get_or}
+use Rattle.std.specs.Prelude.{slice_get, nat_le, Option, None, Some, Result, Ok, Err}
 use Rattle.std.specs.declared.alloc.AllocError.{AllocError}
 use Rattle.iox_container.specs.SlotTable.{stored}
 use Rattle.iox_domain_values.specs.declared.connection_failure.ZeroCopyCreationError.{ZeroCopyCreationError}
@@ -114,6 +114,10 @@ ConnectsBy place number (Some (Ok index)) port new = KeepsAt place (record { pub
 abbrev pub lacks_connection : {T U : Type 0} → ℕ → Option (PublisherPort T U) → Bool
 lacks_connection subscriber None = false
 lacks_connection subscriber (Some publisher) = is_none (connection_to subscriber publisher)
+
+-- Whether nothing is tied to the place, and the publisher has no connection yet for this subscriber: a connection would have to be made.
+abbrev pub lacks_at : {T U : Type 0} → ℕ → ℕ → SubscriberPort → List (ℕ × PublisherPort T U) → Bool
+lacks_at place number port ports = is_none (get_or port.places.items place None) && lacks_connection port.number (port_of number ports)
 
 -- Whether connecting to a publisher at a place may fail: no key is free, the place is beyond the capacity for ties, or the
 -- publisher has no connection yet for this subscriber, so that one must be allocated.

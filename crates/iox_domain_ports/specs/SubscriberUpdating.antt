@@ -1,9 +1,10 @@
 -- A subscriber follows the list of publishers.
-use Rattle.std.specs.Prelude.{ℕ, zero, suc, ◌+◌, ◌==◌, ◌≡◌, ◌&&◌, is_some, not, Bool, true, false, List, [], ◌∷◌, length, get_or, Option}
-use Rattle.std.specs.Prelude.{None, Some, Result, Ok, Err}
+use Rattle.std.specs.Prelude.{ℕ, zero, suc, ◌+◌, ◌==◌, ◌≡◌, ◌&&◌, ◌||◌, is_some, not, Bool, true, false, List, [], ◌∷◌, length, get_or}
+use Rattle.std.specs.Prelude.{Option, None, Some, Result, Ok, Err}
 use Rattle.iox_domain_values.specs.declared.connection_failure.ConnectionFailure.{ConnectionFailure}
 use Rattle.iox_domain_values.specs.declared.connection_failure.ConnectionFailure.TheVariants.{FailedToEstablishConnection}
 use Rattle.iox_domain_values.specs.declared.connection_failure.ZeroCopyCreationError.{ZeroCopyCreationError}
+use Rattle.iox_domain_values.specs.declared.connection_failure.ZeroCopyCreationError.TheVariants as creation
 use Rattle.iox_domain_values.specs.declared.degradation.DegradationAction.{DegradationAction}
 use Rattle.iox_domain_values.specs.declared.degradation.DegradationInfo.{DegradationInfo}
 use Rattle.iox_domain_values.specs.declared.port_error.ReceiveError.{ReceiveError}
@@ -13,7 +14,7 @@ use Rattle.iox_domain_ports.specs.PublisherUpdating.{first_failure, update_answe
 use Rattle.iox_domain_ports.specs.declared.publisher_port.PublisherPort.{PublisherPort}
 use Rattle.iox_domain_ports.specs.Subscribing.{has_data}
 use Rattle.iox_domain_ports.specs.Receiving.{IsFirst, Receives}
-use Rattle.iox_domain_ports.specs.Following.{FollowsListed, FollowsNone}
+use Rattle.iox_domain_ports.specs.Following.{FollowsListed, FollowsNone, lacks_at}
 use Rattle.iox_domain_ports.specs.declared.attached.Taken.{Taken}
 use Rattle.iox_domain_ports.specs.declared.publisher_entry.PublisherEntry.{PublisherEntry}
 use Rattle.iox_domain_ports.specs.declared.subscriber_port.SubscriberPort.{SubscriberPort}
@@ -28,6 +29,22 @@ abbrev pub FollowsOne : {T U : Type 0} → ℕ → Option (Member PublisherEntry
 FollowsOne place None port ports outcome new new_ports = (outcome ≡ Ok tt) × (new ≡ port) × (new_ports ≡ ports)
 FollowsOne place (Some member) port ports outcome new new_ports
     = FollowsListed place member.value.publisher port ports outcome new new_ports
+
+-- A publisher is followed if it is tried. Otherwise its connection fails as before, and nothing changes.
+abbrev pub FollowsTried : {T U : Type 0} → Bool → ℕ → ℕ → SubscriberPort → List (ℕ × PublisherPort T U)
+    → Result (Unit {0}) ZeroCopyCreationError → SubscriberPort → List (ℕ × PublisherPort T U) → Type 0
+FollowsTried true place number port ports outcome new new_ports = FollowsListed place number port ports outcome new new_ports
+FollowsTried false place number port ports outcome new new_ports = (outcome ≡ Err creation.OutOfMemory) × (new ≡ port)
+    × (new_ports ≡ ports)
+
+-- A place that lists a publisher is followed, unless the list is as it was and a connection would have to be made: that failed when
+-- the list changed, and isn't tried again. At a place that lists none nothing happens yet.
+abbrev pub FollowsExactly : {T U : Type 0} → Bool → ℕ → Option (Member PublisherEntry) → SubscriberPort → List (ℕ × PublisherPort T U)
+    → Result (Unit {0}) ZeroCopyCreationError → SubscriberPort → List (ℕ × PublisherPort T U) → Type 0
+FollowsExactly is_new place None port ports outcome new new_ports = (outcome ≡ Ok tt) × (new ≡ port) × (new_ports ≡ ports)
+FollowsExactly is_new place (Some member) port ports outcome new new_ports =
+    FollowsTried (is_new || not (lacks_at place member.value.publisher port ports)) place member.value.publisher port ports outcome new
+    new_ports
 
 -- What is found after a place: if its connection failed, the handler decides.
 abbrev pub AsksOf : (DegradationInfo → DegradationAction → Type 0) → Option (Member PublisherEntry) → SubscriberPort
@@ -49,6 +66,17 @@ FollowsFrom {T} {U} may place (listed ∷ rest) found port ports after new new_p
     × (then_found : Option ConnectionFailure)
     × FollowsOne place listed port ports outcome next next_ports × AsksOf may listed next found outcome then_found
     × FollowsFrom may (place + 1) rest then_found next next_ports after new new_ports
+
+-- The same walk, of which each place is followed as `FollowsExactly` says; `is_new` says whether the list changed since the last update.
+abbrev pub FollowsEach : {T U : Type 0} → (DegradationInfo → DegradationAction → Type 0) → Bool → ℕ
+    → List (Option (Member PublisherEntry)) → Option ConnectionFailure → SubscriberPort → List (ℕ × PublisherPort T U)
+    → Option ConnectionFailure → SubscriberPort → List (ℕ × PublisherPort T U) → Type 0
+FollowsEach may is_new place [] found port ports after new new_ports = (after ≡ found) × (new ≡ port) × (new_ports ≡ ports)
+FollowsEach {T} {U} may is_new place (listed ∷ rest) found port ports after new new_ports =
+    (outcome : Result (Unit {0}) ZeroCopyCreationError) × (next : SubscriberPort) × (next_ports : List (ℕ × PublisherPort T U))
+    × (then_found : Option ConnectionFailure)
+    × FollowsExactly is_new place listed port ports outcome next next_ports × AsksOf may listed next found outcome then_found
+    × FollowsEach may is_new (place + 1) rest then_found next next_ports after new new_ports
 
 -- Whether the place lists a publisher.
 abbrev pub is_listed : List (Option (Member PublisherEntry)) → ℕ → Bool
@@ -78,6 +106,15 @@ FollowsList {T} {U} may listed port ports answer new new_ports =
     × FollowsFrom may 0 listed None port ports found between between_ports
     × FollowsNones listed 0 (length between.places.items) between between_ports new new_ports × (answer ≡ update_answer found)
 
+-- The same, with each place followed as `FollowsExactly` says.
+abbrev pub FollowsListEach : {T U : Type 0} → (DegradationInfo → DegradationAction → Type 0) → Bool → List (Option (Member PublisherEntry))
+    → SubscriberPort → List (ℕ × PublisherPort T U) → Result (Unit {0}) ConnectionFailure → SubscriberPort
+    → List (ℕ × PublisherPort T U) → Type 0
+FollowsListEach {T} {U} may is_new listed port ports answer new new_ports =
+    (found : Option ConnectionFailure) × (between : SubscriberPort) × (between_ports : List (ℕ × PublisherPort T U))
+    × FollowsEach may is_new 0 listed None port ports found between between_ports
+    × FollowsNones listed 0 (length between.places.items) between between_ports new new_ports × (answer ≡ update_answer found)
+
 -- If nothing is to be followed nothing happens; otherwise the list is followed.
 abbrev pub UpdatesIf : {T U : Type 0} → Bool → (DegradationInfo → DegradationAction → Type 0) → List (Option (Member PublisherEntry))
     → ℕ → SubscriberPort → List (ℕ × PublisherPort T U) → Result (Unit {0}) ConnectionFailure → SubscriberPort
@@ -93,6 +130,23 @@ abbrev pub Updates : {T U : Type 0} → (DegradationInfo → DegradationAction �
     → List (ℕ × PublisherPort T U) → Type 0
 Updates may listed changes port ports answer new new_ports
     = UpdatesIf ((port.seen == changes) && not port.again) may listed changes port ports answer new new_ports
+
+-- The same exactly: nothing happens, or the list is followed, and `is_new` says whether it changed.
+abbrev pub UpdatesEachIf : {T U : Type 0} → Bool → (DegradationInfo → DegradationAction → Type 0) → List (Option (Member PublisherEntry))
+    → ℕ → SubscriberPort → List (ℕ × PublisherPort T U) → Result (Unit {0}) ConnectionFailure → SubscriberPort
+    → List (ℕ × PublisherPort T U) → Type 0
+UpdatesEachIf true may listed changes port ports answer new new_ports = (answer ≡ Ok tt) × (new ≡ port) × (new_ports ≡ ports)
+UpdatesEachIf false may listed changes port ports answer new new_ports
+    = FollowsListEach may (not (port.seen == changes)) listed (record port { seen = changes; again = false }) ports answer new new_ports
+
+-- What an update tries: a list that changed is followed at each place. If it is as it was, and a publisher was refused, since the former
+-- connection at its place could neither end nor expire, no connection is made but at such a place; one that failed for memory fails as
+-- before.
+abbrev pub UpdatesEach : {T U : Type 0} → (DegradationInfo → DegradationAction → Type 0) → List (Option (Member PublisherEntry)) → ℕ
+    → SubscriberPort → List (ℕ × PublisherPort T U) → Result (Unit {0}) ConnectionFailure → SubscriberPort
+    → List (ℕ × PublisherPort T U) → Type 0
+UpdatesEach may listed changes port ports answer new new_ports
+    = UpdatesEachIf ((port.seen == changes) && not port.again) may listed changes port ports answer new new_ports
 
 -- What the call answers after its update: the failure, if the update failed; otherwise whether some connection has data.
 abbrev pub HasSamplesAfter : {T U : Type 0} → Result (Unit {0}) ConnectionFailure → SubscriberPort → List (ℕ × PublisherPort T U)

@@ -3,8 +3,8 @@ ghost use Rattle.std.specs.Prelude.{◌≡◌, ℕ, ◌+◌, ◌==◌, ◌<◌, 
 ghost use Rattle.iox_domain_ports.specs.Census.{amount, no_share, count_under, tallied, Exchanges};
 
 use crate::living::counted;
+use iox_container::ByNumber;
 use std::alloc::Global;
-use std::collections::BTreeMap;
 
 /// The owner of a port, and how much of the port is alive.
 #[derive(Clone, Copy)]
@@ -23,7 +23,7 @@ pub struct Share {
 #[derive(Drop)]
 pub struct Census {
     // What is alive of each owner of which something is alive.
-    owners: BTreeMap<u64, u64>,
+    owners: ByNumber<u64>,
     // What is alive of all owners.
     total: u64,
     // Whether the counts are valid; they aren't any longer once an allocation failed, or a count passed 2^64 - 1.
@@ -37,12 +37,12 @@ pub struct Census {
 impl Census {
     /// Nothing is alive. The call allocates nothing.
     pub fn new(alloc: Global) -> Self
-        ensures owners { result.owners.entries ≡ [] }
+        ensures owners { result.owners ≡ [] }
         ensures total { result.total ≡ 0 }
         ensures noted { result.noted ≡ no_share }
     {
         Census {
-            owners: BTreeMap::new(alloc),
+            owners: ByNumber::new(alloc),
             total: 0,
             holds: true,
             lent: 0,
@@ -59,9 +59,9 @@ impl Census {
 
     // The count of an owner.
     fn count(&self, owner: u64) -> u64
-        ensures { result ≡ count_under owner self.now.owners.entries }
+        ensures { result ≡ count_under owner self.now.owners }
     {
-        match self.owners.get(&owner) {
+        match self.owners.get(owner) {
             Some(count) => *count,
             None => 0,
         }
@@ -70,15 +70,15 @@ impl Census {
     // Sets the count of an owner, and the total.
     fn put(&mut self, owner: u64, count: u64, total: u64)
         ensures held { self.new.holds ≡ true → self.old.holds ≡ true }
-        ensures counts { self.new.holds ≡ true → (number : ℕ) → count_under number self.new.owners.entries
-            ≡ (if number == owner then count else count_under number self.old.owners.entries) }
+        ensures counts { self.new.holds ≡ true → (number : ℕ) → count_under number self.new.owners
+            ≡ (if number == owner then count else count_under number self.old.owners) }
         ensures total { self.new.total ≡ total }
         ensures lent { self.new.lent ≡ self.old.lent }
         ensures noted { self.new.noted ≡ self.old.noted }
     {
         self.total = total;
         if count == 0 {
-            let _ = self.owners.remove(&owner);
+            self.owners.remove(owner);
         } else if self.owners.insert(owner, count).is_err() {
             self.holds = false;
         }

@@ -2,7 +2,7 @@
 ghost use Rattle.std.specs.Prelude.{◌≡◌, ◌≢◌, ◌<◌, ◌≤◌, ◌==◌, ℕ, length, nat_le, slice_get, get_or, remove, [], IfOk, true, false};
 ghost use Rattle.std.specs.List.{list_any};
 ghost use Rattle.std.specs.Vec.{vec_capacity};
-ghost use Rattle.iox_domain_ports.specs.Keys.{KeysState, with_last, IsKeyOf};
+ghost use Rattle.iox_domain_ports.specs.Keys.{no_keys, with_last, IsKeyOf};
 
 use std::alloc::{AllocError, Global};
 use std::marker::Model;
@@ -24,7 +24,7 @@ impl Model for Keys {
 
     ghost Value = { KeysState };
 
-    ghost view = { λ k. record { items = k.items.items; room = k.room } };
+    ghost view = { λ k. record { items = k.items.items; room = k.room; most_flags = k.most_flags } };
 
     ghost invariant = { λ k. (k.room ≤ vec_capacity k.items) × (length k.items.items ≤ k.room)
         × ((key : ℕ) → get_or k.flags.items key false ≡ true → IsKeyOf key k.items.items)
@@ -36,7 +36,7 @@ impl Keys {
     /// No keys, with capacity for `room` keys and for the flags of all keys below `most_flags`. The call fails only if an
     /// allocation fails.
     pub fn new(alloc: Global, room: usize, most_flags: usize) -> Result<Keys, AllocError>
-        ensures { IfOk result (λ keys. keys ≡ record { items = []; room = room }) }
+        ensures { IfOk result (λ keys. keys ≡ no_keys room most_flags) }
     {
         Ok(Keys {
             items: Vec::with_capacity(alloc, room)?,

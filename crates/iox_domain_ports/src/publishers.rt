@@ -8,6 +8,7 @@ ghost use Rattle.std.specs.Map.{keys_of};
 ghost use Rattle.std.specs.Map.Iter.{ShowsInOrder, deref_pair};
 ghost use Rattle.std.specs.Option.{option_copied_mut};
 ghost use Rattle.iox_domain_slots.specs.Uses.{is_there};
+ghost use Rattle.iox_domain_ports.specs.Following.{lacks_connection};
 ghost use Rattle.iox_domain_ports.specs.Ports.{detached_at};
 ghost use Rattle.iox_domain_ports.specs.Publishers.{port_of, with_port, added, connection_in, most_borrowed_in, stands_in, changed};
 ghost use Rattle.iox_domain_ports.specs.Publishers.{ended_if_left, is_over_in, settled, released, AttachesTo, removed};
@@ -19,9 +20,9 @@ use crate::PublisherPort;
 use crate::census::{Census, Share};
 use crate::living::{add, counted, living_of_publisher};
 use crate::reading::{give_back_at, is_over, take_at};
+use iox_container::ByNumber;
+use iox_container::by_number::iter::Iter;
 use std::alloc::{AllocError, Global};
-use std::collections::BTreeMap;
-use std::collections::btree_map::Iter;
 use std::marker::Model;
 
 /// The publishers of a service. A closed one stays until it has neither loans nor connections nor a blocked send.
@@ -29,7 +30,7 @@ use std::marker::Model;
 /// Contracts see each publisher with its number, by rising number.
 #[derive(Drop)]
 pub struct Publishers<T, U> {
-    ports: BTreeMap<u64, PublisherPort<T, U>>,
+    ports: ByNumber<PublisherPort<T, U>>,
     // How much of each owner is alive.
     census: Census,
 }
@@ -41,9 +42,9 @@ impl<T, U> Model for Publishers<T, U> {
 
     ghost Value = { List (ℕ × PublisherPort T U) };
 
-    ghost view = { λ p. p.ports.entries };
+    ghost view = { λ p. p.ports };
 
-    ghost invariant = { λ p. IsCensusOf publisher_share p.census p.ports.entries };
+    ghost invariant = { λ p. IsCensusOf publisher_share p.census p.ports };
 }
 
 impl<T: Copy, U: Copy> Publishers<T, U> {
@@ -56,7 +57,7 @@ impl<T: Copy, U: Copy> Publishers<T, U> {
         ensures { result ≡ [] }
     {
         Publishers {
-            ports: BTreeMap::new(alloc),
+            ports: ByNumber::new(alloc),
             census: Census::new(alloc),
         }
     }
@@ -65,7 +66,7 @@ impl<T: Copy, U: Copy> Publishers<T, U> {
     pub fn get(&self, number: u64) -> Option<&PublisherPort<T, U>>
         ensures { option_copied result ≡ port_of number self.now }
     {
-        self.ports.get(&number)
+        self.ports.get(number)
     }
 
     /// A mutable reference to the publisher with this number, if it exists.
@@ -74,11 +75,18 @@ impl<T: Copy, U: Copy> Publishers<T, U> {
         ensures value { option_copied_mut result ≡ port_of number self.old }
     {
         note_lent(&mut self.census, &self.ports, number);
-        self.ports.get_mut(&number)
+        self.ports.get_mut(number)
+    }
+
+    /// How many publishers there are, closed ones too.
+    pub fn len(&self) -> usize
+        ensures { result ≡ length self.now }
+    {
+        self.ports.len()
     }
 
     /// The publishers with their numbers, by rising number.
-    pub fn iter(&self) -> Iter<'_, u64, PublisherPort<T, U>>
+    pub fn iter(&self) -> Iter<'_, PublisherPort<T, U>>
         ensures rest { result ≡ self.now }
         ensures runs { ShowsInOrder (deref_pair {K = ℕ} {X = PublisherPort T U}) }
     {
@@ -96,6 +104,16 @@ impl<T: Copy, U: Copy> Publishers<T, U> {
         put_port(&mut self.ports, number, port)?;
         self.census.note(share);
         Ok(())
+    }
+
+    /// Whether the publisher with this number exists, and has no connection to this subscriber yet.
+    pub fn lacks_connection(&self, number: u64, subscriber: u64) -> bool
+        ensures { result ≡ lacks_connection subscriber (port_of number self.now) }
+    {
+        match self.get(number) {
+            Some(port) => port.readers.connection_to(subscriber).is_none(),
+            None => false,
+        }
     }
 
     /// Whether the publisher with this number exists and is open. An open publisher is on the list of publishers.
@@ -182,10 +200,12 @@ impl<T: Copy, U: Copy> Publishers<T, U> {
     fn count_living(&self, owner: Option<u64>) -> u64
         ensures { result ≡ min (living_publishers owner self.now) (2 ^ 64 - 1) }
     {
-        self.ports
-            .values()
-            .map(|port| counted(owner, port.owner.number, living_of_publisher(port)))
-            .fold(0, add)
+        let mut count = 0;
+        for (_number, port) in self.iter() {
+            let living = counted(owner, port.owner.number, living_of_publisher(port));
+            count = add(count, living);
+        }
+        count
     }
 
     // Whether the publisher with this number is over.
@@ -248,10 +268,10 @@ fn share_of<T: Copy, U: Copy>(port: &PublisherPort<T, U>) -> Share
 }
 
 // The share of the publisher with this number, or `no_share` if there is none.
-fn share_in<T: Copy, U: Copy>(ports: &BTreeMap<u64, PublisherPort<T, U>>, number: u64) -> Share
-    ensures { result ≡ share_at publisher_share (port_of number ports.now.entries) }
+fn share_in<T: Copy, U: Copy>(ports: &ByNumber<PublisherPort<T, U>>, number: u64) -> Share
+    ensures { result ≡ share_at publisher_share (port_of number ports.now) }
 {
-    match ports.get(&number) {
+    match ports.get(number) {
         Some(port) => share_of(port),
         None => Share { owner: 0, count: 0 },
     }
@@ -260,14 +280,14 @@ fn share_in<T: Copy, U: Copy>(ports: &BTreeMap<u64, PublisherPort<T, U>>, number
 // Puts a publisher under this number, in place of one that had it. The call fails only if an allocation fails; then nothing has
 // changed.
 fn put_port<T: Copy, U: Copy>(
-    ports: &mut BTreeMap<u64, PublisherPort<T, U>>,
+    ports: &mut ByNumber<PublisherPort<T, U>>,
     number: u64,
     port: PublisherPort<T, U>,
 ) -> Result<(), AllocError>
-    ensures sorted { IsStrictlySortedBy nat_cmp (keys_of ports.old.entries) }
-    ensures put { OnOk result (ports.new.entries ≡ added number port ports.old.entries) }
-    ensures there { OnOk result (port_of number ports.new.entries ≡ Some port) }
-    ensures stays { OnErr result (ports.new.entries ≡ ports.old.entries) }
+    ensures sorted { IsStrictlySortedBy nat_cmp (keys_of ports.old) }
+    ensures put { OnOk result (ports.new ≡ added number port ports.old) }
+    ensures there { OnOk result (port_of number ports.new ≡ Some port) }
+    ensures stays { OnErr result (ports.new ≡ ports.old) }
 {
     let before = ports.insert(number, port)?;
     drop(before);
@@ -275,21 +295,21 @@ fn put_port<T: Copy, U: Copy>(
 }
 
 // Removes the publisher with this number.
-fn remove_port<T: Copy, U: Copy>(ports: &mut BTreeMap<u64, PublisherPort<T, U>>, number: u64)
-    ensures removed { ports.new.entries ≡ removed number ports.old.entries }
-    ensures gone { port_of number ports.new.entries ≡ None }
+fn remove_port<T: Copy, U: Copy>(ports: &mut ByNumber<PublisherPort<T, U>>, number: u64)
+    ensures removed { ports.new ≡ removed number ports.old }
+    ensures gone { port_of number ports.new ≡ None }
 {
-    drop(ports.remove(&number));
+    ports.remove(number);
 }
 
 // Notes that a publisher is handed out. The current share of the one handed out before is counted.
 fn note_lent<T: Copy, U: Copy>(
     census: &mut Census,
-    ports: &BTreeMap<u64, PublisherPort<T, U>>,
+    ports: &ByNumber<PublisherPort<T, U>>,
     number: u64,
 )
-    requires { IsCensusOf publisher_share census.old ports.now.entries }
-    ensures tells { IsCensusOf publisher_share census.new ports.now.entries }
+    requires { IsCensusOf publisher_share census.old ports.now }
+    ensures tells { IsCensusOf publisher_share census.new ports.now }
     ensures lent { census.new.lent ≡ number }
 {
     let lent = census.lent();

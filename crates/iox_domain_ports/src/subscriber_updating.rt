@@ -2,9 +2,10 @@
 ghost use Rattle.std.specs.Prelude.{◌≡◌, ◌+◌, ◌<◌, ◌^◌, length, None};
 ghost use Rattle.iox_domain_values.specs.declared.degradation.DegradationCause.TheVariants as cause;
 ghost use Rattle.iox_domain_ports.specs.PublisherUpdating.{first_failure, update_answer};
-ghost use Rattle.iox_domain_ports.specs.SubscriberUpdating.{told_of, is_listed, FollowsOne, AsksOf, FollowsFrom, FollowsNoneIf};
-ghost use Rattle.iox_domain_ports.specs.SubscriberUpdating.{FollowsNones, FollowsList, Updates, HasSamplesAfter, HasSamples};
-ghost use Rattle.iox_domain_ports.specs.SubscriberUpdating.{ReceivesAfter, ReceivesNext};
+ghost use Rattle.iox_domain_ports.specs.Following.{lacks_at};
+ghost use Rattle.iox_domain_ports.specs.SubscriberUpdating.{told_of, is_listed, FollowsExactly, AsksOf, FollowsEach, FollowsNoneIf};
+ghost use Rattle.iox_domain_ports.specs.SubscriberUpdating.{FollowsNones, FollowsListEach, Updates, UpdatesEach, HasSamplesAfter};
+ghost use Rattle.iox_domain_ports.specs.SubscriberUpdating.{HasSamples, ReceivesAfter, ReceivesNext};
 
 use crate::Member;
 use crate::attached::Taken;
@@ -18,20 +19,38 @@ use iox_domain_values::{
 use std::alloc::Global;
 
 impl SubscriberPort {
-    // Follows a place if it lists a publisher.
+    // Whether nothing is tied to the place, and the publisher has no connection to the subscriber yet.
+    fn lacks_at<T: Copy, U: Copy>(
+        &self,
+        place: usize,
+        number: u64,
+        publishers: &Publishers<T, U>,
+    ) -> bool
+        ensures { result ≡ lacks_at place number self.now publishers.now }
+    {
+        self.places.get(place).is_none() && publishers.lacks_connection(number, self.number)
+    }
+
+    // Follows a place if it lists a publisher. If the list is as it was, no connection is made at a place that has none.
     fn follow_one<T: Copy, U: Copy>(
         &mut self,
         alloc: Global,
+        is_new: bool,
         place: usize,
         listed: Option<Member<PublisherEntry>>,
         publishers: &mut Publishers<T, U>,
     ) -> Result<(), ZeroCopyCreationError>
         requires { place + 1 < 2 ^ 64 }
-        ensures { FollowsOne place listed self.old publishers.old result self.new publishers.new }
+        ensures { FollowsExactly is_new place listed self.old publishers.old result self.new publishers.new }
     {
-        match listed {
-            Some(member) => self.follow_listed(alloc, place, member.value.publisher, publishers),
-            None => Ok(()),
+        let Some(member) = listed else {
+            return Ok(());
+        };
+        let number = member.value.publisher;
+        if is_new || !self.lacks_at(place, number, publishers) {
+            self.follow_listed(alloc, place, number, publishers)
+        } else {
+            Err(ZeroCopyCreationError::OutOfMemory)
         }
     }
 
@@ -75,16 +94,17 @@ impl SubscriberPort {
     fn follow_all<T: Copy, U: Copy, D: Degrades>(
         &mut self,
         alloc: Global,
+        is_new: bool,
         listed: &[Option<Member<PublisherEntry>>],
         handler: &D,
         publishers: &mut Publishers<T, U>,
     ) -> Option<ConnectionFailure>
-        ensures { FollowsFrom (D.degrades handler.now cause.FailedToEstablishConnection) 0 listed.now None self.old publishers.old
+        ensures { FollowsEach (D.degrades handler.now cause.FailedToEstablishConnection) is_new 0 listed.now None self.old publishers.old
             result self.new publishers.new }
     {
         let mut found = None;
         for place in 0..listed.len() {
-            let outcome = self.follow_one(alloc, place, listed[place], publishers);
+            let outcome = self.follow_one(alloc, is_new, place, listed[place], publishers);
             found = self.ask(&listed[place], outcome, found, handler);
         }
         found
@@ -125,14 +145,15 @@ impl SubscriberPort {
     fn follow_list<T: Copy, U: Copy, D: Degrades>(
         &mut self,
         alloc: Global,
+        is_new: bool,
         listed: &[Option<Member<PublisherEntry>>],
         handler: &D,
         publishers: &mut Publishers<T, U>,
     ) -> Result<(), ConnectionFailure>
-        ensures { FollowsList (D.degrades handler.now cause.FailedToEstablishConnection) listed.now self.old publishers.old result
-            self.new publishers.new }
+        ensures { FollowsListEach (D.degrades handler.now cause.FailedToEstablishConnection) is_new listed.now self.old publishers.old
+            result self.new publishers.new }
     {
-        let found = self.follow_all(alloc, listed, handler, publishers);
+        let found = self.follow_all(alloc, is_new, listed, handler, publishers);
         self.follow_nones(listed, publishers);
         answer_of(found)
     }
@@ -144,7 +165,12 @@ impl SubscriberPort {
     /// A connection fails if an allocation fails, if its place is beyond the capacity, if no key is free, or if the former connection
     /// at its place can't expire.
     ///
+    /// If the list is as it was, only the publishers that were refused so are tried again. A connection that failed for memory then
+    /// isn't made before the list changes: it fails as before, and the handler is asked about it again. A connection that its publisher
+    /// has made meanwhile is attached.
+    ///
     /// Ported from `iceoryx2::port::subscriber::Subscriber::update_connections`.
+    #[tactic(auto, using(crate::proofs::Trying::each_updates))]
     pub fn update<T: Copy, U: Copy, D: Degrades>(
         &mut self,
         alloc: Global,
@@ -153,15 +179,33 @@ impl SubscriberPort {
         handler: &D,
         publishers: &mut Publishers<T, U>,
     ) -> Result<(), ConnectionFailure>
-        ensures { Updates (D.degrades handler.now cause.FailedToEstablishConnection) listed.now changes self.old publishers.old result
-            self.new publishers.new }
+        ensures updates { Updates (D.degrades handler.now cause.FailedToEstablishConnection) listed.now changes self.old publishers.old
+            result self.new publishers.new }
+        ensures each { UpdatesEach (D.degrades handler.now cause.FailedToEstablishConnection) listed.now changes self.old publishers.old
+            result self.new publishers.new }
+    {
+        self.update_each(alloc, listed, changes, handler, publishers)
+    }
+
+    // Updates, with what is tried at each place as contract alone.
+    fn update_each<T: Copy, U: Copy, D: Degrades>(
+        &mut self,
+        alloc: Global,
+        listed: &[Option<Member<PublisherEntry>>],
+        changes: u64,
+        handler: &D,
+        publishers: &mut Publishers<T, U>,
+    ) -> Result<(), ConnectionFailure>
+        ensures { UpdatesEach (D.degrades handler.now cause.FailedToEstablishConnection) listed.now changes self.old publishers.old
+            result self.new publishers.new }
     {
         if self.seen == changes && !self.again {
             return Ok(());
         }
+        let is_new = self.seen != changes;
         self.seen = changes;
         self.again = false;
-        self.follow_list(alloc, listed, handler, publishers)
+        self.follow_list(alloc, is_new, listed, handler, publishers)
     }
 
     /// Updates, and answers whether some connection, also an expired one, has data. The call fails if the update does.

@@ -1,5 +1,6 @@
 //! Which connection each place of a list is tied to.
-ghost use Rattle.std.specs.Prelude.{◌≡◌, ◌≢◌, ◌≤◌, ◌<◌, ℕ, length, take, get_or, nat_le, None, IfOk};
+ghost use Rattle.std.specs.Prelude.{◌≡◌, ◌≢◌, ◌+◌, ◌≤◌, ◌<◌, ℕ, length, take, get_or, nat_le, is_some};
+ghost use Rattle.std.specs.Prelude.{None, IfOk, true};
 ghost use Rattle.std.specs.Bool.{OnTrue, OnFalse};
 ghost use Rattle.iox_domain_ports.specs.Ties.{no_ties, ties_reached, tie_put, ties_cut, is_tie, has_tie};
 
@@ -11,13 +12,13 @@ use std::marker::Model;
 #[derive(Drop)]
 pub struct Ties {
     items: Vec<Option<usize>>,
-    // No place from this one on is tied.
+    // The place after the last one that is tied; 0 if none is.
     top: usize,
     room: usize,
 }
 
 impl Model for Ties {
-    ghost use Rattle.std.specs.Prelude.{◌≡◌, ◌≤◌, ℕ, get_or, length, vec_capacity, None};
+    ghost use Rattle.std.specs.Prelude.{◌≡◌, ◌+◌, ◌≤◌, ℕ, get_or, is_some, length, vec_capacity, None, true};
     ghost use Rattle.iox_domain_ports.specs.Ties.{TiesState};
 
     ghost Value = { TiesState };
@@ -25,7 +26,8 @@ impl Model for Ties {
     ghost view = { λ t. record { items = t.items.items; room = t.room } };
 
     ghost invariant = { λ t. (length t.items.items ≤ t.room) × (t.room ≤ vec_capacity t.items)
-        × (t.top ≤ length t.items.items) × ((place : ℕ) → t.top ≤ place → get_or t.items.items place None ≡ None) };
+        × (t.top ≤ length t.items.items) × ((place : ℕ) → t.top ≤ place → get_or t.items.items place None ≡ None)
+        × ((place : ℕ) → place + 1 ≡ t.top → is_some (get_or t.items.items place None) ≡ true) };
 }
 
 impl Ties {
@@ -47,10 +49,11 @@ impl Ties {
         self.items.len()
     }
 
-    /// A place from which on no place is tied. Walks over the ties stop there.
+    /// The place after the last one that is tied; 0 if none is. Walks over the ties stop there.
     pub fn top(&self) -> usize
         ensures bound { result ≤ length self.now.items }
         ensures none { (place : ℕ) → result ≤ place → get_or self.now.items place None ≡ None }
+        ensures last { (place : ℕ) → place + 1 ≡ result → is_some (get_or self.now.items place None) ≡ true }
     {
         self.top
     }
@@ -96,7 +99,7 @@ impl Ties {
     {
         self.items.truncate(count);
         if self.items.len() < self.top {
-            self.top = self.items.len();
+            self.top = end_of(self.items.as_slice(), self.items.len());
         }
     }
 
@@ -121,15 +124,30 @@ fn is_tie(index: usize, tie: Option<usize>) -> bool
     }
 }
 
-// A place from which on none is tied, after one changed.
+// The place after the last one that is tied, or 0 if none is, after one changed.
 fn top_after(items: &[Option<usize>], top: usize, changed: usize) -> usize
     requires within { top ≤ length items.now }
     requires changed { changed < length items.now }
     requires none { (place : ℕ) → top ≤ place → place ≢ changed → get_or items.now place None ≡ None }
     ensures within { result ≤ length items.now }
     ensures none { (place : ℕ) → result ≤ place → get_or items.now place None ≡ None }
+    ensures last { (place : ℕ) → place + 1 ≡ result → is_some (get_or items.now place None) ≡ true }
 {
-    let end = if top <= changed { changed + 1 } else { top };
+    if top <= changed {
+        end_of(items, changed + 1)
+    } else {
+        end_of(items, top)
+    }
+}
+
+// The place after the last one that is tied, or 0 if none is; no place from `end` on is tied.
+fn end_of(items: &[Option<usize>], end: usize) -> usize
+    requires within { end ≤ length items.now }
+    requires none { (place : ℕ) → end ≤ place → get_or items.now place None ≡ None }
+    ensures within { result ≤ end }
+    ensures none { (place : ℕ) → result ≤ place → get_or items.now place None ≡ None }
+    ensures last { (place : ℕ) → place + 1 ≡ result → is_some (get_or items.now place None) ≡ true }
+{
     for count in 0..end {
         let place = end - 1 - count;
         if items[place].is_some() {

@@ -370,6 +370,24 @@ put_some links index link within lowest other below = ⊎_elim
     (λ apart. rw (get_or-set_other links index other (Some link) None apart.1) (lowest other (omega (arith, below, apart.1))))
     (eqb_tells other index)
 
+-- and from there on up to the next index without one
+pub put_full : (links : List (Option LinkState)) (index full : ℕ) (link : LinkState) → index < length links
+    → ((lower : ℕ) → lower < index → is_some (get_or links lower None) ≡ true)
+    → ((at : ℕ) → index + 1 ≤ at → at < full → is_some (get_or (set links index (Some link)) at None) ≡ true)
+    → (other : ℕ) → other < full → is_some (get_or (set links index (Some link)) other None) ≡ true
+put_full links index full link within lowest further other below = elim (cases_lt other (index + 1)) [
+  | inl low ↦ put_some links index link within lowest other low
+  | inr past ↦ further other (omega (arith, past)) below
+]
+
+-- where a connection is cleared, an index without one has none still
+pub cleared_none : (links : List (Option LinkState)) (index full : ℕ) → index < length links → get_or links full None ≡ None
+    → get_or (set links index None) full None ≡ None
+cleared_none links index full within none = ⊎_elim
+    (λ same. subst (λ i. get_or (set links index None) i None ≡ None) (sym same.1) (get_or-set_same links index None None within))
+    (λ apart. get_or-set_other links index full None None apart.1 ∙ none)
+    (eqb_tells full index)
+
 -- the connection that is put is the last, or the last one stays the last
 pub put_last : (links : List (Option LinkState)) (index top new_top : ℕ) (link : LinkState) → index < length links
     → ((other : ℕ) → other + 1 ≡ top → is_some (get_or links other None) ≡ true)

@@ -229,6 +229,12 @@ pub none_twice : (cells : ℕ) (slots order : List ℕ) (slot reach : ℕ) (foun
 none_twice cells slots order slot reach None near none is = nowhere_near cells slots order slot reach near none
 none_twice cells slots order slot reach (Some cell) near none is = absurd (not_true (sym is))
 
+pub some_twice : (slots order : List ℕ) (slot : ℕ) (found : Option ℕ) → IfSome found (λ cell. is_among cell order ≡ true)
+    → IfSome found (λ cell. get_or slots cell 0 ≡ slot) → is_some found ≡ true → is_among slot (slots_in slots order) ≡ true
+some_twice slots order slot None taken same is = absurd (not_true is)
+some_twice slots order slot (Some cell) taken same is
+    = is_there slot (slots_in slots order) (lies_among slots order slot cell (among cell order taken) same)
+
 -- a cell that isn't taken may be written
 pub slots_kept : (slots order : List ℕ) (cell slot : ℕ) → (Among cell order → ⊥)
     → slots_in (set slots cell slot) order ≡ slots_in slots order

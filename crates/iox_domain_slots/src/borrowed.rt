@@ -24,12 +24,12 @@ pub(crate) struct Borrowed {
     // In the cells below this one, which are examined in turn, no slot lies further behind than `furthest`.
     examined: usize,
     furthest: usize,
-    // Whether a slot may be borrowed twice.
+    // Whether a slot may be borrowed twice; never while no slot is borrowed.
     twice: bool,
 }
 
 impl Model for Borrowed {
-    ghost use Rattle.std.specs.Prelude.{◌≡◌, ◌+◌, ◌<◌, ◌≤◌, ◌^◌, false, length, vec_capacity};
+    ghost use Rattle.std.specs.Prelude.{◌≡◌, ◌+◌, ◌<◌, ◌≤◌, ◌^◌, [], false, length, vec_capacity};
     ghost use Rattle.iox_domain_slots.specs.Borrowed.{BorrowedState, slots_in, IsNear, IsNearBelow, IsOnce};
 
     ghost Value = { BorrowedState };
@@ -40,7 +40,8 @@ impl Model for Borrowed {
         × (b.reach < b.cells) × IsNear b.cells b.slots.items b.order.items b.reach
         × (b.twice ≡ false → IsOnce b.slots.items b.order.items)
         × (b.order.room ≡ b.cells) × (b.cells ≤ vec_capacity b.slots) × (length b.slots.items ≤ b.cells)
-        × (b.furthest < b.cells) × IsNearBelow b.cells b.slots.items b.order.items b.furthest b.examined };
+        × (b.furthest < b.cells) × IsNearBelow b.cells b.slots.items b.order.items b.furthest b.examined
+        × (b.order.items ≡ [] → (b.twice ≡ false) × (b.reach ≡ 0) × (b.furthest ≡ 0)) };
 }
 
 impl Borrowed {
@@ -255,16 +256,18 @@ fn will_be_twice(
     requires near { IsNear cells slots.now order.now.items reach }
     ensures before { result ≡ false → twice ≡ false }
     ensures none { result ≡ false → is_among slot (slots_in slots.now order.now.items) ≡ false }
+    ensures now { result ≡ true → twice ≡ false → is_among slot (slots_in slots.now order.now.items) ≡ true }
 {
     twice || near(order, slots, cells, slot, reach).is_some()
 }
 
-// How many steps behind the cell that its slot names this cell lies, if it is taken; else any number.
+// How many steps behind the cell that its slot names this cell lies, if it is taken; else 0.
 fn step_at(order: &Loans, slots: &[u64], cells: usize, cell: usize) -> usize
     requires within { cell < length slots.now }
     requires most { length slots.now ≤ cells }
     ensures within { result < cells }
     ensures taken { is_among cell order.now.items ≡ true → cell ≡ cell_of cells (get_or slots.now cell 0) result }
+    ensures free { is_among cell order.now.items ≡ false → result ≡ 0 }
 {
     if !order.has(cell) {
         return 0;
@@ -293,6 +296,7 @@ fn further(cells: usize, reach: usize, step: usize) -> usize
     ensures within { result < cells }
     ensures before { reach ≤ result }
     ensures now { step ≤ result }
+    ensures least { (most : ℕ) → reach ≤ most → step ≤ most → result ≤ most }
 {
     if reach < step { step } else { reach }
 }

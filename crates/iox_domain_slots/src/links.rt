@@ -21,7 +21,7 @@ const MOST_LINKS: usize = 1 << 29;
 #[derive(Drop)]
 pub struct Links {
     items: Vec<Option<Link>>,
-    // Each index below this one has a connection.
+    // The lowest index without a connection.
     full: usize,
     // The index after the last connection; 0 if there is none.
     top: usize,
@@ -48,7 +48,8 @@ impl Model for Links {
         × (l.most_waiting < 2 ^ 32) × (l.most_borrowed < 2 ^ 32)
         × (l.top ≤ length l.items.items) × ((index : ℕ) → l.top ≤ index → get_or l.items.items index None ≡ None)
         × (l.full ≤ length l.items.items) × ((index : ℕ) → index < l.full → is_some (get_or l.items.items index None) ≡ true)
-        × ((index : ℕ) → index + 1 ≡ l.top → is_some (get_or l.items.items index None) ≡ true) };
+        × ((index : ℕ) → index + 1 ≡ l.top → is_some (get_or l.items.items index None) ≡ true)
+        × (get_or l.items.items l.full None ≡ None) };
 }
 
 impl Links {
@@ -294,12 +295,7 @@ impl Links {
         ensures vacant { get_or self.now.links result None ≡ None }
         ensures lowest { (lower : ℕ) → lower < result → is_some (get_or self.now.links lower None) ≡ true }
     {
-        for index in self.full..self.items.len() {
-            if self.items[index].is_none() {
-                return index;
-            }
-        }
-        self.items.len()
+        self.full
     }
 
     // Puts a connection at this index, below which each index has one.
@@ -311,7 +307,7 @@ impl Links {
     {
         let top = larger(self.top, index + 1);
         put_link(&mut self.items, index, link);
-        self.full = index + 1;
+        self.full = vacancy_from(self.items.as_slice(), index + 1);
         self.top = top;
     }
 
@@ -403,6 +399,22 @@ fn put_link(items: &mut Vec<Option<Link>>, index: usize, link: Link)
     ensures { items.new.items ≡ set items.old.items index (Some link) }
 {
     items[index] = Some(link);
+}
+
+// The first index from `start` on that has no connection. If each has one, this is the index after the last.
+fn vacancy_from(items: &[Option<Link>], start: usize) -> usize
+    requires { start ≤ length items.now }
+    ensures within { result ≤ length items.now }
+    ensures behind { start ≤ result }
+    ensures vacant { get_or items.now result None ≡ None }
+    ensures lowest { (index : ℕ) → start ≤ index → index < result → is_some (get_or items.now index None) ≡ true }
+{
+    for index in start..items.len() {
+        if items[index].is_none() {
+            return index;
+        }
+    }
+    items.len()
 }
 
 // The larger of two numbers.

@@ -42,7 +42,7 @@ fn most_held<T: Copy, U: Copy>(ports: &ServicePorts<T, U>, port: &SubscriberPort
 pub fn held_by_one<T: Copy, U: Copy>(ports: &ServicePorts<T, U>) -> u64
     ensures { result ≡ min (held_by_one ports.now) (2 ^ 64 - 1) }
 {
-    (ports.publishers.iter().len() as u64).saturating_mul(
+    (ports.publishers.len() as u64).saturating_mul(
         ports.sizes.subscriber_max_borrowed_samples as u64,
     )
 }
@@ -52,7 +52,7 @@ pub fn held_by_one<T: Copy, U: Copy>(ports: &ServicePorts<T, U>) -> u64
 pub fn held_of_one<T: Copy, U: Copy>(ports: &ServicePorts<T, U>) -> u64
     ensures { result ≡ min (held_of_one ports.now) (2 ^ 64 - 1) }
 {
-    (ports.subscribers.iter().len() as u64).saturating_mul(
+    (ports.subscribers.len() as u64).saturating_mul(
         ports.sizes.subscriber_max_borrowed_samples as u64,
     )
 }

@@ -1,5 +1,5 @@
 //! The subscribers of a service by their numbers.
-ghost use Rattle.std.specs.Prelude.{◌≡◌, ◌-◌, ◌^◌, min, option_copied, OnOk, OnErr, []};
+ghost use Rattle.std.specs.Prelude.{◌≡◌, ◌-◌, ◌^◌, length, min, option_copied, OnOk, OnErr, []};
 ghost use Rattle.std.specs.Borrow.{sem};
 ghost use Rattle.std.specs.Map.Iter.{ShowsInOrder, deref_pair};
 ghost use Rattle.std.specs.Option.{option_copied_mut};
@@ -7,11 +7,11 @@ ghost use Rattle.iox_domain_ports.specs.Census.{IsCensusOf, subscriber_share, sh
 ghost use Rattle.iox_domain.specs.Living.{living_subscribers};
 ghost use Rattle.iox_domain.specs.Subscribers.{subscriber_of, with_subscriber, subscriber_added, is_over_in, settled};
 
+use iox_container::ByNumber;
+use iox_container::by_number::iter::Iter;
 use iox_domain_ports::living::{add, counted, living_of_subscriber};
 use iox_domain_ports::{Census, Share, SubscriberPort};
 use std::alloc::{AllocError, Global};
-use std::collections::BTreeMap;
-use std::collections::btree_map::Iter;
 use std::marker::Model;
 
 /// The subscribers of a service. A closed one stays until all samples that it received are released.
@@ -19,7 +19,7 @@ use std::marker::Model;
 /// Contracts see each subscriber with its number, by rising number.
 #[derive(Drop)]
 pub struct Subscribers {
-    ports: BTreeMap<u64, SubscriberPort>,
+    ports: ByNumber<SubscriberPort>,
     // How much of each owner is alive.
     census: Census,
 }
@@ -31,9 +31,9 @@ impl Model for Subscribers {
 
     ghost Value = { List (ℕ × SubscriberPort) };
 
-    ghost view = { λ s. s.ports.entries };
+    ghost view = { λ s. s.ports };
 
-    ghost invariant = { λ s. IsCensusOf subscriber_share s.census s.ports.entries };
+    ghost invariant = { λ s. IsCensusOf subscriber_share s.census s.ports };
 }
 
 impl Subscribers {
@@ -46,7 +46,7 @@ impl Subscribers {
         ensures { result ≡ [] }
     {
         Subscribers {
-            ports: BTreeMap::new(alloc),
+            ports: ByNumber::new(alloc),
             census: Census::new(alloc),
         }
     }
@@ -55,7 +55,7 @@ impl Subscribers {
     pub fn get(&self, number: u64) -> Option<&SubscriberPort>
         ensures { option_copied result ≡ subscriber_of number self.now }
     {
-        self.ports.get(&number)
+        self.ports.get(number)
     }
 
     /// A mutable reference to the subscriber with this number, if it exists.
@@ -64,11 +64,18 @@ impl Subscribers {
         ensures value { option_copied_mut result ≡ subscriber_of number self.old }
     {
         note_lent(&mut self.census, &self.ports, number);
-        self.ports.get_mut(&number)
+        self.ports.get_mut(number)
+    }
+
+    /// How many subscribers there are, closed ones too.
+    pub fn len(&self) -> usize
+        ensures { result ≡ length self.now }
+    {
+        self.ports.len()
     }
 
     /// The subscribers with their numbers, by rising number.
-    pub fn iter(&self) -> Iter<'_, u64, SubscriberPort>
+    pub fn iter(&self) -> Iter<'_, SubscriberPort>
         ensures rest { result ≡ self.now }
         ensures runs { ShowsInOrder (deref_pair {K = ℕ} {X = SubscriberPort}) }
     {
@@ -83,7 +90,8 @@ impl Subscribers {
     {
         note_lent(&mut self.census, &self.ports, number);
         let share = share_of(&port);
-        self.ports.insert(number, port)?;
+        let before = self.ports.insert(number, port)?;
+        drop(before);
         self.census.note(share);
         Ok(())
     }
@@ -94,7 +102,7 @@ impl Subscribers {
     {
         if self.is_over(number) {
             note_lent(&mut self.census, &self.ports, number);
-            let _ = self.ports.remove(&number);
+            self.ports.remove(number);
             self.census.note(Share { owner: 0, count: 0 });
         }
     }
@@ -115,10 +123,12 @@ impl Subscribers {
     fn count_living(&self, owner: Option<u64>) -> u64
         ensures { result ≡ min (living_subscribers owner self.now) (2 ^ 64 - 1) }
     {
-        self.ports
-            .values()
-            .map(|port| counted(owner, port.owner.number, living_of_subscriber(port)))
-            .fold(0, add)
+        let mut count = 0;
+        for (_number, port) in self.iter() {
+            let living = counted(owner, port.owner.number, living_of_subscriber(port));
+            count = add(count, living);
+        }
+        count
     }
 
     // Whether the subscriber with this number is over.
@@ -143,19 +153,19 @@ fn share_of(port: &SubscriberPort) -> Share
 }
 
 // The share of the subscriber with this number, or `no_share` if there is none.
-fn share_in(ports: &BTreeMap<u64, SubscriberPort>, number: u64) -> Share
-    ensures { result ≡ share_at subscriber_share (subscriber_of number ports.now.entries) }
+fn share_in(ports: &ByNumber<SubscriberPort>, number: u64) -> Share
+    ensures { result ≡ share_at subscriber_share (subscriber_of number ports.now) }
 {
-    match ports.get(&number) {
+    match ports.get(number) {
         Some(port) => share_of(port),
         None => Share { owner: 0, count: 0 },
     }
 }
 
 // Notes that a subscriber is handed out. The current share of the one handed out before is counted.
-fn note_lent(census: &mut Census, ports: &BTreeMap<u64, SubscriberPort>, number: u64)
-    requires { IsCensusOf subscriber_share census.old ports.now.entries }
-    ensures tells { IsCensusOf subscriber_share census.new ports.now.entries }
+fn note_lent(census: &mut Census, ports: &ByNumber<SubscriberPort>, number: u64)
+    requires { IsCensusOf subscriber_share census.old ports.now }
+    ensures tells { IsCensusOf subscriber_share census.new ports.now }
     ensures lent { census.new.lent ≡ number }
 {
     let lent = census.lent();

@@ -1,12 +1,30 @@
-use Rattle.std.proofs.Common.{rules, ◌≡◌, ◌+◌, ◌∙◌, min, fold, map}
-use Rattle.std.specs.Map.{values_of}
+use Rattle.std.proofs.Common.{arith, ◌≡◌, ◌∙◌, ap, min}
 use Rattle.iox_domain_ports.specs.Living.{living_of_publisher, counted}
-use Rattle.iox_domain_ports.proofs.Adding.{living_owned}
+use Rattle.iox_domain_ports.proofs.Adding.{counted_cut, first_counts, none_count}
 use Rattle.iox_domain_ports.proofs.publishers.Publishers.count_living.Goals as goal
+
+pub loop-number-preserved : goal.loop-number-preserved
+loop-number-preserved g c =
+    let port = c.in-Some.port.now in
+    let living : c.counted-living.result ≡ counted c.args.owner port.owner.number (min (living_of_publisher port) 18446744073709551615) =
+    c.counted-living.ensures ∙ ap (counted c.args.owner port.owner.number) c.living_of_publisher.ensures in (
+      omega (arith, c.add-count.ensures),
+      omega (
+        arith,
+        c.loop-number.invariant.1,
+        first_counts (λ port. counted c.args.owner port.owner.number (living_of_publisher port)) c.loop-number._number-iterator _ _
+            c.in-Some.ensures.steps,
+        counted_cut c.args.owner port.owner.number (living_of_publisher port) 18446744073709551615,
+        living,
+        c.add-count.ensures,
+      ),
+    )
 
 pub returns : goal.returns
 returns g c =
-    let is : c.fold.result ≡ fold (λ n m. min (n + m) 18446744073709551615) 0
-    (map (λ port. counted c.args.owner port.owner.number (min (living_of_publisher port) 18446744073709551615))
-    (values_of c.args.self.now)) = search rules in
-    is ∙ living_owned 18446744073709551615 c.args.owner (λ port. port.owner.number) living_of_publisher (values_of c.args.self.now)
+    omega (
+      arith,
+      c.loop-number.invariant,
+      none_count (λ port. counted c.args.owner port.owner.number (living_of_publisher port))
+          c.loop-number._number-iterator c.in-None.ensures.steps.0,
+    )

@@ -11,11 +11,11 @@ use Rattle.iox_domain_ports.proofs.publishers.Publishers.living.Goals as goal
 pub returns-in-Some : goal.returns-in-Some
 returns-in-Some g c =
     let now : c.share_in-now.result ≡ share_at publisher_share
-    (lookup (is_at (nat_cmp c.self.inside.census.lent)) c.self.inside.ports.entries)
+    (lookup (is_at (nat_cmp c.self.inside.census.lent)) c.self.inside.ports)
     = search rules in
     let told = told_living 18446744073709551615 publisher_share
     (λ port. counted c.args.owner port.owner.number (living_of_publisher port)) c.args.owner
-    c.share_in-now.result c.in-Some.count c.self.inside.census c.self.inside.ports.entries c.self.invariant c.in-Some.ensures.fits
+    c.share_in-now.result c.in-Some.count c.self.inside.census c.self.inside.ports c.self.invariant c.in-Some.ensures.fits
     (λ port. counted_cut c.args.owner port.owner.number (living_of_publisher port) 18446744073709551615) now c.in-Some.ensures.holds
     c.in-Some.ensures.counts in
     search (rules, told)

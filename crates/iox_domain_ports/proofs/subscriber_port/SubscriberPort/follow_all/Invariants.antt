@@ -4,5 +4,5 @@ use Rattle.iox_domain_ports.proofs.subscriber_port.SubscriberPort.follow_all.Giv
 
 abbrev pub invariant-loop-place : goal.invariant-loop-place
 invariant-loop-place g l =
-    Following (g.D.Degrades.degrades l.fn.handler cause.FailedToEstablishConnection) l.fn.listed l.fn.self l.fn.publishers
+    Following (g.D.Degrades.degrades l.fn.handler cause.FailedToEstablishConnection) l.fn.is_new l.fn.listed l.fn.self l.fn.publishers
     l.found l.self l.publishers l.place

@@ -1,4 +1,4 @@
-use Rattle.std.proofs.Common.{arith}
+use Rattle.std.proofs.Common.{arith, refl}
 use Rattle.iox_domain_slots.proofs.Borrowing.{below_all}
 use Rattle.iox_domain_slots.proofs.borrowed.Borrowed.examine.Goals as goal
 
@@ -16,4 +16,5 @@ invariant_of-self c =
       c.self.invariant.7,
       omega (arith, c.self.invariant.8),
       λ cell below there. absurd (omega (arith, below)),
+      λ none. let (once, near, far) = c.self.invariant.10 none in (once, far, refl),
     )

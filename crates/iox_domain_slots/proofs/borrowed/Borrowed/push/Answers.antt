@@ -1,6 +1,6 @@
-use Rattle.std.proofs.Common.{arith, ◌≡◌, ◌++◌, ◌∷◌, [], ◌∙◌, ap, false, subst}
+use Rattle.std.proofs.Common.{arith, ◌≡◌, ◌++◌, ◌∷◌, [], ◌∙◌, ap, length, false, subst}
 use Rattle.std.proofs.Math.ListN.{set}
-use Rattle.std.proofs.lemmas.List.{length-set}
+use Rattle.std.proofs.lemmas.List.{length-set, length_push}
 use Rattle.iox_container.specs.Unique.{is_among}
 use Rattle.iox_domain_slots.specs.Borrowed.{IsNear, IsNearBelow, slots_in}
 use Rattle.iox_domain_slots.proofs.Borrowing.{near_made, near_pushed, below_made, below_pushed, once_made, once_pushed}
@@ -38,6 +38,13 @@ invariant_of-self c =
       rw (c.push.ensures.items, order) (below_pushed b.cells made.items b.order.items b.furthest b.examined c.further-furthest.result
           c.free_step-step.result c.cell_of-cell.result c.args.slot below free c.make_up_to.ensures.within c.cell_of-cell.ensures.value
           c.further-furthest.ensures.now c.further-furthest.ensures.before),
+      λ none. absurd (omega (
+        arith,
+        ap length none,
+        ap length c.push.ensures.items,
+        length_push c.make_up_to.new.order.items
+            c.cell_of-cell.result,
+      )),
     )
 
 pub returns : goal.returns

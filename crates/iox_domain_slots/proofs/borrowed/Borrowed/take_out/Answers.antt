@@ -1,4 +1,4 @@
-use Rattle.std.proofs.Common.{◌∙◌, ap, remove, subst, sym}
+use Rattle.std.proofs.Common.{arith, ◌∙◌, ap, length, remove, subst, sym}
 use Rattle.iox_domain_slots.specs.Loans.{place_in}
 use Rattle.iox_domain_slots.specs.Borrowed.{slots_in, IsOldest}
 use Rattle.iox_domain_slots.proofs.Borrowing.{near_removed, below_removed, once_removed, slots_removed}
@@ -18,6 +18,7 @@ invariant_of-self-else-len-eq0 c =
       c.self.invariant.7,
       c.self.invariant.8,
       below_removed b.cells b.slots.items b.order.items b.furthest b.examined (place_in c.in-Some.cell b.order.items) c.self.invariant.9,
+      λ none. absurd (omega (arith, ap length none, ap (λ o. length o.items) c.remove.ensures.after, c.len.ensures, c.if-len-eq0.false)),
     )
 
 pub returns-else-len-eq0 : goal.returns-else-len-eq0

@@ -24,4 +24,5 @@ invariant_of-self-2 c =
       omega (arith, c.len-self-inside.ensures),
       λ index below. rw after (end_some b.items.items c.args.link lowest index (omega (arith, below, long, c.len-self-inside.ensures))),
       λ index last. rw after (end_some b.items.items c.args.link lowest index (omega (arith, last, long, c.len-self-inside-2.ensures))),
+      get_or_past items c.len-self-inside.result None (omega (arith, c.len-self-inside.ensures)),
     )

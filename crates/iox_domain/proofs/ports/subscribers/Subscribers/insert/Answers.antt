@@ -4,8 +4,8 @@ use Rattle.iox_domain.proofs.ports.subscribers.Subscribers.insert.Goals as goal
 
 pub invariant_of-self-2 : goal.invariant_of-self-2
 invariant_of-self-2 c =
-    added_told subscriber_share c.args.number c.note_lent.new.census c.note.new.self c.self.inside.ports.entries
-    c.insert.new.self.entries c.args.port c.share_of-share.result c.in_ok-insert.ensures.was_ordered
+    added_told subscriber_share c.args.number c.note_lent.new.census c.note.new.self c.self.inside.ports
+    c.insert.new.self c.args.port c.share_of-share.result c.in_ok-before.ensures.rises
     c.note_lent.ensures.tells c.note_lent.ensures.lent
     c.share_of-share.ensures c.note.ensures.held c.note.ensures.counts c.note.ensures.lent c.note.ensures.noted
-    c.in_ok-insert.ensures.entries c.in_ok-insert.ensures.updates.1
+    c.in_ok-before.ensures.ok c.in_ok-before.ensures.there

@@ -4,6 +4,6 @@ use Rattle.iox_domain.proofs.ports.subscribers.Subscribers.settle.Goals as goal
 
 pub invariant_of-self : goal.invariant_of-self
 invariant_of-self c =
-    removed_told subscriber_share c.args.number c.note_lent.new.census c.note.new.self c.self.inside.ports.entries c.remove.new.self.entries
+    removed_told subscriber_share c.args.number c.note_lent.new.census c.note.new.self c.self.inside.ports c.remove.new.self
     c.note_lent.ensures.tells c.note_lent.ensures.lent c.note.ensures.held c.note.ensures.counts c.note.ensures.lent
-    c.note.ensures.noted c.remove.ensures.entries c.remove.ensures.updates.1
+    c.note.ensures.noted c.remove.ensures.new c.remove.ensures.gone
