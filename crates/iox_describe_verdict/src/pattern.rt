@@ -1,6 +1,6 @@
 //! A messaging pattern, with everything that creating and opening a service needs of it.
 ghost use Rattle.std.specs.Prelude.{◌≡◌, ◌≤◌, ◌<◌, ◌^◌, ◌↔◌, List, [], Option, Result, Ok, Some};
-ghost use Rattle.std.specs.Prelude.{IsOk, IfOk, IsSome, IsTrue, refl};
+ghost use Rattle.std.specs.Prelude.{IsOk, IfOk, IsSome, IsTrue, option_copied, refl};
 ghost use Rattle.iox_describe_settings.specs.DescribeBase.declared.pattern.MessagingPattern.{MessagingPattern};
 ghost use Rattle.iox_describe_settings.specs.DescribeBase.declared.pattern.MessagingPattern.TheVariants as messaging_pattern;
 ghost use Rattle.iox_describe_settings.specs.DescribeBase.Attributes.{Required, required};
@@ -41,6 +41,10 @@ pub trait AgreedPattern {
     /// The settings, if they are of this pattern; else `None`.
     fn static_config(given: &Settings) -> Option<Self::StaticConfig>
         ensures { result ≡ static_config given.now };
+
+    /// The settings as a part of these, if they are of this pattern; else `None`.
+    fn static_config_in(given: &Settings) -> Option<&Self::StaticConfig>
+        ensures { option_copied result ≡ static_config given.now };
 
     // settings made from those of this pattern are of this pattern
     ghost settings_are_of_pattern: { (config : Self.StaticConfig) → pattern_of (settings config) ≡ pattern };
@@ -181,6 +185,13 @@ impl AgreedPattern for PublishSubscribe {
         }
     }
 
+    fn static_config_in(given: &Settings) -> Option<&Self::StaticConfig> {
+        match given {
+            Settings::PublishSubscribe(config) => Some(config),
+            _ => None,
+        }
+    }
+
     ghost settings_are_of_pattern = { λ config. refl };
 
     ghost found_again = { λ config. refl };
@@ -226,6 +237,13 @@ impl AgreedPattern for Event {
         }
     }
 
+    fn static_config_in(given: &Settings) -> Option<&Self::StaticConfig> {
+        match given {
+            Settings::Event(config) => Some(config),
+            _ => None,
+        }
+    }
+
     ghost settings_are_of_pattern = { λ config. refl };
 
     ghost found_again = { λ config. refl };
@@ -267,6 +285,13 @@ impl AgreedPattern for RequestResponse {
     fn static_config(given: &Settings) -> Option<Self::StaticConfig> {
         match given {
             Settings::RequestResponse(config) => Some(*config),
+            _ => None,
+        }
+    }
+
+    fn static_config_in(given: &Settings) -> Option<&Self::StaticConfig> {
+        match given {
+            Settings::RequestResponse(config) => Some(config),
             _ => None,
         }
     }

@@ -8,7 +8,7 @@ ghost use Rattle.iox_negotiate.specs.Asked.{IsRefusal};
 use crate::laws::parts_have_form;
 use iox_describe::pattern::Pattern;
 use iox_describe::{AttributeSpecifier, Description, ServiceHash, ServiceName, service_hash};
-use iox_negotiate_base::{CreateFailure, Request};
+use iox_negotiate_base::{BoxedDescription, CreateFailure, Request};
 use std::alloc::{AllocError, Global};
 
 /// What a node asks of a service: what an existing service must meet, and the settings and attributes with which a service is created.
@@ -120,8 +120,11 @@ impl<'a, P: Pattern> Request for Asked<'a, P> {
         P::settings(self.config).max_nodes()
     }
 
-    fn describe(&self, alloc: Global) -> Result<Description, AllocError> {
+    fn describe(&self, alloc: Global) -> Result<BoxedDescription, AllocError> {
         let attributes = self.attributes.try_clone(alloc)?;
-        Ok(Description::of_parts(self.name, self.hash, P::settings(self.config), attributes))
+        BoxedDescription::new(
+            alloc,
+            Description::of_parts(self.name, self.hash, P::settings(self.config), attributes),
+        )
     }
 }

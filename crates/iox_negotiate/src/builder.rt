@@ -1,5 +1,5 @@
 //! Builders: the caller names what is asked of a service, setting by setting, and then creates or opens the service.
-ghost use Rattle.std.specs.Prelude.{◌≡◌, [], IsOk, IfOk};
+ghost use Rattle.std.specs.Prelude.{◌≡◌, [], IsOk, IfOk, None, Some};
 ghost use Rattle.std.specs.Result.{result_map_both};
 ghost use Rattle.iox_negotiate_base.specs.DescribeBase.Attributes.{required};
 ghost use Rattle.iox_negotiate_base.specs.DescribeBase.Hash.{service_hash_of};
@@ -30,7 +30,7 @@ pub mod request_response;
 /// Ported from `iceoryx2::service::builder::Builder`.
 #[derive(Clone, Copy, Debug)]
 pub struct Builder {
-    hub: u64,
+    hub: Option<u64>,
     node: u64,
     name: ServiceName,
 }
@@ -39,9 +39,13 @@ impl Builder {
     /// A builder of the service with this name, for this node, which belongs to no hub.
     /// Example: `Builder::new(1, name)`
     pub fn new(node: u64, name: ServiceName) -> Self
-        ensures { result ≡ record { hub = 0; node = node; name = name } }
+        ensures { result ≡ record { hub = None; node = node; name = name } }
     {
-        Self::of_hub(0, node, name)
+        Builder {
+            hub: None,
+            node,
+            name,
+        }
     }
 
     /// A builder of the service with this name, for this node of the hub with this id.
@@ -49,8 +53,9 @@ impl Builder {
     /// Not in `iceoryx2`.
     /// Example: `Builder::of_hub(hub.id(), node.number(), name)`
     pub fn of_hub(hub: u64, node: u64, name: ServiceName) -> Self
-        ensures { result ≡ record { hub = hub; node = node; name = name } }
+        ensures { result ≡ record { hub = Some hub; node = node; name = name } }
     {
+        let hub = Some(hub);
         Builder { hub, node, name }
     }
 
@@ -136,18 +141,18 @@ impl Builder {
 /// Ported from the builders of `iceoryx2::service::builder::{publish_subscribe, event, request_response}`.
 #[derive(Drop)]
 pub struct ServiceBuilder<P: Negotiated> {
-    hub: u64,
+    hub: Option<u64>,
     node: u64,
     name: ServiceName,
     requirement: P::Requirement,
 }
 
 impl<P: Negotiated> ServiceBuilder<P> {
-    /// The id of the hub to which the builder belongs; 0 if it belongs to no hub.
+    /// The id of the hub to which the builder belongs; `None` if it belongs to no hub.
     ///
     /// Not in `iceoryx2`.
     /// Example: `builder.hub()`
-    pub fn hub(&self) -> u64
+    pub fn hub(&self) -> Option<u64>
         ensures { result ≡ self.now.hub }
     {
         self.hub

@@ -10,6 +10,7 @@ use iox_describe::pattern::Pattern;
 use iox_describe::{AttributeSpecifier, Description, ServiceName, has_form};
 use iox_negotiate_base::errors::CloseError;
 use iox_negotiate_base::{LeaveAnswer, Opened, RemoveAnswer, Storage};
+use std::marker::PhantomData;
 
 /// The membership of a node in a service of a storage.
 #[derive(Drop)]
@@ -25,7 +26,7 @@ impl Membership {
         ensures { Does S.gives storage.old (λ made. Closes self.now.service.description.service_hash self.now.service.number
             self.now.node made result) storage.new }
     {
-        let hash = self.service.description.service_hash();
+        let hash = self.service.description.get().service_hash();
         let answer = storage.leave(hash, self.service.number, self.node);
         match answer {
             LeaveAnswer::Stays => Ok(()),
@@ -38,7 +39,7 @@ impl Membership {
         ensures { Does S.gives storage.old (λ made. Removes self.now.service.description.service_hash self.now.service.number made
             result) storage.new }
     {
-        let hash = self.service.description.service_hash();
+        let hash = self.service.description.get().service_hash();
         let answer = storage.remove_description(hash, self.service.number);
         match answer {
             RemoveAnswer::Removed => self.remove_segment(storage),
@@ -50,7 +51,7 @@ impl Membership {
         ensures { Does S.gives storage.old (λ made. RemovesSegment self.now.service.description.service_hash self.now.service.number
             made result) storage.new }
     {
-        let hash = self.service.description.service_hash();
+        let hash = self.service.description.get().service_hash();
         let answer = storage.remove_segment(hash, self.service.number);
         segment_removed(answer)
     }
@@ -72,8 +73,8 @@ fn segment_removed(answer: RemoveAnswer) -> Result<(), CloseError>
 #[derive(Drop)]
 pub struct PortFactory<P: Pattern> {
     membership: Membership,
-    config: P::StaticConfig,
-    ghost agreed: { P.static_config membership.service.description.settings ≡ Some config },
+    of: PhantomData<P>,
+    ghost agreed: { IsSome (P.static_config membership.service.description.settings) },
 }
 
 /// The error of closing a factory that wasn't closed, or whose closing left something behind.
@@ -91,14 +92,13 @@ impl<P: Pattern> PortFactory<P> {
         requires { IsSome (P.static_config service.description.settings) }
         ensures { result.membership ≡ membership storage node service }
     {
-        let config = P::static_config(service.description.settings()).unwrap();
         PortFactory {
             membership: Membership {
                 storage,
                 node,
                 service,
             },
-            config,
+            of: PhantomData,
         }
     }
 
@@ -107,7 +107,7 @@ impl<P: Pattern> PortFactory<P> {
     pub fn name(&self) -> &ServiceName
         ensures { result.now ≡ self.now.membership.service.description.name }
     {
-        self.membership.service.description.name()
+        self.membership.service.description.get().name()
     }
 
     /// The settings on which the nodes agree.
@@ -115,7 +115,7 @@ impl<P: Pattern> PortFactory<P> {
     pub fn static_config(&self) -> &P::StaticConfig
         ensures { P.static_config self.now.membership.service.description.settings ≡ Some result.now }
     {
-        &self.config
+        P::static_config_in(self.membership.service.description.get().settings()).unwrap()
     }
 
     /// The attributes of the service.
@@ -123,7 +123,7 @@ impl<P: Pattern> PortFactory<P> {
     pub fn attributes(&self) -> &AttributeSpecifier
         ensures { result.now ≡ self.now.membership.service.description.attributes }
     {
-        self.membership.service.description.attributes()
+        self.membership.service.description.get().attributes()
     }
 
     /// The number of the service.
@@ -142,8 +142,9 @@ impl<P: Pattern> PortFactory<P> {
         ensures value { result.now ≡ self.now.membership.service.description }
         ensures form { HasForm self.now.membership.service.description }
     {
-        has_form(&self.membership.service.description);
-        &self.membership.service.description
+        let description = self.membership.service.description.get();
+        has_form(description);
+        description
     }
 
     /// Whether the call that returned the factory created the service; false if it opened an existing one.

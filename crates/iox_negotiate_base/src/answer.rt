@@ -1,9 +1,10 @@
 //! The results of storage operations.
-ghost use Rattle.std.specs.Prelude.{◌≡◌, IfOk, IfSome};
+ghost use Rattle.std.specs.Prelude.{◌≡◌, IfOk, MatchResult};
 ghost use Rattle.iox_describe.specs.DescribeSettings.Versions.{HasAll};
 ghost use Rattle.iox_describe.specs.Line.{line};
 ghost use Rattle.iox_negotiate_base.specs.Describing.{Describes};
 
+use crate::boxed::BoxedDescription;
 use iox_describe::{Description, ServiceHash, Version, encode_as, is_within_limits};
 use std::alloc::{AllocError, Global};
 use std::marker::Model;
@@ -15,7 +16,7 @@ use std::marker::Model;
 pub struct StoredDescription {
     bytes: Vec<u8>,
     // In memory of its own, since it is large and bytes that came from elsewhere have none.
-    decoded: Option<Box<Description>>,
+    decoded: Option<BoxedDescription>,
 }
 
 impl Model for StoredDescription {
@@ -26,7 +27,7 @@ impl Model for StoredDescription {
 
     ghost view = { λ d. d.bytes.items };
 
-    ghost invariant = { λ d. IfSome d.decoded (λ kept. Describes kept.value.service_hash d.bytes.items kept.value) };
+    ghost invariant = { λ d. IfSome d.decoded (λ kept. Describes kept.service_hash d.bytes.items kept) };
 }
 
 impl StoredDescription {
@@ -54,7 +55,7 @@ impl StoredDescription {
         let bytes = encode_as(alloc, version, description)?;
         let mut decoded = None;
         if is_within_limits(description) {
-            decoded = Some(boxed(alloc, description)?);
+            decoded = Some(BoxedDescription::copy_of(alloc, description)?);
         }
         Ok(StoredDescription { bytes, decoded })
     }
@@ -68,7 +69,7 @@ impl StoredDescription {
         let bytes = Vec::from_slice(alloc, self.bytes.as_slice())?;
         let mut decoded = None;
         if let Some(description) = &self.decoded {
-            decoded = Some(boxed(alloc, description)?);
+            decoded = Some(BoxedDescription::copy_of(alloc, description.get())?);
         }
         Ok(StoredDescription { bytes, decoded })
     }
@@ -80,24 +81,27 @@ impl StoredDescription {
         self.bytes.as_slice()
     }
 
-    // The description that is kept beside the bytes, if it is of the service with this hash.
-    pub(crate) fn decoded_under(&self, hash: &ServiceHash) -> Option<&Description>
-        ensures { IfSome result (λ description. Describes hash.now self.now description.now) }
+    // The description that is kept beside the bytes, if it is of the service with this hash; else the bytes, as they were.
+    pub(crate) fn into_decoded_under(self, hash: &ServiceHash) -> Result<BoxedDescription, Self>
+        ensures { MatchResult result (λ description. Describes hash.now self description) (λ same. same ≡ self) }
     {
-        let description = self.decoded.as_ref()?;
-        if *description.service_hash() == *hash {
-            Some(description)
-        } else {
-            None
+        let StoredDescription { bytes, decoded } = self;
+        match decoded {
+            Some(kept) => {
+                if *kept.get().service_hash() == *hash {
+                    return Ok(kept);
+                }
+                Err(StoredDescription {
+                    bytes,
+                    decoded: Some(kept),
+                })
+            }
+            None => Err(StoredDescription {
+                bytes,
+                decoded: None,
+            }),
         }
     }
-}
-
-// A copy of a description in memory of its own. It fails only where an allocation fails.
-fn boxed(alloc: Global, description: &Description) -> Result<Box<Description>, AllocError>
-    ensures { IfOk result (λ copy. copy.value ≡ description.now) }
-{
-    Ok(Box::new(alloc, description.try_clone(alloc)?)?)
 }
 
 /// The result of looking up the description under a hash.

@@ -8,11 +8,12 @@ ghost use Rattle.iox_negotiate_base.specs.Failing.{refusal_seen, lock_gives, mak
 ghost use Rattle.iox_negotiate_base.specs.declared.failure.CreateFailure.TheVariants.{OutOfMemory};
 
 use crate::answer::{LockAnswer, MakeSegmentAnswer, PublishAnswer, StoredDescription};
+use crate::boxed::BoxedDescription;
 use crate::failure::CreateFailure;
 use crate::request::{Opened, Request};
 use crate::sight::{Sight, SightFailure};
 use crate::storage::Storage;
-use iox_describe::{Description, ServiceHash, Version};
+use iox_describe::{ServiceHash, Version};
 use std::alloc::{AllocError, Global};
 
 /// The result of an attempt to create a service.
@@ -84,11 +85,11 @@ fn publish<R: Request, S: Storage>(
 fn write<R: Request>(
     alloc: Global,
     request: &R,
-) -> Result<(Description, StoredDescription), AllocError>
+) -> Result<(BoxedDescription, StoredDescription), AllocError>
     ensures { IfOk result (λ written. (written.0 ≡ R.created request.now) × (written.1 ≡ line Two (R.created request.now))) }
 {
     let description = request.describe(alloc)?;
-    let bytes = StoredDescription::encode(alloc, Version::Two, &description)?;
+    let bytes = StoredDescription::encode(alloc, Version::Two, description.get())?;
     Ok((description, bytes))
 }
 

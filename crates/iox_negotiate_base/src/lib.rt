@@ -2,6 +2,7 @@
 //!
 //! | Module | What it has (lower modules first) |
 //! |---|---|
+//! | `boxed` | a description in memory of its own |
 //! | `answer` | the results of storage operations |
 //! | `storage` | the trait of a storage |
 //! | `request` | what a node asks of a service, for any pattern |
@@ -21,6 +22,7 @@
 #![tactic(auto)]
 
 pub mod answer;
+pub mod boxed;
 pub mod creation;
 pub mod errors;
 pub mod failure;
@@ -35,6 +37,7 @@ pub use answer::{
     LeaveAnswer, LockAnswer, LookAnswer, MakeSegmentAnswer, OpenSegmentAnswer, PublishAnswer,
     RemoveAnswer, StoredDescription,
 };
+pub use boxed::BoxedDescription;
 pub use errors::{
     CloseError, EventCreateError, EventOpenError, EventOpenOrCreateError,
     PublishSubscribeCreateError, PublishSubscribeOpenError, PublishSubscribeOpenOrCreateError,

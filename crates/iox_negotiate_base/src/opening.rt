@@ -5,11 +5,11 @@ ghost use Rattle.iox_negotiate_base.specs.Opening.{Registers, OpensJudged, Opens
 ghost use Rattle.iox_negotiate_base.specs.Failing.{open_failure_of, entered};
 
 use crate::answer::OpenSegmentAnswer;
+use crate::boxed::BoxedDescription;
 use crate::failure::OpenFailure;
 use crate::request::{Opened, Request};
 use crate::sight::{Sight, SightFailure};
 use crate::storage::Storage;
-use iox_describe::Description;
 
 /// Opens the service that a lookup showed. `None` if its segment is absent, which leads to the next round.
 pub(crate) fn open_seen<R: Request, S: Storage>(
@@ -34,13 +34,13 @@ pub(crate) fn open_seen<R: Request, S: Storage>(
 pub(crate) fn open_standing<R: Request, S: Storage>(
     request: &R,
     number: u64,
-    description: Description,
+    description: BoxedDescription,
     storage: &mut S,
 ) -> Option<Result<Opened, OpenFailure<R::ClauseError>>>
     ensures { Does S.gives storage.old (λ made. OpensJudged (R.hash request.now) (R.node request.now) (R.verdict request.now) number
         description (R.verdict request.now description) made result) storage.new }
 {
-    if let Err(unmet) = request.verdict(&description) {
+    if let Err(unmet) = request.verdict(description.get()) {
         return Some(Err(OpenFailure::Clause(unmet)));
     }
     register(request, number, description, storage)
@@ -50,7 +50,7 @@ pub(crate) fn open_standing<R: Request, S: Storage>(
 fn register<R: Request, S: Storage>(
     request: &R,
     number: u64,
-    description: Description,
+    description: BoxedDescription,
     storage: &mut S,
 ) -> Option<Result<Opened, OpenFailure<R::ClauseError>>>
     ensures { Does S.gives storage.old (λ made. Registers (R.hash request.now) (R.node request.now) (R.verdict request.now) number
@@ -62,7 +62,7 @@ fn register<R: Request, S: Storage>(
 
 fn entered<V>(
     number: u64,
-    description: Description,
+    description: BoxedDescription,
     answer: OpenSegmentAnswer,
 ) -> Option<Result<Opened, OpenFailure<V>>>
     ensures { result ≡ entered number description answer }

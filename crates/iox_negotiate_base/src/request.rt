@@ -4,6 +4,7 @@ ghost use Rattle.iox_describe.specs.DescribeBase.declared.hash.ServiceHash.{Serv
 ghost use Rattle.iox_describe.specs.DescribeSettings.Agreement.{Agreement, max_nodes_of};
 ghost use Rattle.iox_negotiate_base.specs.declared.failure.CreateFailure.{CreateFailure};
 
+use crate::boxed::BoxedDescription;
 use crate::failure::CreateFailure;
 use iox_describe::{Description, ServiceHash};
 use std::alloc::{AllocError, Global};
@@ -14,7 +15,7 @@ pub struct Opened {
     /// The number of the service.
     pub number: u64,
     /// What its nodes agree on.
-    pub description: Description,
+    pub description: BoxedDescription,
     /// Whether this call created the service.
     pub is_new: bool,
 }
@@ -60,6 +61,6 @@ pub trait Request {
         ensures { result ≡ max_nodes_of (created self.now).settings };
 
     /// The description of the service if it is created. It fails only if an allocation fails.
-    fn describe(&self, alloc: Global) -> Result<Description, AllocError>
+    fn describe(&self, alloc: Global) -> Result<BoxedDescription, AllocError>
         ensures { IfOk result (λ description. description ≡ created self.now) };
 }

@@ -34,7 +34,7 @@ pub fn create<R: Request, S: Storage>(
         return Err(failure);
     }
     let answer = storage.look(request.hash());
-    let seen = shown(alloc, request.hash(), &answer);
+    let seen = shown(alloc, request.hash(), answer);
     created(create_seen(alloc, request, &seen, storage))
 }
 
@@ -84,7 +84,7 @@ fn open_round<R: Request, S: Storage>(
         storage.new }
 {
     let answer = storage.look(request.hash());
-    let seen = shown(alloc, request.hash(), &answer);
+    let seen = shown(alloc, request.hash(), answer);
     open_seen(request, seen, storage)
 }
 
@@ -117,7 +117,7 @@ fn either_round<R: Request, S: Storage>(
         (R.created request.now) (R.refusal request.now) made result) storage.new }
 {
     let answer = storage.look(request.hash());
-    let seen = shown(alloc, request.hash(), &answer);
+    let seen = shown(alloc, request.hash(), answer);
     either_seen(alloc, request, seen, storage)
 }
 

@@ -3,7 +3,8 @@ ghost use Rattle.std.specs.Prelude.{◌≡◌};
 ghost use Rattle.iox_negotiate_base.specs.Sight.{IsSight, IsRead};
 
 use crate::answer::{LookAnswer, StoredDescription};
-use iox_describe::{Description, DescriptionError, ServiceHash, decode};
+use crate::boxed::BoxedDescription;
+use iox_describe::{DescriptionError, ServiceHash, decode};
 use std::alloc::Global;
 
 /// What a lookup shows of a service.
@@ -14,7 +15,7 @@ pub enum Sight {
     /// The service with this number and this description exists.
     Standing {
         number: u64,
-        description: Description,
+        description: BoxedDescription,
     },
     /// The lookup doesn't show whether the service exists.
     Failed(SightFailure),
@@ -34,13 +35,13 @@ pub enum SightFailure {
 }
 
 /// What the result of a lookup of this hash shows.
-pub fn shown(alloc: Global, hash: &ServiceHash, answer: &LookAnswer) -> Sight
-    ensures { IsSight hash.now answer.now result }
+pub fn shown(alloc: Global, hash: &ServiceHash, answer: LookAnswer) -> Sight
+    ensures { IsSight hash.now answer result }
 {
     match answer {
         LookAnswer::Absent => Sight::Absent,
         LookAnswer::Locked => Sight::Failed(SightFailure::HangsInCreation),
-        LookAnswer::Found { number, bytes } => standing(alloc, hash, *number, bytes),
+        LookAnswer::Found { number, bytes } => standing(alloc, hash, number, bytes),
         LookAnswer::Denied => Sight::Failed(SightFailure::InsufficientPermissions),
         LookAnswer::Broken => Sight::Failed(SightFailure::ServiceInCorruptedState),
         LookAnswer::OutOfMemory => Sight::Failed(SightFailure::OutOfMemory),
@@ -48,27 +49,34 @@ pub fn shown(alloc: Global, hash: &ServiceHash, answer: &LookAnswer) -> Sight
 }
 
 // What these bytes show, which were found under this hash.
-fn standing(alloc: Global, hash: &ServiceHash, number: u64, bytes: &StoredDescription) -> Sight
+fn standing(alloc: Global, hash: &ServiceHash, number: u64, bytes: StoredDescription) -> Sight
+    ensures { IsRead hash.now number bytes result }
+{
+    match bytes.into_decoded_under(hash) {
+        Ok(description) => Sight::Standing {
+            number,
+            description,
+        },
+        Err(bytes) => decoded(alloc, hash, number, bytes.as_bytes()),
+    }
+}
+
+// What these bytes show once they are decoded.
+fn decoded(alloc: Global, hash: &ServiceHash, number: u64, bytes: &[u8]) -> Sight
     ensures { IsRead hash.now number bytes.now result }
 {
-    if let Some(description) = bytes.decoded_under(hash) {
-        return match description.try_clone(alloc) {
-            Ok(description) => Sight::Standing {
-                number,
-                description,
-            },
-            Err(_) => Sight::Failed(SightFailure::OutOfMemory),
-        };
-    }
-    match decode(alloc, bytes.as_bytes()) {
+    match decode(alloc, bytes) {
         Ok(description) => {
-            if *description.service_hash() == *hash {
-                return Sight::Standing {
+            if *description.service_hash() != *hash {
+                return Sight::Failed(SightFailure::ServiceInCorruptedState);
+            }
+            match BoxedDescription::new(alloc, description) {
+                Ok(description) => Sight::Standing {
                     number,
                     description,
-                };
+                },
+                Err(_) => Sight::Failed(SightFailure::OutOfMemory),
             }
-            Sight::Failed(SightFailure::ServiceInCorruptedState)
         }
         Err(DescriptionError::Invalid | DescriptionError::NotInVersion1) => Sight::Failed(
             SightFailure::ServiceInCorruptedState,
