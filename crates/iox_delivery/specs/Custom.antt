@@ -1,5 +1,7 @@
 -- The calls of ports whose values are the bytes of a payload: only the description says how many bytes an element has.
-use Rattle.std.specs.Prelude.{ℕ, ◌*◌, ◌-◌, ◌^◌, ◌≡◌, min, Option, None, Some, Result}
+use Rattle.std.specs.Prelude.{ℕ, ◌*◌, ◌-◌, ◌^◌, ◌≡◌, ◌==◌, Bool, true, min, Option, None, Some, Result}
+use Rattle.iox_domain.specs.DescribeBase.declared.type_detail.TypeVariant.{TypeVariant}
+use Rattle.iox_domain.specs.DescribeBase.declared.type_detail.TypeVariant.TheVariants.{FixedSize, Dynamic}
 use Rattle.iox_domain.specs.DomainValues.declared.port_error.LoanError.{LoanError}
 use Rattle.iox_delivery.specs.DomainPorts.declared.publisher_port.PublisherPort.{PublisherPort}
 use Rattle.iox_delivery.specs.Domain.declared.ports.service_ports.ServicePorts.{ServicePorts}
@@ -9,6 +11,11 @@ use Rattle.iox_delivery.specs.Publishing.{lent_of, LendsSlot}
 use Rattle.iox_delivery.specs.declared.loan.Loan.{Loan as Lent}
 use Rattle.iox_delivery.specs.declared.loan.Uninit.{Uninit}
 use Rattle.iox_delivery.specs.declared.port_id.PortId.{PortId}
+
+-- Whether a message may have this many elements: one, or any number if a payload is a slice.
+abbrev pub may_have : ℕ → TypeVariant → Bool
+may_have elements FixedSize = elements == 1
+may_have elements Dynamic = true
 
 -- How many values an element of the publisher has; 0 if there is no publisher.
 abbrev pub unit_of : {T U : Type 0} → Option (PublisherPort T U) → ℕ

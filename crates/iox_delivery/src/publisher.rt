@@ -14,6 +14,7 @@ use crate::sample_mut_uninit::SampleMutUninit;
 use crate::sent::Sent;
 use crate::update_connections::UpdateConnections;
 use crate::{lending, publishing};
+use iox_describe_base::TypeVariant;
 use iox_domain::Home;
 use iox_domain_values::{BackpressureStrategy, ConnectionFailure, LoanError, SendError};
 use std::alloc::Global;
@@ -24,33 +25,38 @@ use std::marker::PhantomData;
 /// Ported from `iceoryx2::port::publisher::Publisher`.
 pub type Publisher<T, U, K = Single> = Port<T, U, K, PublisherSide>;
 
-/// What the value of a publisher has beside its id: the strategy and the length with which the publisher was created.
+/// What the value of a publisher has beside its id: the strategy, the length and the kind of payload with which the publisher was
+/// created.
 #[derive(Clone, Copy)]
 pub struct PublisherSide {
     pub(crate) strategy: BackpressureStrategy,
     pub(crate) initial_max_slice_len: usize,
+    pub(crate) payload: TypeVariant,
 }
 
 impl<T: Copy, U: Copy, K> Publisher<T, U, K> {
     /// The publisher with this id as a value. `initial_max_slice_len` is how many elements its loans may have at first: 1 for
-    /// single values.
+    /// single values. `payload` is what its service agreed on: whether a payload is one element or a slice of any number of them.
     ///
     /// Not in `iceoryx2`: code that creates ports by number returns them in this way.
-    /// Example: `let publisher = Publisher::of_port(port, BackpressureStrategy::DiscardData, 1);`
+    /// Example: `let publisher = Publisher::of_port(port, BackpressureStrategy::DiscardData, 1, TypeVariant::FixedSize);`
     pub fn of_port(
         port: PortId,
         strategy: BackpressureStrategy,
         initial_max_slice_len: usize,
+        payload: TypeVariant,
     ) -> Self
         ensures port { result.port ≡ port }
         ensures strategy { result.side.strategy ≡ strategy }
         ensures initial_max_slice_len { result.side.initial_max_slice_len ≡ initial_max_slice_len }
+        ensures payload { result.side.payload ≡ payload }
     {
         Port {
             port,
             side: PublisherSide {
                 strategy,
                 initial_max_slice_len,
+                payload,
             },
             of: PhantomData,
         }

@@ -8,10 +8,11 @@
 //! let settings = Settings::PublishSubscribe(config);
 //! let description = Description::new(name, settings, AttributeSpecifier::new());
 //! let mut domain = Domain::<u64, ()>::new(alloc, id, &description, 128).ok()?;
-//! let builder = publisher_builder(&domain, 5, 9);
+//! let builder = publisher_builder(&domain, 5, 9)?;
 //! ```
 pub use crate::{
-    PortFactoryPublisher, PortFactorySubscriber, publisher_builder, subscriber_builder,
+    PortFactoryPublisher, PortFactorySubscriber, publisher_builder, slice_publisher_builder,
+    slice_subscriber_builder, subscriber_builder,
 };
 pub use iox_delivery::{
     BlockedSend, PortId, Publisher, Sample, SampleMut, SampleMutUninit, Sent, Subscriber,

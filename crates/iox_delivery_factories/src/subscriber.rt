@@ -7,6 +7,7 @@ ghost use Rattle.iox_domain.specs.AtHomes.{MakesAt};
 ghost use Rattle.iox_domain.specs.Steps.{SubscriberComes, why_no_subscriber};
 ghost use Rattle.iox_delivery_factories.specs.Factories.{subscriber_config, buffer_at, subscriber_of, subscriber_cloned};
 
+use iox_delivery::kind::{Single, Slice};
 use iox_delivery::{PortId, Subscriber, slices as slice};
 use iox_domain::ports::SubscriberConfig;
 use iox_domain::settings::SubscriberSettings;
@@ -17,11 +18,12 @@ use iox_domain_values::{
 use std::alloc::Global;
 use std::marker::PhantomData;
 
-/// The builder of a subscriber of a domain: its settings and its handler.
+/// The builder of a subscriber of a domain: its settings and its handler. It is one of a subscriber of single values, if no other
+/// kind is given.
 ///
 /// Ported from `iceoryx2::service::port_factory::subscriber::PortFactorySubscriber`.
 #[derive(Drop)]
-pub struct PortFactorySubscriber<T, U, D = DegradationHandler> {
+pub struct PortFactorySubscriber<T, U, D = DegradationHandler, K = Single> {
     /// The domain in which the subscriber is created.
     pub domain: DomainId,
     /// The owner of the subscriber.
@@ -30,11 +32,11 @@ pub struct PortFactorySubscriber<T, U, D = DegradationHandler> {
     pub settings: SubscriberSettings,
     /// The handler of the subscriber.
     pub handler: D,
-    /// The types of its values and of its user header.
-    pub of: PhantomData<(T, U)>,
+    /// The types of its values and of its user header, and the kind of its payloads.
+    pub of: PhantomData<(T, U, K)>,
 }
 
-impl<T, U> PortFactorySubscriber<T, U, DegradationHandler> {
+impl<T, U, K> PortFactorySubscriber<T, U, DegradationHandler, K> {
     /// Sets the maximum number of messages of one publisher that wait for the subscriber; 0 counts as 1.
     ///
     /// Ported from `PortFactorySubscriber::buffer_size`.
@@ -61,7 +63,7 @@ impl<T, U> PortFactorySubscriber<T, U, DegradationHandler> {
     ///
     /// Not in `iceoryx2`.
     /// Example: `builder.set_handler(Nobody)`
-    pub fn set_handler<D>(self, handler: D) -> PortFactorySubscriber<T, U, D>
+    pub fn set_handler<D>(self, handler: D) -> PortFactorySubscriber<T, U, D, K>
         ensures { result ≡ record {
           domain = self.domain;
           owner = self.owner;
@@ -96,7 +98,7 @@ impl<T, U> PortFactorySubscriber<T, U, DegradationHandler> {
     }
 }
 
-impl<T: Copy, U: Copy, D: Degrades> PortFactorySubscriber<T, U, D> {
+impl<T: Copy, U: Copy, D: Degrades, K> PortFactorySubscriber<T, U, D, K> {
     /// Whether the home contains the domain of the subscriber, which `create` and `create_slice` require.
     ///
     /// Not in `iceoryx2`.
@@ -105,59 +107,6 @@ impl<T: Copy, U: Copy, D: Degrades> PortFactorySubscriber<T, U, D> {
         ensures { result ≡ is_some (homes.ports_of H.domain_of self.now.domain home.now) }
     {
         calls::ports(home, self.domain).is_some()
-    }
-
-    /// Creates the subscriber, of single values, in the home of its domain. It is connected to the existing publishers. If a
-    /// connection fails its handler is asked, and the subscriber is created nevertheless.
-    ///
-    /// The call fails with `BufferSizeExceedsMaxSupportedBufferSizeOfService` if more messages are to wait than the service
-    /// allows; otherwise with `ExceedsMaxSupportedSubscribers` if no place is free; otherwise with `OutOfMemory` if an
-    /// allocation fails. Then nothing has changed.
-    ///
-    /// Ported from `PortFactorySubscriber::create`.
-    /// Example: `let subscriber = builder.create(alloc, home)?;`
-    pub fn create<H: Home<T, U, ForSubscribers = D>>(
-        self,
-        alloc: Global,
-        home: &mut H,
-    ) -> Result<Subscriber<T, U>, SubscriberCreateError>
-        requires { IsSome (homes.ports_of H.domain_of self.domain home.old) }
-        ensures { (answer : Result ℕ SubscriberCreateError)
-            × MakesAt (λ after. homes.with_ports H.changed self.domain after home.old)
-            (λ number. homes.with_subscriber H.changed self.domain number self.handler)
-            (SubscriberComes (D.degrades self.handler FailedToEstablishConnection) (subscriber_config self.owner self.settings))
-            (why_no_subscriber (subscriber_config self.owner self.settings))
-            (homes.ports_of H.domain_of self.domain home.old) home.old (Some answer) home.new
-            × (result ≡ subscriber_of self.domain (buffer_at self.settings (homes.ports_of H.domain_of self.domain home.old)) answer) }
-    {
-        let domain = self.domain;
-        let buffer_size = self.buffer_size_in(home);
-        let number = self.make(alloc, home)?;
-        Ok(Subscriber::of_port(PortId { domain, number }, buffer_size))
-    }
-
-    /// Creates the subscriber, of slices, in the home of its domain, as `create` does; the call fails as `create` does.
-    ///
-    /// Ported from `PortFactorySubscriber::create`.
-    /// Example: `let subscriber = builder.create_slice(alloc, home)?;`
-    pub fn create_slice<H: Home<T, U, ForSubscribers = D>>(
-        self,
-        alloc: Global,
-        home: &mut H,
-    ) -> Result<slice::Subscriber<T, U>, SubscriberCreateError>
-        requires { IsSome (homes.ports_of H.domain_of self.domain home.old) }
-        ensures { (answer : Result ℕ SubscriberCreateError)
-            × MakesAt (λ after. homes.with_ports H.changed self.domain after home.old)
-            (λ number. homes.with_subscriber H.changed self.domain number self.handler)
-            (SubscriberComes (D.degrades self.handler FailedToEstablishConnection) (subscriber_config self.owner self.settings))
-            (why_no_subscriber (subscriber_config self.owner self.settings))
-            (homes.ports_of H.domain_of self.domain home.old) home.old (Some answer) home.new
-            × (result ≡ subscriber_of self.domain (buffer_at self.settings (homes.ports_of H.domain_of self.domain home.old)) answer) }
-    {
-        let domain = self.domain;
-        let buffer_size = self.buffer_size_in(home);
-        let number = self.make(alloc, home)?;
-        Ok(slice::Subscriber::of_port(PortId { domain, number }, buffer_size))
     }
 
     // Creates the subscriber, and answers its number.
@@ -199,5 +148,62 @@ impl<T: Copy, U: Copy, D: Degrades> PortFactorySubscriber<T, U, D> {
             Some(ports) => self.settings.buffer_size_within(&ports.sizes).unwrap_or(0),
             None => 0,
         }
+    }
+}
+
+impl<T: Copy, U: Copy, D: Degrades> PortFactorySubscriber<T, U, D> {
+    /// Creates the subscriber, of single values, in the home of its domain. It is connected to the existing publishers. If a
+    /// connection fails its handler is asked, and the subscriber is created nevertheless.
+    ///
+    /// The call fails with `BufferSizeExceedsMaxSupportedBufferSizeOfService` if more messages are to wait than the service
+    /// allows; otherwise with `ExceedsMaxSupportedSubscribers` if no place is free; otherwise with `OutOfMemory` if an
+    /// allocation fails. Then nothing has changed.
+    ///
+    /// Ported from `PortFactorySubscriber::create`.
+    /// Example: `let subscriber = builder.create(alloc, home)?;`
+    pub fn create<H: Home<T, U, ForSubscribers = D>>(
+        self,
+        alloc: Global,
+        home: &mut H,
+    ) -> Result<Subscriber<T, U>, SubscriberCreateError>
+        requires { IsSome (homes.ports_of H.domain_of self.domain home.old) }
+        ensures { (answer : Result ℕ SubscriberCreateError)
+            × MakesAt (λ after. homes.with_ports H.changed self.domain after home.old)
+            (λ number. homes.with_subscriber H.changed self.domain number self.handler)
+            (SubscriberComes (D.degrades self.handler FailedToEstablishConnection) (subscriber_config self.owner self.settings))
+            (why_no_subscriber (subscriber_config self.owner self.settings))
+            (homes.ports_of H.domain_of self.domain home.old) home.old (Some answer) home.new
+            × (result ≡ subscriber_of self.domain (buffer_at self.settings (homes.ports_of H.domain_of self.domain home.old)) answer) }
+    {
+        let domain = self.domain;
+        let buffer_size = self.buffer_size_in(home);
+        let number = self.make(alloc, home)?;
+        Ok(Subscriber::of_port(PortId { domain, number }, buffer_size))
+    }
+}
+
+impl<T: Copy, U: Copy, D: Degrades> PortFactorySubscriber<T, U, D, Slice> {
+    /// Creates the subscriber, of slices, in the home of its domain, as `create` does; the call fails as `create` does.
+    ///
+    /// Ported from `PortFactorySubscriber::create`.
+    /// Example: `let subscriber = builder.create_slice(alloc, home)?;`
+    pub fn create_slice<H: Home<T, U, ForSubscribers = D>>(
+        self,
+        alloc: Global,
+        home: &mut H,
+    ) -> Result<slice::Subscriber<T, U>, SubscriberCreateError>
+        requires { IsSome (homes.ports_of H.domain_of self.domain home.old) }
+        ensures { (answer : Result ℕ SubscriberCreateError)
+            × MakesAt (λ after. homes.with_ports H.changed self.domain after home.old)
+            (λ number. homes.with_subscriber H.changed self.domain number self.handler)
+            (SubscriberComes (D.degrades self.handler FailedToEstablishConnection) (subscriber_config self.owner self.settings))
+            (why_no_subscriber (subscriber_config self.owner self.settings))
+            (homes.ports_of H.domain_of self.domain home.old) home.old (Some answer) home.new
+            × (result ≡ subscriber_of self.domain (buffer_at self.settings (homes.ports_of H.domain_of self.domain home.old)) answer) }
+    {
+        let domain = self.domain;
+        let buffer_size = self.buffer_size_in(home);
+        let number = self.make(alloc, home)?;
+        Ok(slice::Subscriber::of_port(PortId { domain, number }, buffer_size))
     }
 }

@@ -6,9 +6,9 @@ use Rattle.std.specs.List.Sorted.{IsStrictlySortedBy, IsBinarySearchResult}
 use Rattle.std.specs.Map.{keys_of, lookup}
 use Rattle.std.specs.Ordering.{nat_cmp}
 use Rattle.iox_delivery_factories.specs.Domain.Kept.{kept, forgotten, kept_under}
+use Rattle.iox_container.proofs.Numbers.{absent_stays, higher-from, lower-before, rising_inserted, rising_removed, stands-at}
 use Rattle.iox_hub_base.proofs.Placed.{insert-place, lookup-place, remove-place, replace-place}
-use Rattle.iox_hub_base.proofs.Rising.{absent_stays, rising_inserted, rising_removed}
-use Rattle.iox_hub_base.proofs.Searched.{found-nowhere, higher-from, lower-before, stands-at}
+use Rattle.iox_hub_base.proofs.Searched.{found-nowhere}
 
 -- a count, as it is
 abbrev itself : ℕ → ℕ

@@ -2,7 +2,6 @@ pub mod Own
 pub mod Takings
 pub mod Same
 pub mod Lawful
-mod Rising
 mod Placed
 mod Searched
 mod Counted

@@ -1,5 +1,5 @@
 -- A hub: its nodes, the table of its services, and the domains of the services that are open in it.
-use Rattle.std.specs.Prelude.{ℕ, ◌≡◌, ◌+◌, ◌-◌, ◌^◌, ◌&&◌, Bool, List, [], Option, None, Some, min, nat_eq, nat_le}
+use Rattle.std.specs.Prelude.{ℕ, ◌≡◌, ◌+◌, ◌-◌, ◌^◌, ◌&&◌, Bool, false, List, [], Option, None, Some, min, nat_eq, nat_le}
 use Rattle.std.specs.Option.{unwrap_or}
 use Rattle.iox_delivery_factories.specs.Domain.Kept.{kept_under, kept}
 use Rattle.iox_negotiate_table.specs.Contents.{empty_table}
@@ -30,6 +30,11 @@ is_node number nodes = nat_le 1 number && nat_le number nodes
 -- Whether the hub made a node: its hub has the id of this one, and the hub made a node of its number.
 abbrev pub has_made : {T U B D : Type 0} → ℕ → ℕ → Hub T U B D → Bool
 has_made id number hub = nat_eq id hub.table.id && is_node number hub.nodes
+
+-- Whether a builder is of a node that the hub made, if the builder is for this node and belongs to the hub of this id, or to no hub.
+abbrev pub holds_builder : {T U B D : Type 0} → Option ℕ → ℕ → Hub T U B D → Bool
+holds_builder None number hub = false
+holds_builder (Some id) number hub = has_made id number hub
 
 -- How many factories of a service are open.
 abbrev pub factories_of : ℕ → List (ℕ × ℕ) → ℕ

@@ -1,7 +1,5 @@
 -- The definitions that contracts of a hub's calls cite.
 pub mod Numbered
-pub mod Unboxed
-pub mod ByNumberLends
 pub mod Texts
 pub mod Agreeing
 pub mod Open

@@ -1,11 +1,11 @@
 //! How services are created and opened in a hub.
-ghost use Rattle.std.specs.Prelude.{◌≡◌, ℕ, List, true};
+ghost use Rattle.std.specs.Prelude.{◌≡◌, ℕ, List, Option, true};
 ghost use Rattle.std.specs.Result.{result_map_both};
 ghost use Rattle.iox_delivery_factories.specs.DescribeBase.Detail.{detail};
 ghost use Rattle.iox_delivery_factories.specs.DescribeBase.Hash.{service_hash_of};
 ghost use Rattle.iox_delivery_factories.specs.DescribeBase.declared.type_detail.TypeVariant.TheVariants.{FixedSize};
 ghost use Rattle.iox_delivery_factories.specs.DescribeSettings.Agreement.{AreWithinLimits, HasNoRoomForHistory};
-ghost use Rattle.iox_hub_base.specs.Hubs.{has_made};
+ghost use Rattle.iox_hub_base.specs.Hubs.{holds_builder};
 ghost use Rattle.iox_hub_base.specs.OfPattern.{CreatesOfPattern, OpensJudged, EitherOfPattern};
 
 use crate::factory::PortFactory;
@@ -33,8 +33,8 @@ use std::alloc::Global;
 ///
 /// Not in `iceoryx2`: the builders of `iceoryx2` find the services of their machine by themselves.
 pub trait HubBuilder<P: Negotiated>: Sized {
-    // the id of the builder's hub
-    ghost hub_of: { Self → ℕ };
+    // the id of the builder's hub, if the builder belongs to a hub
+    ghost hub_of: { Self → Option ℕ };
 
     // the node that creates or opens
     ghost node_of: { Self → ℕ };
@@ -50,10 +50,10 @@ pub trait HubBuilder<P: Negotiated>: Sized {
     fn builder(self) -> ServiceBuilder<P>
         ensures { result ≡ record { hub = hub_of self; node = node_of self; name = name_of self; requirement = requirement_of self } };
 
-    /// Whether the builder is of a node that this hub made.
+    /// Whether the builder belongs to this hub, and is of a node that the hub made. A builder that `Builder::new` made belongs to no hub.
     /// Example: `let is_of_it = builder.holds(&hub);`
     fn holds<T: Copy, U: Copy, B: Drop, D: Drop>(&self, hub: &Hub<T, U, B, D>) -> bool
-        ensures { result ≡ has_made (hub_of self.now) (node_of self.now) hub.now };
+        ensures { result ≡ holds_builder (hub_of self.now) (node_of self.now) hub.now };
 
     /// Creates the service, with no attributes except those that were asked for. See `create_with_attributes_in`.
     /// Example: `let factory = builder.create_in(alloc, &mut hub, Vec::new(alloc))?;`
@@ -63,7 +63,7 @@ pub trait HubBuilder<P: Negotiated>: Sized {
         hub: &mut Hub<T, U, B, D>,
         steps: Vec<StepList>,
     ) -> Result<PortFactory<P>, P::CreateError>
-        requires { has_made (hub_of self) (node_of self) hub.old ≡ true }
+        requires { holds_builder (hub_of self) (node_of self) hub.old ≡ true }
         ensures { let config = P.adjusted (P.asked (requirement_of self)) in CreatesOfPattern
             (detail FixedSize T.name T.size T.alignment) (detail FixedSize U.name U.size U.alignment) P.pattern (P.settings config)
             (AreWithinLimits (P.settings config)) (HasNoRoomForHistory (P.settings config)) P.create_error (node_of self) (name_of self)
@@ -89,7 +89,7 @@ pub trait HubBuilder<P: Negotiated>: Sized {
         hub: &mut Hub<T, U, B, D>,
         steps: Vec<StepList>,
     ) -> Result<PortFactory<P>, P::CreateError>
-        requires { has_made (hub_of self) (node_of self) hub.old ≡ true }
+        requires { holds_builder (hub_of self) (node_of self) hub.old ≡ true }
         ensures { let asked = P.asked (requirement_of self) in let config = P.adjusted asked in CreatesOfPattern
             (detail FixedSize T.name T.size T.alignment) (detail FixedSize U.name U.size U.alignment) P.pattern (P.settings config)
             (AreWithinLimits (P.settings config)) (HasNoRoomForHistory (P.settings config))
@@ -107,7 +107,7 @@ pub trait HubBuilder<P: Negotiated>: Sized {
         hub: &mut Hub<T, U, B, D>,
         steps: Vec<StepList>,
     ) -> Result<PortFactory<P>, P::OpenError>
-        requires { has_made (hub_of self) (node_of self) hub.old ≡ true }
+        requires { holds_builder (hub_of self) (node_of self) hub.old ≡ true }
         ensures { OpensJudged (detail FixedSize T.name T.size T.alignment) (detail FixedSize U.name U.size U.alignment) P.open_error
             (service_hash_of P.pattern (name_of self)) (node_of self) (λ given. P.verdict (requirement_of self) given) steps.items hub.old
             (result_map_both (λ factory. (factory.service.membership, factory.owner)) (λ error. error) result) hub.new }
@@ -131,7 +131,7 @@ pub trait HubBuilder<P: Negotiated>: Sized {
         hub: &mut Hub<T, U, B, D>,
         steps: Vec<StepList>,
     ) -> Result<PortFactory<P>, P::OpenError>
-        requires { has_made (hub_of self) (node_of self) hub.old ≡ true }
+        requires { holds_builder (hub_of self) (node_of self) hub.old ≡ true }
         ensures { let required = P.with_attributes (requirement_of self) attributes in OpensJudged
             (detail FixedSize T.name T.size T.alignment) (detail FixedSize U.name U.size U.alignment) P.open_error
             (service_hash_of P.pattern (name_of self)) (node_of self) (λ given. P.verdict required given) steps.items hub.old
@@ -149,7 +149,7 @@ pub trait HubBuilder<P: Negotiated>: Sized {
         hub: &mut Hub<T, U, B, D>,
         steps: Vec<StepList>,
     ) -> Result<PortFactory<P>, P::OpenOrCreateError>
-        requires { has_made (hub_of self) (node_of self) hub.old ≡ true }
+        requires { holds_builder (hub_of self) (node_of self) hub.old ≡ true }
         ensures { let required = requirement_of self in let config = P.adjusted (P.asked required) in EitherOfPattern
             (detail FixedSize T.name T.size T.alignment) (detail FixedSize U.name U.size U.alignment) P.pattern (P.settings config)
             (AreWithinLimits (P.settings config)) (HasNoRoomForHistory (P.settings config))
@@ -177,7 +177,7 @@ pub trait HubBuilder<P: Negotiated>: Sized {
         hub: &mut Hub<T, U, B, D>,
         steps: Vec<StepList>,
     ) -> Result<PortFactory<P>, P::OpenOrCreateError>
-        requires { has_made (hub_of self) (node_of self) hub.old ≡ true }
+        requires { holds_builder (hub_of self) (node_of self) hub.old ≡ true }
         ensures { let required = P.with_attributes (requirement_of self) attributes in
             let config = P.adjusted (P.asked required) in EitherOfPattern
             (detail FixedSize T.name T.size T.alignment) (detail FixedSize U.name U.size U.alignment) P.pattern (P.settings config)
@@ -204,6 +204,9 @@ impl<P: Negotiated> HubBuilder<P> for ServiceBuilder<P> {
     }
 
     fn holds<T: Copy, U: Copy, B: Drop, D: Drop>(&self, hub: &Hub<T, U, B, D>) -> bool {
-        self.hub() == hub.id() && hub.has_node(self.node())
+        match self.hub() {
+            Some(id) => id == hub.id() && hub.has_node(self.node()),
+            None => false,
+        }
     }
 }

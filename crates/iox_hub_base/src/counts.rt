@@ -1,10 +1,11 @@
 //! How many factories of a service are open, by the service's number.
-ghost use Rattle.std.specs.Prelude.{◌≡◌, ◌-◌, false, IfOk, OnErr, []};
+ghost use Rattle.std.specs.Prelude.{◌≡◌, ◌-◌, length, false, IfOk, OnErr, []};
+ghost use Rattle.std.specs.List.Sorted.{IsBinarySearchResult, IsSearchInRange};
+ghost use Rattle.std.specs.Ordering.{nat_cmp};
 ghost use Rattle.iox_delivery_factories.specs.Domain.Kept.{kept, forgotten};
 ghost use Rattle.iox_hub_base.specs.Closing.{is_last};
 ghost use Rattle.iox_hub_base.specs.Hubs.{factories_of, with_factory};
 
-use crate::by_number::search_of;
 use std::alloc::{AllocError, Global};
 use std::marker::Model;
 use std::mem;
@@ -84,6 +85,14 @@ impl Counts {
             Err(_) => {}
         }
     }
+}
+
+// The place of a number, or the place at which it would be inserted.
+fn search_of(entries: &[(u64, u64)], number: u64) -> Result<usize, usize>
+    ensures bound { IsSearchInRange result (length entries.now) }
+    ensures position { IsBinarySearchResult (λ entry. nat_cmp entry.0 number) entries.now result }
+{
+    entries.binary_search_by_key(&number, |entry| entry.0)
 }
 
 /// Counts with capacity for one more service.

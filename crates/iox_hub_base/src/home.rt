@@ -4,7 +4,6 @@ ghost use Rattle.std.specs.Prelude.{◌≡◌, IsSome};
 ghost use Rattle.iox_hub_base.specs.AsHome.{with_services, hub_state, hub_changed};
 ghost use Rattle.iox_hub_base.specs.HomeLaws as homely;
 ghost use Rattle.iox_hub_base.specs.Open.{domain_of};
-ghost use Rattle.iox_hub_base.specs.Unboxed.{StandsAt};
 
 use crate::hub::Hub;
 use iox_domain::{DomainId, DomainState, Home, LendsDomains};
@@ -22,8 +21,7 @@ impl<T: Copy, U: Copy, B: Decides + Degrades, D: Degrades> LendsDomains<DomainSt
 
     ghost changed = { hub_changed };
 
-    ghost stands_at = { λ id place hub. (id.hub ≡ hub.services.hub) × StandsAt id.service place hub.services.domains
-        × IsSome (domain_of id.service hub.services.domains) };
+    ghost stands_at = { λ id place hub. (id.hub ≡ hub.services.hub) × IsSome (domain_of id.service hub.services.domains) };
 
     fn place(&self, id: DomainId) -> Option<usize> {
         self.services.place(id)

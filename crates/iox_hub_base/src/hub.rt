@@ -1,5 +1,5 @@
 //! The hub, and how it is made.
-ghost use Rattle.std.specs.Prelude.{◌≡◌, ◌-◌, ◌^◌, true, Ok, min, nat_eq};
+ghost use Rattle.std.specs.Prelude.{◌≡◌, ◌-◌, ◌^◌, true, Ok, Some, min, nat_eq};
 ghost use Rattle.iox_delivery_factories.specs.DescribeBase.Hash.{service_hash_of};
 ghost use Rattle.iox_negotiate_table.specs.Contents.{entry_at};
 ghost use Rattle.iox_hub_base.specs.Hubs.{IsNewHub, one_more, is_node, has_made, hash_state};
@@ -188,7 +188,7 @@ impl<T: Copy, U: Copy, B: Drop, D: Drop> Hub<T, U, B, D> {
     /// Example: `let builder = hub.service_builder(&node, name).publish_subscribe::<u64>();`
     pub fn service_builder(&self, node: &NodeHandle, name: ServiceName) -> Builder
         requires { has_made node.now.hub node.now.number self.now ≡ true }
-        ensures { result ≡ record { hub = self.now.table.id; node = node.now.number; name = name } }
+        ensures { result ≡ record { hub = Some self.now.table.id; node = node.now.number; name = name } }
     {
         Builder::of_hub(self.id(), node.number, name)
     }

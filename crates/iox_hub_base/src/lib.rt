@@ -8,7 +8,6 @@
 //! | `services_home` | the services of a hub as a home of domains |
 //! | `laws` | theorems about these calls |
 //! | `presences` | open services by number |
-//! | `by_number` | values by number; finding one takes one step while no number is missing |
 //! | `counts` | how many factories of a service are open |
 //! | `service_room` | services and counts with capacity for one more |
 //! | `node` | a node |
@@ -45,7 +44,6 @@
 #![tactic(auto)]
 
 pub mod builder;
-mod by_number;
 pub mod closing;
 pub mod counts;
 mod entering;

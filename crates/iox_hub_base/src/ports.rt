@@ -1,16 +1,18 @@
 //! Builders of the ports of a factory's service, and how domains are taken and put back.
 ghost use Rattle.std.specs.Prelude.{◌≡◌, IfOk, option_copied};
-ghost use Rattle.iox_delivery_factories.specs.Elements.{values_each};
-ghost use Rattle.iox_hub_base.specs.Builders.{publishers_of, subscribers_of};
+ghost use Rattle.iox_delivery_factories.specs.DescribeBase.Detail.{detail};
+ghost use Rattle.iox_delivery_factories.specs.DescribeBase.declared.type_detail.TypeVariant.TheVariants as variant;
+ghost use Rattle.iox_hub_base.specs.Builders.{publishers_of, slice_publishers_of, subscribers_of, slice_subscribers_of};
 ghost use Rattle.iox_hub_base.specs.Open.{domain_of};
 ghost use Rattle.iox_hub_base.specs.Taking.{Takes, Puts};
 
 use crate::factory::PortFactory;
 use crate::hub::Hub;
 use crate::{Domain, DomainIsForeign, TakeError};
-use iox_delivery_factories::{PortFactoryPublisher, PortFactorySubscriber};
+use iox_delivery_factories::builders::{is_of_slices, is_of_values, values_each};
+use iox_delivery_factories::{PortFactoryPublisher, PortFactorySubscriber, slices};
+use iox_describe::ZeroCopySend;
 use iox_describe::pattern::PublishSubscribe;
-use iox_describe::{TypeVariant, ZeroCopySend};
 use iox_domain::settings::{PublisherSettings, SubscriberSettings};
 use iox_domain_values::{
     BackpressureStrategy, DegradationAction, DegradationHandler, Handlers, PortOwner,
@@ -67,8 +69,8 @@ impl<T: Copy, U: Copy, B: Drop, D: Drop> Hub<T, U, B, D> {
 // These functions repeat what those of `iox_delivery_factories` do, since a function that makes a builder can't call another one that makes
 // it: a builder holds an object, and a hub may hold objects, too.
 impl<T: Copy + ZeroCopySend, U: Copy, B: Drop, D: Drop> Hub<T, U, B, D> {
-    /// The builder of publishers of a factory's service, with sizes from its agreement and no option set yet. None if the domain is out, or
-    /// none was made.
+    /// The builder of publishers of single values of a factory's service, with sizes from its agreement and no option set yet. None if the
+    /// service agreed on slices, or if the domain is out or none was made.
     ///
     /// Ported from `iceoryx2::service::port_factory::publish_subscribe::PortFactory::publisher_builder`.
     /// Example: `let builder = hub.publisher_builder(&factory)?;`
@@ -81,16 +83,17 @@ impl<T: Copy + ZeroCopySend, U: Copy, B: Drop, D: Drop> Hub<T, U, B, D> {
             (domain_of factory.now.service.membership.service.number self.now.services.domains) }
     {
         let domain = self.services.domain(factory.number())?;
+        if !is_of_values::<T>(&domain.agreed.types.payload) {
+            return None;
+        }
         Some(PortFactoryPublisher {
             domain: domain.id,
             owner: PortOwner {
                 number: factory.owner(),
                 node_id: factory.node(),
             },
-            unit: values_each(
-                domain.agreed.types.payload.size(),
-                T::type_detail(TypeVariant::FixedSize).size(),
-            ),
+            unit: values_each::<T>(&domain.agreed.types.payload),
+            payload: domain.agreed.types.payload.variant(),
             settings: PublisherSettings::default(),
             handlers: Handlers {
                 strategy: BackpressureStrategy::RetryUntilDelivered,
@@ -101,11 +104,47 @@ impl<T: Copy + ZeroCopySend, U: Copy, B: Drop, D: Drop> Hub<T, U, B, D> {
             of: PhantomData,
         })
     }
-}
 
-impl<T: Copy, U: Copy, B: Drop, D: Drop> Hub<T, U, B, D> {
-    /// The builder of subscribers of a factory's service, with sizes from its agreement and no option set yet. None if the domain is out,
-    /// or none was made.
+    /// The builder of publishers of slices of a factory's service, with sizes from its agreement and no option set yet. None if the service
+    /// agreed on single values, or if the domain is out or none was made.
+    ///
+    /// Ported from `iceoryx2::service::port_factory::publish_subscribe::PortFactory::publisher_builder`, whose factory has the payload in
+    /// its type.
+    /// Example: `let builder = hub.slice_publisher_builder(&factory)?;`
+    pub fn slice_publisher_builder(
+        &self,
+        factory: &PortFactory<PublishSubscribe>,
+    ) -> Option<slices::PortFactoryPublisher<T, U>>
+        requires { factory.now.service.membership.storage ≡ self.now.table.id }
+        ensures { result ≡ slice_publishers_of (detail variant.FixedSize T.name T.size T.alignment)
+            factory.now.service.membership.node factory.now.owner
+            (domain_of factory.now.service.membership.service.number self.now.services.domains) }
+    {
+        let domain = self.services.domain(factory.number())?;
+        if !is_of_slices::<T>(&domain.agreed.types.payload) {
+            return None;
+        }
+        Some(PortFactoryPublisher {
+            domain: domain.id,
+            owner: PortOwner {
+                number: factory.owner(),
+                node_id: factory.node(),
+            },
+            unit: values_each::<T>(&domain.agreed.types.payload),
+            payload: domain.agreed.types.payload.variant(),
+            settings: PublisherSettings::default(),
+            handlers: Handlers {
+                strategy: BackpressureStrategy::RetryUntilDelivered,
+                backpressure: None,
+                degradation: DegradationHandler::Fixed(DegradationAction::Warn),
+            },
+            overriding: PreallocatedSamplesOverride::WorstCase,
+            of: PhantomData,
+        })
+    }
+
+    /// The builder of subscribers of single values of a factory's service, with sizes from its agreement and no option set yet. None if the
+    /// service agreed on slices, or if the domain is out or none was made.
     ///
     /// Ported from `iceoryx2::service::port_factory::publish_subscribe::PortFactory::subscriber_builder`.
     /// Example: `let builder = hub.subscriber_builder(&factory)?;`
@@ -114,10 +153,13 @@ impl<T: Copy, U: Copy, B: Drop, D: Drop> Hub<T, U, B, D> {
         factory: &PortFactory<PublishSubscribe>,
     ) -> Option<PortFactorySubscriber<T, U>>
         requires { factory.now.service.membership.storage ≡ self.now.table.id }
-        ensures { result ≡ subscribers_of factory.now.service.membership.node factory.now.owner
+        ensures { result ≡ subscribers_of T.size factory.now.service.membership.node factory.now.owner
             (domain_of factory.now.service.membership.service.number self.now.services.domains) }
     {
         let domain = self.services.domain(factory.number())?;
+        if !is_of_values::<T>(&domain.agreed.types.payload) {
+            return None;
+        }
         Some(PortFactorySubscriber {
             domain: domain.id,
             owner: PortOwner {
@@ -129,14 +171,35 @@ impl<T: Copy, U: Copy, B: Drop, D: Drop> Hub<T, U, B, D> {
             of: PhantomData,
         })
     }
-}
 
-// How many values of this size in bytes an element of a size has.
-fn values_each(element: u64, value: u64) -> usize
-    ensures { result ≡ values_each element value }
-{
-    if value == 0 {
-        return 1;
+    /// The builder of subscribers of slices of a factory's service, with sizes from its agreement and no option set yet. None if the
+    /// service agreed on single values, or if the domain is out or none was made.
+    ///
+    /// Ported from `iceoryx2::service::port_factory::publish_subscribe::PortFactory::subscriber_builder`, whose factory has the payload in
+    /// its type.
+    /// Example: `let builder = hub.slice_subscriber_builder(&factory)?;`
+    pub fn slice_subscriber_builder(
+        &self,
+        factory: &PortFactory<PublishSubscribe>,
+    ) -> Option<slices::PortFactorySubscriber<T, U>>
+        requires { factory.now.service.membership.storage ≡ self.now.table.id }
+        ensures { result ≡ slice_subscribers_of (detail variant.FixedSize T.name T.size T.alignment)
+            factory.now.service.membership.node factory.now.owner
+            (domain_of factory.now.service.membership.service.number self.now.services.domains) }
+    {
+        let domain = self.services.domain(factory.number())?;
+        if !is_of_slices::<T>(&domain.agreed.types.payload) {
+            return None;
+        }
+        Some(PortFactorySubscriber {
+            domain: domain.id,
+            owner: PortOwner {
+                number: factory.owner(),
+                node_id: factory.node(),
+            },
+            settings: SubscriberSettings::default(),
+            handler: DegradationHandler::Fixed(DegradationAction::Warn),
+            of: PhantomData,
+        })
     }
-    (element / value) as usize
 }

@@ -4,10 +4,9 @@ ghost use Rattle.std.specs.Borrow.{sem};
 ghost use Rattle.std.specs.Option.{option_copied_mut};
 ghost use Rattle.iox_hub_base.specs.Open.{presence_of, domain_of, with_presence, opened, closed};
 ghost use Rattle.iox_hub_base.specs.Room.{loans_left_in, samples_at_most_in};
-ghost use Rattle.iox_hub_base.specs.Unboxed.{StandsAt};
 
-use crate::by_number::{ByNumber, RoomyByNumber};
 use crate::presence::Presence;
+use iox_container::{ByNumber, RoomyByNumber};
 use iox_domain::Domain;
 use iox_domain_ports::living::add;
 use std::alloc::{AllocError, Global};
@@ -67,10 +66,10 @@ impl<T: Copy, U: Copy, B: Drop, D: Drop> Presences<T, U, B, D> {
         self.get(number)?.domain()
     }
 
-    /// The place of this number, if its domain is in the hub.
+    /// The place at which `domain_at` finds this number at once, if its domain is in the hub.
     /// Example: `let place = presences.place(number)?;`
     pub fn place(&self, number: u64) -> Option<usize>
-        ensures some { IfSome result (λ place. StandsAt number place self.now × IsSome (domain_of number self.now)) }
+        ensures some { IfSome result (λ place. IsSome (domain_of number self.now)) }
         ensures none { IfNone result (domain_of number self.now ≡ None) }
     {
         let place = self.entries.place(number)?;
@@ -80,10 +79,10 @@ impl<T: Copy, U: Copy, B: Drop, D: Drop> Presences<T, U, B, D> {
         }
     }
 
-    /// The domain under this number, which is at this place and in the hub.
+    /// The domain under this number, which is in the hub. It is found at once if this is its place.
     /// Example: `let domain = presences.domain_at(number, place);`
     pub fn domain_at(&self, number: u64, place: usize) -> &Domain<T, U, B, D>
-        requires { StandsAt number place self.now × IsSome (domain_of number self.now) }
+        requires { IsSome (domain_of number self.now) }
         ensures { domain_of number self.now ≡ Some result.now }
     {
         match self.entries.at(number, place) {
@@ -92,10 +91,10 @@ impl<T: Copy, U: Copy, B: Drop, D: Drop> Presences<T, U, B, D> {
         }
     }
 
-    /// The domain under this number, which is at this place and in the hub, to be changed there.
+    /// The domain under this number, which is in the hub, to be changed there. It is found at once if this is its place.
     /// Example: `let domain = presences.domain_mut_at(number, place);`
     pub fn domain_mut_at(&mut self, number: u64, place: usize) -> &mut Domain<T, U, B, D>
-        requires { StandsAt number place self.old × IsSome (domain_of number self.old) }
+        requires { IsSome (domain_of number self.old) }
         ensures* writes_back { sem 𝓛 (LendsDomainAt T.row U.row B.row D.row self.entry number result) }
         ensures value { domain_of number self.old ≡ Some result.now }
     {
@@ -108,9 +107,8 @@ impl<T: Copy, U: Copy, B: Drop, D: Drop> Presences<T, U, B, D> {
         ensures { result ≡ min (loans_left_in self.now) (2 ^ 64 - 1) }
     {
         let mut left = 0;
-        let entries = self.entries.entries();
-        for entry in entries {
-            left = add(left, entry.1.loans_left());
+        for (_number, presence) in self.entries.iter() {
+            left = add(left, presence.loans_left());
         }
         left
     }
@@ -121,9 +119,8 @@ impl<T: Copy, U: Copy, B: Drop, D: Drop> Presences<T, U, B, D> {
         ensures { result ≡ min (samples_at_most_in self.now) (2 ^ 64 - 1) }
     {
         let mut count = 0;
-        let entries = self.entries.entries();
-        for entry in entries {
-            count = add(count, entry.1.samples_at_most());
+        for (_number, presence) in self.entries.iter() {
+            count = add(count, presence.samples_at_most());
         }
         count
     }

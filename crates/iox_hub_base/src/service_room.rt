@@ -5,11 +5,11 @@ ghost use Rattle.iox_domain.specs.DescribeBase.declared.type_detail.TypeVariant.
 ghost use Rattle.iox_domain.specs.Fitting.{Fits};
 ghost use Rattle.iox_hub_base.specs.ServicesOpening.{is_open, IsNewHere, OpensLent};
 
-use crate::by_number::RoomyByNumber;
 use crate::counts::RoomyCounts;
 use crate::presence::Presence;
 use crate::presences::Presences;
 use crate::services::Services;
+use iox_container::RoomyByNumber;
 use iox_describe_base::ZeroCopySend;
 use iox_describe_settings::Description;
 use iox_domain::{Domain, DomainId};

@@ -3,7 +3,6 @@ ghost use Rattle.std.specs.Prelude.{◌≡◌, ◌↔◌, IsSome, IsTrue};
 ghost use Rattle.iox_hub_base.specs.Open.{domain_of};
 ghost use Rattle.iox_hub_base.specs.ServicesAsHome.{state_at, changed_at};
 ghost use Rattle.iox_hub_base.specs.HomeLaws as homely;
-ghost use Rattle.iox_hub_base.specs.Unboxed.{StandsAt};
 
 use crate::services::Services;
 use iox_domain::{DomainId, DomainState, Home, LendsDomains};
@@ -28,8 +27,7 @@ impl<T: Copy, U: Copy, B: Decides + Degrades, D: Degrades> LendsDomains<DomainSt
 
     ghost changed = { changed_at };
 
-    ghost stands_at = { λ id place services. (id.hub ≡ services.hub) × StandsAt id.service place services.domains
-        × IsSome (domain_of id.service services.domains) };
+    ghost stands_at = { λ id place services. (id.hub ≡ services.hub) × IsSome (domain_of id.service services.domains) };
 
     fn place(&self, id: DomainId) -> Option<usize> {
         if is_of(self.hub, id) {

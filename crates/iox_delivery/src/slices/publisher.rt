@@ -3,7 +3,7 @@ ghost use Rattle.iox_domain.specs.Homes as homes;
 ghost use Rattle.std.specs.Prelude.{◌≡◌, true, false, replicate, IfOk};
 ghost use Rattle.iox_delivery.specs.Lent.{IsReady};
 ghost use Rattle.iox_delivery.specs.Holding.{publisher_stands, publisher_blocked};
-ghost use Rattle.iox_delivery.specs.Custom.{LendsElements, values_of};
+ghost use Rattle.iox_delivery.specs.Custom.{LendsElements, may_have, values_of};
 ghost use Rattle.iox_delivery.specs.Slices.{LendsSlice, LendsDefaults, SendsSlice};
 
 use crate::kind::Slice;
@@ -11,6 +11,7 @@ use crate::slices::filling;
 use crate::slices::sample_mut::SampleMut;
 use crate::slices::sample_mut_uninit::SampleMutUninit;
 use crate::{PortId, Sent, lending, publisher, publishing};
+use iox_describe_base::TypeVariant;
 use iox_domain::settings::CustomPayloadMarker;
 use iox_domain::{Home, calls};
 use iox_domain_values::{LoanError, SendError};
@@ -102,11 +103,25 @@ impl<T: Copy, U: Copy> Publisher<T, U> {
 }
 
 impl<U: Copy> Publisher<CustomPayloadMarker, U> {
-    /// Loans `len` elements of a payload that only the description defines: all of their bytes, not written. The header of the
-    /// message says `len` elements. The call fails as `loan_slice_uninit` does; lengths are counted in elements then.
+    /// Whether a message of the publisher may have `len` elements, which `loan_custom_payload` requires: one, or any number if a
+    /// payload is a slice.
     ///
-    /// Ported from `iceoryx2::port::publisher::Publisher::loan_custom_payload`, which is unsafe and asks for one element where the payload
-    /// isn't a slice.
+    /// Not in `iceoryx2`.
+    /// Example: `let may = publisher.may_have(2);`
+    pub fn may_have(&self, len: usize) -> bool
+        ensures { result ≡ may_have len self.now.side.payload }
+    {
+        match self.side.payload {
+            TypeVariant::FixedSize => len == 1,
+            TypeVariant::Dynamic => true,
+        }
+    }
+
+    /// Loans `len` elements of a payload that only the description defines: all of their bytes, not written. The header of the
+    /// message says `len` elements. If a payload isn't a slice it has one element. The call fails as `loan_slice_uninit` does;
+    /// lengths are counted in elements then.
+    ///
+    /// Ported from `iceoryx2::port::publisher::Publisher::loan_custom_payload`, which is unsafe.
     /// Example: `let loan = publisher.loan_custom_payload(alloc, home, 2)?;`
     pub fn loan_custom_payload<H: Home<CustomPayloadMarker, U>>(
         &self,
@@ -116,6 +131,7 @@ impl<U: Copy> Publisher<CustomPayloadMarker, U> {
     ) -> Result<SampleMutUninit<CustomPayloadMarker, U>, LoanError>
         requires holds { publisher_stands self.now.port.number (homes.ports_of H.domain_of self.now.port.domain home.old) ≡ true }
         requires free { publisher_blocked self.now.port.number (homes.ports_of H.domain_of self.now.port.domain home.old) ≡ false }
+        requires elements { may_have len self.now.side.payload ≡ true }
         ensures { LendsElements (homes.ports_of H.domain_of) (homes.with_ports H.changed) self.now.port len home.old result home.new }
     {
         let bytes = values_of(self.port, len, home);

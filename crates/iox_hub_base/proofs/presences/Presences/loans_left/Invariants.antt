@@ -1,7 +1,7 @@
-use Rattle.std.proofs.Common.{◌≡◌, ◌-◌, ◌^◌, min, take}
+use Rattle.std.proofs.Common.{◌≡◌, ◌+◌, ◌-◌, ◌^◌, ◌≤◌, min}
 use Rattle.iox_hub_base.specs.Room.{loans_left_in}
-use Rattle.iox_hub_base.specs.Unboxed.{unboxed}
 use Rattle.iox_hub_base.proofs.presences.Presences.loans_left.Given as goal
 
-abbrev pub invariant-loop-entry : goal.invariant-loop-entry
-invariant-loop-entry g l = l.left ≡ min (loans_left_in (unboxed (take l.entry-index l.entries))) (2 ^ 64 - 1)
+abbrev pub invariant-loop-number : goal.invariant-loop-number
+invariant-loop-number g l = (l.left ≤ 2 ^ 64 - 1)
+    × (min (l.left + loans_left_in l._number-iterator) (2 ^ 64 - 1) ≡ min (loans_left_in l.self) (2 ^ 64 - 1))

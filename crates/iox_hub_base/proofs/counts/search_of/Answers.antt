@@ -1,7 +1,7 @@
 use Rattle.std.proofs.Common.{rules}
 use Rattle.std.proofs.lemmas.List.Sorted.{answers_always}
-use Rattle.iox_hub_base.proofs.by_number.search_of.Goals as goal
+use Rattle.iox_hub_base.proofs.counts.search_of.Goals as goal
 
 pub returns-clause-position : goal.returns-clause-position
-returns-clause-position g c = c.binary_search_by_key.ensures.position (λ entry. entry.0)
+returns-clause-position c = c.binary_search_by_key.ensures.position (λ entry. entry.0)
     (answers_always _ _ _ (λ f a r after called. search rules))
