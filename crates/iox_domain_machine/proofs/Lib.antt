@@ -108,6 +108,7 @@ pub mod Comes
 pub mod ComesPublisher
 pub mod ComesConnected
 mod FewAtPlaces
+mod Ample
 mod FewConnections
 pub mod MessagesInUse
 pub mod SendsInUse

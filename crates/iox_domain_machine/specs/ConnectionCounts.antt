@@ -1,14 +1,19 @@
 -- How many connections of a publisher are live.
-use Rattle.std.specs.Prelude.{ℕ, ◌*◌, ◌≤◌, ◌≡◌, true, List, find, is_some, Some}
+use Rattle.std.specs.Prelude.{ℕ, ◌+◌, ◌*◌, ◌≤◌, ◌≡◌, Bool, true, false, List, find, is_some, Some}
 use Rattle.std.specs.List.{count_by}
 use Rattle.iox_command.specs.NegotiateBase.DescribeBase.declared.message_type.MessageTypeDetails.{MessageTypeDetails}
 use Rattle.iox_command.specs.declared.command.Command.{Command}
 use Rattle.iox_command.specs.declared.reply.Reply.{Reply}
+use Rattle.iox_domain.specs.DomainPorts.LoanLaws.{IsAmple}
 use Rattle.iox_domain.specs.DomainPorts.Ports.{goes_on}
 use Rattle.iox_domain.specs.DomainPorts.Publishers.{port_of}
 use Rattle.iox_domain.specs.DomainPorts.declared.attached.Taken.{Taken}
 use Rattle.iox_domain.specs.DomainPorts.declared.publisher_port.PublisherPort.{PublisherPort}
+use Rattle.iox_domain.specs.DomainSlots.declared.stage.Stage.{Stage}
+use Rattle.iox_domain.specs.DomainSlots.declared.stage.Stage.TheVariants as stage
+use Rattle.iox_domain.specs.DomainValues.Sizes.{worst_case}
 use Rattle.iox_domain.specs.PortLawsLaws.{IsApart}
+use Rattle.iox_domain.specs.SizeLaws.{AreAllowed}
 use Rattle.iox_domain.specs.declared.ports.service_ports.ServicePorts.{ServicePorts}
 use Rattle.iox_domain_machine.specs.Naming.{Naming}
 use Rattle.iox_domain_machine.specs.Standing.{StandsFor}
@@ -22,6 +27,22 @@ use Rattle.iox_machine.specs.State.{State, new_state}
 -- How many connections of the publisher are live.
 abbrev pub live_connections : {T U : Type 0} → PublisherPort T U → ℕ
 live_connections port = count_by (λ connection. goes_on connection.stage) port.sender.uses.connections
+
+-- Whether a connection in this stage ended while samples of it are still held.
+abbrev pub has_ended : Stage → Bool
+has_ended stage.Vacant = false
+has_ended stage.Live = false
+has_ended stage.Ended = true
+
+-- How many connections of the publisher ended while samples of them are still held.
+abbrev pub held_connections : {T U : Type 0} → PublisherPort T U → ℕ
+held_connections port = count_by (λ connection. has_ended connection.stage) port.sender.uses.connections
+
+-- How many slots are always enough for the publisher: those of the agreement's worst case, and as many as a subscriber needs for each
+-- connection that ended while samples of it are still held.
+abbrev pub slots_always_enough : {T U : Type 0} → ServicePorts T U → PublisherPort T U → ℕ
+slots_always_enough ports port = worst_case ports.sizes port.sender.uses.most_loans
+    + held_connections port * (ports.sizes.subscriber_max_buffer_size + ports.sizes.subscriber_max_borrowed_samples)
 
 -- How many connections of an open publisher may be live, where the ports represent a service.
 pub record ConnectionsAreFew (T U : Type 0) (choices : Choices T) : Type 0 where
@@ -39,3 +60,12 @@ pub record ConnectionsAreFew (T U : Type 0) (choices : Choices T) : Type 0 where
       → StandsFor names lent held buffer ports service → IsApart ports
       → port_of number ports.publishers ≡ Some port → port.stands ≡ true → port.seen ≡ ports.subscriber_list.changes
       → live_connections port ≤ ports.sizes.max_subscribers
+  -- So a publisher that has seen all changes of the list has enough slots for each loan that fits (`IsAmple`), if a segment has those of
+  -- the agreement's worst case, and those of the connections that ended while samples of them are still held.
+  pub ample : (types : MessageTypeDetails) (buffer : ℕ) (asked : List (Command T)) (answers : List (Reply T)) (state : State T)
+      (names : Naming) (lent : List (ℕ × LentSlot)) (held : List (ℕ × Taken)) (ports : ServicePorts T U) (service : Service T)
+      (number : ℕ) (port : PublisherPort T U) → Runs types choices buffer asked new_state answers state
+      → find (λ other. is_some (publisher_in (names.publisher number) other)) state.services ≡ Some service
+      → StandsFor names lent held buffer ports service → IsApart ports → AreAllowed ports
+      → port_of number ports.publishers ≡ Some port → port.stands ≡ true → port.seen ≡ ports.subscriber_list.changes
+      → slots_always_enough ports port ≤ port.sender.uses.size → IsAmple port

@@ -105,6 +105,10 @@ pub fn headers_are_as_sent<T, U, O: Overrides, B: Decides + Degrades>(
 /// An open publisher has at most twice as many live connections as subscribers may be listed. Once the publisher has seen all changes of
 /// the list, as after each update, it has at most as many as may be listed, if the service is one of a run of the machine. No two places
 /// may be tied to one connection, as it is after any calls (`iox_domain::port_laws::messages::at_most_once`).
+///
+/// So the slots of the agreement's worst case are enough for each loan that fits, once the publisher has seen all changes, and where no
+/// connection ended of which samples are still held; such a connection takes the slots of one subscriber more. Sizes are as agreed after
+/// any calls (`iox_domain::port_laws::service::sizes_agree`).
 pub fn connections_are_few<T: Default, U, B: Decides + Degrades, D: Degrades>()
     ensures { (handed : Handed B D) → ConnectionsAreFew T U (chosen_by T.is_default (λ who. B.decides who)
         (λ who. B.degrades who) (λ who. D.degrades who) handed) }

@@ -14,13 +14,12 @@ use Rattle.iox_machine.specs.Choices.{Choices}
 use Rattle.iox_machine.specs.Factories.{Negotiates}
 use Rattle.iox_machine.specs.MeanwhileLaws.{CreationAnswersThen, CreationsAnswerMeanwhile, NodesAnswerSo, OpeningsAnswerMeanwhile}
 use Rattle.iox_machine.specs.MeanwhileLaws.{LockAnswers, RegisteringAnswers, RoundAnswers, RoundsAnswer, phase_before}
-use Rattle.iox_machine.specs.Negotiation.{Access, Answer, Call, CreateLooks, Creates, Fails, Locks, OpenLooks, OpensFound, Rounds}
+use Rattle.iox_machine.specs.Negotiation.{Access, Answer, Call, CreateLooks, Creates, Fails, Locks, OpenLooks, Rounds}
 use Rattle.iox_machine.specs.Negotiation.{registered}
 use Rattle.iox_machine.specs.OnceLaws.{is_skipped}
 use Rattle.iox_machine.specs.Phase.{Absent, BeingMade, Emptied, Node, Own, Phase, Published, entered, is_in}
 use Rattle.iox_machine.specs.Refusals.{create_refusal, open_refusal}
 use Rattle.iox_machine.specs.ServiceReplyLaws.{create_told, open_told, unfit_told}
-use Rattle.iox_machine.specs.State.{State}
 use Rattle.iox_command.specs.NegotiateBase.DescribeBase.Attributes.{Required}
 use Rattle.iox_command.specs.NegotiateBase.DescribeBase.declared.message_type.MessageTypeDetails.{MessageTypeDetails}
 use Rattle.iox_command.specs.NegotiateBase.DescribeBase.declared.pattern.MessagingPattern.{MessagingPattern}
@@ -38,9 +37,7 @@ use Rattle.iox_command.specs.NegotiateBase.declared.failure.CreateFailure.TheVar
 use Rattle.iox_command.specs.NegotiateBase.declared.failure.OpenFailure.{OpenFailure}
 use Rattle.iox_command.specs.NegotiateBase.declared.failure.OpenFailure.TheVariants as unopened
 use Rattle.iox_command.specs.Patterns.{pattern_of}
-use Rattle.iox_command.specs.declared.refusal.HubError.TheVariants.{OutOfMemory}
 use Rattle.iox_command.specs.declared.refusal.Refusal.{Refusal}
-use Rattle.iox_command.specs.declared.refusal.Refusal.TheVariants as refusal
 use Rattle.iox_command.specs.declared.reply.Reply.{Reply}
 use Rattle.iox_command.specs.declared.reply.Reply.TheVariants as reply
 use Rattle.iox_command.specs.declared.service.ServiceOptions.{ServiceOptions}

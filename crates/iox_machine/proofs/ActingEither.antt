@@ -1,6 +1,6 @@
 -- What `open_or_create` answers while other nodes act.
 use Rattle.std.proofs.Common.{◌≡◌, ◌⊎◌, ◌+◌, ℕ, zero, suc, Bool, true, false, ◌||◌, List, length, Option, None, Some, Result, Ok, Err, refl}
-use Rattle.std.proofs.Common.{sym, ap, subst, inl, inr, ◌∙◌}
+use Rattle.std.proofs.Common.{ap, subst, inl, inr, ◌∙◌}
 use Rattle.std.specs.Prelude.{◌==◌, nat_lt, MatchBool, MatchOption, MatchResult}
 use Rattle.iox_machine.proofs.Acting.{OpenLacks, Opening, open-lacking, round-answers}
 use Rattle.iox_machine.proofs.Acting as acting
@@ -16,7 +16,6 @@ use Rattle.iox_machine.specs.Negotiation.{Access, Answer, Call, EitherLooks, Fai
 use Rattle.iox_machine.specs.Phase.{Absent, BeingMade, Emptied, Own, Phase, Published, is_in}
 use Rattle.iox_machine.specs.Refusals.{create_refusal, either_refusal, open_refusal}
 use Rattle.iox_machine.specs.ServiceReplyLaws.{create_told, open_told, told_within, unfit_told}
-use Rattle.iox_machine.specs.State.{State}
 use Rattle.iox_command.specs.NegotiateBase.DescribeBase.Attributes.{Required}
 use Rattle.iox_command.specs.NegotiateBase.DescribeBase.declared.message_type.MessageTypeDetails.{MessageTypeDetails}
 use Rattle.iox_command.specs.NegotiateBase.DescribeBase.declared.pattern.MessagingPattern.{MessagingPattern}

@@ -1,31 +1,34 @@
 -- In every run what is borrowed of a connection is what samples hold of it.
-use Rattle.std.proofs.Common.{◌≡◌, ◌≤◌, ◌⊎◌, ◌+◌, ℕ, Bool, true, false, cond, not, ◌&&◌, List, [], ◌∷◌, ◌++◌, length, map, take, drop}
+use Rattle.std.proofs.Common.{◌≡◌, ◌≤◌, ◌+◌, ℕ, Bool, true, false, cond, not, ◌&&◌, List, [], ◌∷◌, ◌++◌, length, map}
 use Rattle.std.proofs.Common.{Option, None, Some, refl, sym, ap, subst, inl, inr, arith, ◌∙◌, true≢false, append-nil}
-use Rattle.std.proofs.lemmas.Bool.{and_from, cases_Bool, eq-eqb, eqb-false, eqb-true}
+use Rattle.std.proofs.lemmas.Bool.{and_from, eq-eqb, eqb-true}
 use Rattle.std.proofs.lemmas.List.{map-append}
-use Rattle.std.specs.Global.{Vec}
 use Rattle.std.specs.List.{AllByRecursion, cons_option}
-use Rattle.std.specs.Prelude.{◌==◌, filter, filter_map, find, is_some, option_and_then, option_map, slice_get, unwrap_or, MatchOption}
-use Rattle.std.specs.Vec.{vec_items}
+use Rattle.std.specs.Prelude.{◌==◌, filter, filter_map, find, is_some, option_and_then, option_map, slice_get, unwrap_or}
 use Rattle.iox_machine.proofs.Borrowed.{is-borrowed}
-use Rattle.iox_machine.proofs.Cases.{both-true, by-option, never-some, same-some}
+use Rattle.iox_machine.proofs.Cases.{both-true, never-some, same-some}
 use Rattle.iox_machine.proofs.Counted.{numbers-go-up, standing, step-passes, times-append, told-once}
-use Rattle.iox_machine.proofs.Counts.{of_told, one_if, times}
-use Rattle.iox_machine.proofs.Frames.{box-same, subscriber-comes, subscriber-stands}
+use Rattle.iox_machine.proofs.Counts.{of_told, one_if, times, times-filtered}
+use Rattle.iox_machine.proofs.Frames.{subscriber-stands}
 use Rattle.iox_machine.proofs.Limiting.{there-few}
-use Rattle.iox_machine.proofs.Lists.{all-both, all-weaker}
-use Rattle.iox_machine.proofs.Moving.{at-one, at-one-keeps, replaced-keeps}
+use Rattle.iox_machine.proofs.Lists.{all-weaker}
+use Rattle.iox_machine.proofs.MoveForms.{Loud, Loudly, Walk}
+use Rattle.iox_machine.proofs.MoveForms as move
+use Rattle.iox_machine.proofs.MoveLaws.{becomes-keeps}
+use Rattle.iox_machine.proofs.MoveSteps.{step-moves}
+use Rattle.iox_machine.proofs.Moves.{IsTold, Walks}
+use Rattle.iox_machine.proofs.Moving.{at-one, replaced-keeps}
 use Rattle.iox_machine.proofs.Once.{messages-once}
 use Rattle.iox_machine.proofs.OrderLaws.{fresh-numbers, noted-more}
+use Rattle.iox_machine.proofs.OrderMoves.{receives_none}
 use Rattle.iox_machine.proofs.OrderSends.{first-fresh}
 use Rattle.iox_machine.proofs.OrderSteps.{noted}
-use Rattle.iox_machine.proofs.Resting.{Rests, is_resting, rests-attending, rests-attends, rests-both, rests-same, rests-subscriber}
-use Rattle.iox_machine.proofs.Resting.{step-rests}
+use Rattle.iox_machine.proofs.Resting.{Rests, rests-attending, rests-attends, rests-both, rests-loud, rests-quiets, rests-same}
+use Rattle.iox_machine.proofs.Resting.{rests-subscriber}
 use Rattle.iox_machine.proofs.Runs.{AnyMessage, AreSound, Numbered, all-found, runs-numbered}
-use Rattle.iox_machine.proofs.Shorthands.{IsRefused, IsSkipped, given_back, registered, taken, with_subscriber}
+use Rattle.iox_machine.proofs.Shorthands.{given_back, taken, with_subscriber}
 use Rattle.iox_machine.proofs.Sized.{sizes-agreed}
 use Rattle.iox_machine.proofs.Tables.{at-appended}
-use Rattle.iox_machine.specs.Arriving.{SubscriberArrives, new_subscriber}
 use Rattle.iox_machine.specs.BorrowedLaws.{IsBorrowed}
 use Rattle.iox_machine.specs.Choices.{Choices}
 use Rattle.iox_machine.specs.HeldLaws.{HeldIsBorrowed, held_from}
@@ -34,11 +37,11 @@ use Rattle.iox_machine.specs.Message.{Message, Sample}
 use Rattle.iox_machine.specs.MessageLaws.{first_in, received_by, received_from}
 use Rattle.iox_machine.specs.NumberLaws.{numbers_in, sample_told}
 use Rattle.iox_machine.specs.Ports.{Releases, subscriber_in}
-use Rattle.iox_machine.specs.Receiving.{Receives, Takes, has_samples, lasting}
+use Rattle.iox_machine.specs.Receiving.{Receives, lasting}
 use Rattle.iox_machine.specs.Run.{Runs, Step}
 use Rattle.iox_machine.specs.RunLaws.{CameAs, IsWithinSizes}
 use Rattle.iox_machine.specs.Service.{Service, Subscriber, mailbox, new_service, with_mailbox}
-use Rattle.iox_machine.specs.State.{AtOne, State, counted, is_service_of, new_state, replaced}
+use Rattle.iox_machine.specs.State.{Factory, State, counted, new_state, replaced}
 use Rattle.iox_machine.specs.SubscriberUpdate as subscribing
 use Rattle.iox_machine.specs.Table.{at, removed}
 use Rattle.iox_command.specs.DomainValues.declared.port_error.ReceiveError.TheVariants as receive_error
@@ -46,7 +49,6 @@ use Rattle.iox_command.specs.NegotiateBase.DescribeBase.declared.message_type.Me
 use Rattle.iox_command.specs.NegotiateBase.DescribeSettings.declared.static_config.publish_subscribe.StaticConfig.{StaticConfig}
 use Rattle.iox_command.specs.declared.command.Command.{Command}
 use Rattle.iox_command.specs.declared.command.Command.TheVariants as command
-use Rattle.iox_command.specs.declared.refusal.Refusal.{Refusal}
 use Rattle.iox_command.specs.declared.refusal.Refusal.TheVariants as refusal
 use Rattle.iox_command.specs.declared.reply.Reply.{Reply}
 use Rattle.iox_command.specs.declared.reply.Reply.TheVariants as reply
@@ -470,27 +472,49 @@ module _ {T : Type 0} (p s : ℕ) where
   abbrev AllHold : List (Message T) → State T → Type 0
   AllHold received state = AllByRecursion (Holds received) state.services
 
-  module _ (types : MessageTypeDetails) (choices : Choices T) (buffer : ℕ) where
-    holds-comes : (received : List (Message T)) (number : ℕ) (one : Subscriber) (old : Service T) (answer : Reply T) (new : Service T)
-        → SubscriberArrives buffer number one old answer new → Holds received old → Holds received new
-    holds-comes received number one old answer new h holds =
-        elim (subscriber-comes buffer number one old answer new h) [
-          | inl same ↦ subst (Holds received) (sym same) holds
-          | inr w ↦ subst (Holds received) (sym w.4)
-              (came w.0 w.1 w.2 (rests-attends buffer number one more w.1 w.2 w.3))
-        ]
+  -- Besides, no two samples go by one number.
+  abbrev HoldsApart : List (Message T) → Service T → Type 0
+  HoldsApart received service = Holds received service × ((sample : ℕ) → times sample (numbers_in service.samples) ≤ 1)
+
+  apart-rests : (received : List (Message T)) (old new : Service T) → Rests old new → HoldsApart received old → HoldsApart received new
+  apart-rests received old new on (holds, once) = (
+    holds-rests received old new on holds,
+    (λ sample. subst (λ (l : List (ℕ × Sample T)). times sample (numbers_in l) ≤ 1) (sym on.1) (once sample)),
+  )
+
+  module _ (received : List (Message T)) (asked : Command T) (state : State T) (answer : Reply T) (none : receives_none asked ≡ true)
+      (few : (number : ℕ) → times number (numbers_of received) ≤ 1) where
+    apart-loud : (factories : List (ℕ × Factory)) (one : Loud T) (old new : Service T) → IsTold asked state answer one
+        → Loudly factories one old new → HoldsApart received old → HoldsApart received new
+    apart-loud factories (move.Takes number sample) old new told did apart =
+        absurd (true≢false (sym none ∙ ap (λ (it : Command T). receives_none it) told.0))
+    apart-loud factories (move.Releases number sample) old new told (found, came) (holds, once) = (
+      holds-released received number sample old reply.Done new found (once number) few (refl, came) holds,
+      (λ n. subst (λ (it : Service T). times n (numbers_in it.samples) ≤ 1) (sym came)
+          (up (times n (numbers_in (removed number old.samples))) (times n (numbers_in old.samples))
+          (times-filtered n (λ (entry : ℕ × Sample T). not (entry.0 == number)) old.samples) (once n))),
+    )
       where
-        more : Service T
-        more = record old { subscribers = old.subscribers ++ (number, one) ∷ [] }
+        up : (x y : ℕ) → x ≤ y → y ≤ 1 → x ≤ 1
+        up x y h k = omega (arith, h, k)
+    apart-loud factories (move.Subscribes buffer place number options one after) old new told
+        (open_one, (made, small, free, mid, did, listed), turned, came) (holds, once) =
+        let more : Service T = record old { subscribers = old.subscribers ++ (number, one) ∷ [] } in
+        let on : Rests (with_subscriber number after more) mid = rests-attends buffer number one more after mid did in
+        subst (HoldsApart received) (sym listed)
+        (apart-rests received (with_subscriber number after more) mid on ((holds.0, holds.1), once))
+    apart-loud factories other old new told did apart =
+        apart-rests received old new (rests-loud factories other old new refl did) apart
 
-        came : (place : ℕ) (after : Subscriber) (mid : Service T) → Rests (with_subscriber number after more) mid
-            → Holds received (record mid { subscriber_list = registered place number mid.subscriber_list })
-        came place after mid on = (
-          on.0 p s ∙ (holds.0 ∙ ap held (sym on.1)),
-          (λ n. subst (λ (l : List (Message T)).
-              times n (numbers_of l) ≤ times n (numbers_of received)) (sym (on.0 p s)) (holds.1 n)),
-        )
+    apart-walk : (factories : List (ℕ × Factory)) (loud : List (Loud T)) (old new : Service T)
+        → AllByRecursion (IsTold asked state answer) loud → Walk factories loud old new → HoldsApart received old
+        → HoldsApart received new
+    apart-walk factories [] old new told h apart = apart-rests received old new (rests-quiets old new h) apart
+    apart-walk factories (one ∷ more) old new told h apart =
+        apart-walk factories more h.1 new told.1 h.4
+        (apart-loud factories one h.0 h.1 told.0 h.3 (apart-rests received old h.0 (rests-quiets old h.0 h.2) apart))
 
+  module _ (types : MessageTypeDetails) (choices : Choices T) (buffer : ℕ) where
     -- what is received, and what isn't
     unreceived : (received : List (Message T)) (number : ℕ) (answer : Reply T) (old new : State T)
         → received_by p s (command.Receive number) answer new ≡ None → AllHold received new
@@ -569,6 +593,18 @@ module _ {T : Type 0} (p s : ℕ) where
                 (holds-taken received number (old.made.samples + 1) publisher took.0 swept after took.2 took.5
                 (holds-rests received service swept rested holds))
 
+    -- a step by which nothing is received
+    step-rests : (received : List (Message T)) (asked : Command T) (old : State T) (answer : Reply T) (new : State T)
+        → receives_none asked ≡ true
+        → ((number : ℕ) → times number (standing (λ (service : Service T). service.samples) old.services) ≤ 1)
+        → ((number : ℕ) → times number (numbers_of received) ≤ 1)
+        → Step types choices buffer asked old answer new → AllHold received old → AllHold received new
+    step-rests received asked old answer new none once few h all =
+        (becomes-keeps (Walks asked old answer) (Holds received) (holds-new received) asked old answer new
+        (λ has service after first walks holds. (apart-walk received asked old answer none few old.factories walks.0 service after walks.1.5
+        walks.2 (holds, (λ sample. there-few (λ (it : Service T). it.samples) sample 1 has service old.services first (once sample)))).0)
+        (step-moves types choices buffer asked old answer new h) all).0
+
     step-holds : (received : List (Message T)) (asked : Command T) (old : State T) (answer : Reply T) (new : State T)
         → AllByRecursion (λ (other : Service T). at (old.made.samples + 1) other.samples ≡ None) old.services
         → ((number : ℕ) → times number (standing (λ (service : Service T). service.samples) old.services) ≤ 1)
@@ -577,29 +613,7 @@ module _ {T : Type 0} (p s : ℕ) where
         → AllHold (noted received (received_by p s asked answer new)) new
     step-holds received (command.Receive number) old answer new fresh once apart h all =
         step-receives received number old answer new fresh h all
-    step-holds received (command.Release sample) old answer new fresh once apart h all =
-        (at-one-keeps (Holds received) (Holds received) (λ (service : Service T). at sample service.samples)
-        (Releases sample) old answer new
-        (λ it holds. holds)
-        (λ one service after first found did holds. holds-released received sample one service answer after found
-        (there-few (λ (it : Service T). it.samples) sample 1 (λ (other : Service T). is_some (at sample other.samples)) service old.services
-        first (once sample)) apart did holds) h all).0
-    step-holds received (command.Subscriber factory options) old answer new fresh once apart h all =
-        elim (by-option (at factory old.factories) (IsSkipped old answer new)
-        (λ of_it. AtOne (λ (service : Service T). cond (is_service_of of_it service) (Some service) None)
-        (λ (service : Service T) (it : Service T) (told : Reply T) (after : Service T). SubscriberArrives buffer (old.made.subscribers + 1)
-        (new_subscriber factory options it.settings) it told after) old answer new) h) [
-          | inl w ↦ subst (AllHold received) (sym w.1.1) all
-          | inr w ↦ (at-one-keeps (Holds received) (Holds received)
-              (λ (service : Service T). cond (is_service_of w.0 service) (Some service) None)
-              (λ (service : Service T) (it : Service T) (told : Reply T) (after : Service T).
-              SubscriberArrives buffer (old.made.subscribers + 1) (new_subscriber factory options it.settings) it told after) old answer new
-              (λ it holds. holds)
-              (λ one service after first found did holds. holds-comes received (old.made.subscribers + 1)
-              (new_subscriber factory options service.settings) service answer after did holds) w.2 all).0
-        ]
-    step-holds received asked old answer new fresh once apart h all =
-        step-rests (Holds received) (holds-rests received) (holds-new received) types choices buffer asked old answer new refl h all
+    step-holds received asked old answer new fresh once apart h all = step-rests received asked old answer new refl once apart h all
 
     -- ---- a run
 

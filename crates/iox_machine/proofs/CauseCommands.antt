@@ -1,4 +1,5 @@
 -- What a subscriber is due to get from a publisher stays so in each step, and what is lost to it in one is lost for a cause.
+use Rattle.iox_machine.proofs.Moves.{begun-loan, first-is, unbegun-loan}
 use Rattle.std.proofs.Common.{◌≡◌, ◌⊎◌, ℕ, Bool, true, false, cond, not, ◌&&◌, List, [], ◌∷◌, ◌++◌, length, map, replicate, Option, None}
 use Rattle.std.proofs.Common.{Some, refl, sym, ap, subst, inl, inr, ◌∙◌}
 use Rattle.std.proofs.lemmas.Bool.{and_from, and_right, cases_Bool, eqb-true, eqb-false, true≢false}
@@ -28,7 +29,6 @@ use Rattle.iox_machine.proofs.Moving.{at-one, replaced-keeps}
 use Rattle.iox_machine.proofs.Order.{BetweenOf, lends-between, lends-free, lends-stands}
 use Rattle.iox_command.specs.DomainValues.Sequences.{next_sequence}
 use Rattle.iox_machine.proofs.OrderLaws.{one-found}
-use Rattle.iox_machine.proofs.OrderRuns.{begun-loan, first-is, unbegun-loan}
 use Rattle.iox_machine.proofs.OrderSteps.{Alike, IsOrdered, alike-by, alike-refused, alike-soft, between-found, noted}
 use Rattle.iox_machine.proofs.Runs.{all-found}
 use Rattle.iox_machine.proofs.Tables.{at-changed}

@@ -30,11 +30,11 @@ use Rattle.iox_machine.proofs.Lists.{all-weaker}
 use Rattle.iox_machine.proofs.Losses.{left-out}
 use Rattle.iox_machine.proofs.Order.{BetweenOf, absurd-both, follows-between, follows-publishers, lends-between}
 use Rattle.iox_machine.proofs.OrderLaws.{all-behind}
-use Rattle.iox_machine.proofs.OrderRuns.{first-is}
+use Rattle.iox_machine.proofs.Moves.{first-is}
 use Rattle.iox_machine.proofs.OrderSteps.{IsOfOne, Lacks}
 use Rattle.iox_machine.proofs.Parts.{Once}
 use Rattle.iox_machine.proofs.Runs.{all-found}
-use Rattle.iox_machine.proofs.Steps.{beginning-told}
+use Rattle.iox_machine.proofs.Moves.{beginning-told}
 use Rattle.iox_machine.proofs.Tables.{at-changed}
 use Rattle.iox_command.specs.DomainValues.Sequences.{next_sequence}
 use Rattle.iox_command.specs.DomainValues.declared.backpressure.BackpressureDecision.{BackpressureDecision}

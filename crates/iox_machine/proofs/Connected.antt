@@ -26,7 +26,7 @@ use Rattle.iox_machine.proofs.Runs.{all-found}
 use Rattle.iox_machine.proofs.Stands.{each-false}
 use Rattle.iox_machine.proofs.Tables.{at-appended, at-appended-other}
 use Rattle.iox_machine.proofs.Totals.{total, total-filtered, total-open, total-replaced}
-use Rattle.iox_machine.proofs.WalkSteps.{Comes, Moved, step-comes}
+use Rattle.iox_machine.proofs.Walks.{Comes, Moved, step-comes}
 use Rattle.iox_command.specs.NegotiateBase.DescribeBase.declared.message_type.MessageTypeDetails.{MessageTypeDetails}
 use Rattle.iox_command.specs.NegotiateBase.DescribeSettings.declared.static_config.publish_subscribe.StaticConfig.{StaticConfig}
 use Rattle.iox_command.specs.declared.command.Command.{Command}
@@ -415,7 +415,20 @@ module _ {T : Type 0} where
         t : Turned more mid
         t = turned-walks.follows (made.publishers + 1) one more then mid
             (at-appended (made.publishers + 1) one service.publishers (fresh-publisher made service l)) followed
-    reach-links made service answer after came l (inr (inr (inl (buffer, factory, options, place, then, mid, free, followed, told, is)))) =
+    reach-links made service answer after came l (inr (inr (inl (
+      buffer,
+      factory,
+      options,
+      (
+        place,
+        free,
+        then,
+        mid,
+        followed,
+        told,
+        is,
+      ),
+    )))) =
         subst (λ (it : Service T). Links (reach p s service) (has_publisher service) (subscriber_listed s service) (reach p s it)
         (has_publisher it) (subscriber_listed s it)) (sym is) (
           (t.reached p s (λ was. (l.reached p s was).0)).0,
@@ -496,7 +509,7 @@ module _ {T : Type 0} where
             ∙ apart (made.publishers + 1) p (publisher_listed p service)
             (not-next p made.publishers (leb-true p made.publishers
             (both-true (nat_le p made.publishers) (nat_le s made.subscribers) came).0)))
-    hear-links made service answer after came l (inr (inr (inl (buffer, factory, options, place, then, mid, free, followed, told, is)))) =
+    hear-links made service answer after came l (inr (inr (inl (buffer, factory, options, (place, free, then, mid, followed, told, is))))) =
         subst (λ (it : Service T). Links (hear p s service) (has_subscriber service) (publisher_listed p service) (hear p s it)
         (has_subscriber it) (publisher_listed p it)) (sym is) (
           subst (λ (b : Bool). Lasts b (publisher_listed p service) (hear p s mid)) (ap (hear_of p) other)

@@ -1,14 +1,12 @@
 -- Settings that aren't named have their defaults, for each pattern.
-use Rattle.std.proofs.Common.{◌≡◌, ℕ, Option, None, Some, refl, arith}
+use Rattle.std.proofs.Common.{Option, None, Some, refl, arith}
 use Rattle.iox_machine.proofs.Called.{named-or}
 use Rattle.iox_machine.proofs.Phases.{creates-as-described}
 use Rattle.iox_machine.specs.Asked.{number_unless_off, settings_of}
 use Rattle.iox_machine.specs.Choices.{Choices}
-use Rattle.iox_machine.specs.DefaultLaws.{AreAsked, CreatesAsAsked, IsNamedOrOff, SettingsAreAsked}
-use Rattle.iox_command.specs.NegotiateBase.DescribeBase.declared.message_type.MessageTypeDetails.{MessageTypeDetails}
+use Rattle.iox_machine.specs.DefaultLaws.{CreatesAsAsked, IsNamedOrOff, SettingsAreAsked}
 use Rattle.iox_command.specs.declared.service.NumberOrOff.{NumberOrOff}
 use Rattle.iox_command.specs.declared.service.NumberOrOff.TheVariants.{Number, Off}
-use Rattle.iox_command.specs.declared.service.ServiceOptions.{ServiceOptions}
 use Rattle.iox_command.specs.declared.service.ServiceOptions.TheVariants as options
 
 named-or-off : (named : Option NumberOrOff) → IsNamedOrOff named (number_unless_off named)

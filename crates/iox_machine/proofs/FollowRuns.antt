@@ -18,7 +18,7 @@ use Rattle.iox_machine.proofs.Frames.{publisher-stands, subscriber-stands}
 use Rattle.iox_machine.proofs.Lists.{all-filtered, all-weaker}
 use Rattle.iox_machine.proofs.Moving.{open-keeps, replaced-keeps}
 use Rattle.iox_machine.proofs.Runs.{all-found}
-use Rattle.iox_machine.proofs.WalkSteps.{Comes, step-comes}
+use Rattle.iox_machine.proofs.Walks.{Comes, step-comes}
 use Rattle.iox_command.specs.NegotiateBase.DescribeBase.declared.message_type.MessageTypeDetails.{MessageTypeDetails}
 use Rattle.iox_command.specs.declared.command.Command.{Command}
 use Rattle.iox_command.specs.declared.reply.Reply.{Reply}

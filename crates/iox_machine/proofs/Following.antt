@@ -21,8 +21,7 @@ use Rattle.iox_machine.proofs.Lists.{all-weaker}
 use Rattle.iox_machine.proofs.Parts.{all-contained}
 use Rattle.iox_machine.proofs.Shorthands.{gone_from, left, now_at, parting, registered, with_publisher, with_subscriber}
 use Rattle.iox_machine.proofs.Updated.{Same, publisher-followed, subscriber-followed}
-use Rattle.iox_machine.proofs.WalkSteps.{Moved, Publishes, Subscribes, Unpublishes, Unsubscribes}
-use Rattle.iox_machine.proofs.Walks.{Walks}
+use Rattle.iox_machine.proofs.Walks.{Moved, Publishes, Subscribes, Unpublishes, Unsubscribes, Walks}
 use Rattle.iox_command.specs.NegotiateBase.DescribeSettings.declared.static_config.publish_subscribe.StaticConfig.{StaticConfig}
 use Rattle.iox_command.specs.declared.reply.Reply.{Reply}
 
@@ -434,7 +433,7 @@ module _ {T : Type 0} (Fails Lacks : PortList → ℕ → ℕ → Type 0) where
 
   up-subscribes : (made : Made) (service : Service T) (answer : Reply T) (new : Service T) → Subscribes made service answer new
       → TellsLacks service → KeepsUp service → KeepsUp new
-  up-subscribes made service answer new (buffer, factory, options, place, after, mid, free, followed, told, is) tells up =
+  up-subscribes made service answer new (buffer, factory, options, (place, free, after, mid, followed, told, is)) tells up =
       subst KeepsUp (sym is) (
         then.0,
         later-publishers mid.subscriber_list (registered place number mid.subscriber_list) refl mid.publishers then.1,

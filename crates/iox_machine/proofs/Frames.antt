@@ -14,7 +14,7 @@ use Rattle.iox_machine.specs.Mailbox.{Mailbox, put, newest}
 use Rattle.iox_machine.specs.Message.{Message, Loan}
 use Rattle.iox_machine.specs.RunLaws.{is_written, sent_as}
 use Rattle.iox_machine.specs.PortList.{those}
-use Rattle.iox_machine.specs.Ports.{publisher_in, subscriber_in, LendsLoan, Puts, SendsLoan, Writes}
+use Rattle.iox_machine.specs.Ports.{publisher_in, subscriber_in, LendsLoan, Puts, SendsLoan}
 use Rattle.iox_machine.specs.PublisherUpdate as publishing
 use Rattle.iox_machine.specs.Sending.{GoesOn, Begins, Sends}
 use Rattle.iox_machine.specs.Service.{Service, Publisher, Subscriber, Send, mailbox, with_mailbox, connect}
@@ -481,14 +481,6 @@ module _ {T : Type 0} where
             ]
       ]
 
-  -- who writes a loan writes nothing else
-  pub by-writes : (number loan : ℕ) (one : Loan T) (fit : Bool) (values : List (Option T)) (old : Service T) (answer : Reply T)
-      (new : Service T) → Writes loan one fit values old answer new → ByPublisher number old new
-  by-writes number loan one true values old answer new h =
-      subst (λ (s : Service T). ByPublisher number old s) (sym h.1) (by-none number old)
-  by-writes number loan one false values old answer new h =
-      subst (λ (s : Service T). ByPublisher number old s) (sym h.1) (by-none number old)
-
   abbrev pub PublisherComes : ℕ → Publisher T → Service T → Reply T → Service T → Type 0
   PublisherComes number one old answer new =
       (place : ℕ) × (slice_get old.publisher_list.places place ≡ Some None) × (after : Publisher T) × (mid : Service T)
@@ -501,7 +493,8 @@ module _ {T : Type 0} where
       → (new ≡ old)
       ⊎ ((place : ℕ) × (after : Publisher T) × (mid : Service T)
       × publishing.Follows number one (record old { publishers = old.publishers ++ (number, one) ∷ [] }) after mid
-      × (new ≡ record mid { publisher_list = registered place number mid.publisher_list }) × (answer ≡ reply.PublisherMade number))
+      × (new ≡ record mid { publisher_list = registered place number mid.publisher_list }) × (answer ≡ reply.PublisherMade number)
+      × (slice_get old.publisher_list.places place ≡ Some None))
   publisher-comes number one old answer new h =
       elim (by-bool (nat_le (2 ^ 32) (worst_case old.settings one.max_loaned_samples) || nat_le (2 ^ 32) one.room)
       (IsRefused (refusal.Publisher publisher_error.UnableToCreateDataSegment) old answer new)
@@ -524,9 +517,10 @@ module _ {T : Type 0} where
           → (new ≡ old)
           ⊎ ((place : ℕ) × (after : Publisher T) × (mid : Service T)
           × publishing.Follows number one (record old { publishers = old.publishers ++ (number, one) ∷ [] }) after mid
-          × (new ≡ record mid { publisher_list = registered place number mid.publisher_list }) × (answer ≡ reply.PublisherMade number))
+          × (new ≡ record mid { publisher_list = registered place number mid.publisher_list }) × (answer ≡ reply.PublisherMade number)
+          × (slice_get old.publisher_list.places place ≡ Some None))
       comes (inl refused) = inl refused.1
-      comes (inr (place, free, after, mid, came, told, is)) = inr (place, after, mid, came, is, told)
+      comes (inr (place, free, after, mid, came, told, is)) = inr (place, after, mid, came, is, told, free)
 
   pub by-publisher-arrives : (number : ℕ) (one : Publisher T) (old : Service T) (answer : Reply T) (new : Service T)
       → PublisherArrives number one old answer new → ByPublisher number old new

@@ -6,7 +6,7 @@ use Rattle.std.specs.Global.{Vec}
 use Rattle.std.specs.List.{AllByRecursion, list_any, list_all}
 use Rattle.std.specs.Prelude.{◌==◌, nat_lt, nat_le, is_some, filter, find, fold, slice_get, unwrap_or, zip, MatchBool, MatchOption}
 use Rattle.std.specs.Vec.{vec_items}
-use Rattle.iox_machine.proofs.Shorthands.{left, now_at, parting, registered, taken, with_subscriber}
+use Rattle.iox_machine.proofs.Shorthands.{now_at, parting, registered, taken, with_subscriber}
 use Rattle.iox_machine.proofs.Shorthands.{has_data, AtFree, AtBlocked, gone_from}
 use Rattle.iox_machine.proofs.Shorthands.{is_used_up}
 use Rattle.iox_machine.proofs.Arrived.{free-place}
@@ -22,7 +22,6 @@ use Rattle.iox_machine.specs.Choices.{Choices}
 use Rattle.iox_machine.proofs.AlwaysChosen.{answers-go, delivers-goes}
 use Rattle.iox_machine.proofs.Delivering.{Outcomes, keeping, sending}
 use Rattle.iox_machine.specs.PublisherUpdate.{UpdateAnswers}
-use Rattle.iox_machine.specs.Agreement.{unfit}
 use Rattle.iox_machine.specs.Arriving.{PublisherArrives, SubscriberArrives, worst_case}
 use Rattle.iox_machine.specs.Closing.{Closes, is_used_by}
 use Rattle.iox_machine.specs.Factories.{Negotiates, Enters}
@@ -58,7 +57,6 @@ use Rattle.iox_command.specs.DomainValues.declared.port_error.ReceiveError.TheVa
 use Rattle.iox_command.specs.DomainValues.declared.port_error.SendError.TheVariants as error
 use Rattle.iox_command.specs.NegotiateBase.DescribeBase.declared.message_type.MessageTypeDetails.{MessageTypeDetails}
 use Rattle.iox_command.specs.NegotiateBase.declared.errors.close.CloseError.TheVariants.{StillInUse}
-use Rattle.iox_command.specs.declared.refusal.HubError.TheVariants.{OutOfMemory}
 use Rattle.iox_command.specs.declared.refusal.Refusal.{Refusal}
 use Rattle.iox_command.specs.declared.refusal.Refusal.TheVariants as refusal
 use Rattle.iox_command.specs.declared.reply.Reply.{Reply}

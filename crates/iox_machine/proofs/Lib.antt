@@ -7,10 +7,13 @@ mod AlwaysChosen
 mod Unfit
 mod Lists
 mod Sound
+mod MoveForms
+mod MoveLaws
+mod Moves
+mod MoveSteps
 mod Moving
 mod Steps
 mod Runs
-mod Skips
 mod RefusedWhole
 mod Tables
 mod Frames
@@ -21,6 +24,7 @@ mod Order
 mod OrderSteps
 mod OrderPorts
 mod OrderRuns
+mod OrderMoves
 mod OrderSends
 mod OrderCommands
 mod OrderLaws
@@ -77,7 +81,6 @@ mod Sized
 mod Taken
 mod RefusedCalls
 mod Walks
-mod WalkSteps
 mod Linking
 mod Listed
 mod Connected

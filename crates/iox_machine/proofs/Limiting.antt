@@ -1,48 +1,31 @@
 -- What stays of loans and of their limits.
-use Rattle.std.proofs.Common.{◌≡◌, ◌≤◌, ◌<◌, ◌⊎◌, ◌+◌, ℕ, Bool, true, false, cond, not, ◌&&◌, List, [], ◌∷◌, ◌++◌, length}
+use Rattle.std.proofs.Common.{◌≡◌, ◌≤◌, ◌<◌, ◌+◌, ℕ, Bool, true, false, cond, not, List, [], ◌∷◌, ◌++◌, length}
 use Rattle.std.proofs.Common.{Option, None, Some, refl, sym, ap, subst, inl, inr, arith, ◌∙◌, true≢false}
-use Rattle.std.proofs.lemmas.Bool.{cases_Bool, eqb-false, eqb-true}
-use Rattle.std.specs.List.{AllByRecursion}
-use Rattle.std.specs.Prelude.{◌==◌, filter, find, is_some, option_map, replicate, slice_get, zip, MatchBool}
-use Rattle.std.specs.Prelude.{MatchOption}
-use Rattle.iox_machine.proofs.Cases.{by-bool, by-option, same-some}
+use Rattle.std.proofs.lemmas.Bool.{cases_Bool, eqb-false, eqb-true, or_parts}
+use Rattle.std.specs.List.{AllByRecursion, list_any}
+use Rattle.std.specs.Prelude.{◌==◌, filter, find, is_some, option_map}
+use Rattle.iox_machine.proofs.Cases.{same-some}
 use Rattle.iox_machine.proofs.Counted.{standing, times-append}
 use Rattle.iox_machine.proofs.Counts.{one_if, times}
-use Rattle.iox_machine.proofs.Delivering.{Outcomes, by-outcome, by-send, keeping, sending}
-use Rattle.iox_machine.proofs.Frames.{publisher-comes, soft-followed, subscriber-comes}
+use Rattle.iox_machine.proofs.Delivering.{keeping, sending}
 use Rattle.iox_machine.proofs.Lent.{lent-or-refused}
 use Rattle.iox_machine.proofs.Lists.{all-at, all-changed, all-filtered, all-joined, all-weaker}
-use Rattle.iox_machine.proofs.Nexts.{same-subscriber-follows}
-use Rattle.iox_machine.proofs.Order.{follows-publishers}
-use Rattle.iox_machine.proofs.RefusedPorts.{lends-alike}
-use Rattle.iox_machine.proofs.Shorthands.{IsRefused, IsSkipped, with_publisher}
+use Rattle.iox_machine.proofs.MoveForms.{Loud, Loudly, Quiets, Walk, has_port, is_port, is_write, writes_late}
+use Rattle.iox_machine.proofs.MoveForms as move
+use Rattle.iox_machine.proofs.MoveLaws.{Lasts, by-quiets}
+use Rattle.iox_machine.proofs.Once.{AreSingle}
+use Rattle.iox_machine.proofs.Shorthands.{with_publisher}
 use Rattle.iox_machine.proofs.Tables.{at-appended, at-changed, at-changed-other, at-kept}
-use Rattle.iox_machine.proofs.Through.{attended-loans, attended-ports, keeps-loans, keeps-ports}
 use Rattle.iox_machine.proofs.Totals.{total, total-part}
-use Rattle.iox_machine.specs.Arriving.{PublisherArrives, SubscriberArrives}
-use Rattle.iox_machine.specs.Choices.{Choices}
-use Rattle.iox_machine.specs.Lending.{Lends}
 use Rattle.iox_machine.specs.LoanLaws.{IsLentOrRefused}
-use Rattle.iox_machine.specs.Mailbox.{Mailbox, put}
-use Rattle.iox_machine.specs.Message.{Loan, Message}
+use Rattle.iox_machine.specs.Message.{Loan}
 use Rattle.iox_machine.specs.NumberLaws.{numbers_in}
-use Rattle.iox_machine.specs.Ports.{LendsLoan, Puts, SendsLoan, Writes}
-use Rattle.iox_machine.specs.PublisherUpdate as publishing
-use Rattle.iox_machine.specs.RefusalLaws.{KeepsPorts, publisher_staying}
-use Rattle.iox_machine.specs.RunLaws.{is_written, sent_as}
-use Rattle.iox_machine.specs.Sending.{Begins, Delivers, GoesOn, MayDecide, Sends}
-use Rattle.iox_machine.specs.Service.{Publisher, Send, Service, Subscriber, mailbox, with_mailbox}
-use Rattle.iox_machine.specs.SubscriberUpdate as subscribing
-use Rattle.iox_machine.specs.Table.{at, changed, removed}
-use Rattle.iox_command.specs.DomainValues.declared.backpressure.BackpressureDecision.TheVariants.{Retry, DiscardData, DiscardDataAndFail}
-use Rattle.iox_command.specs.DomainValues.declared.connection_failure.ConnectionFailure.{ConnectionFailure}
+use Rattle.iox_machine.specs.Service.{Publisher, Service}
+use Rattle.iox_machine.specs.State.{Factory}
+use Rattle.iox_machine.specs.Table.{at, changed}
 use Rattle.iox_command.specs.DomainValues.declared.port_error.LoanError.{LoanError}
 use Rattle.iox_command.specs.DomainValues.declared.port_error.LoanError.TheVariants as lacking
-use Rattle.iox_command.specs.DomainValues.declared.port_error.SendError.TheVariants as error
-use Rattle.iox_command.specs.declared.refusal.Refusal.{Refusal}
-use Rattle.iox_command.specs.declared.refusal.Refusal.TheVariants as refusal
-use Rattle.iox_command.specs.declared.reply.Reply.{Reply}
-use Rattle.iox_command.specs.declared.reply.Reply.TheVariants as reply
+use Rattle.iox_command.specs.declared.port.PublisherOptions.{PublisherOptions}
 
 -- ---- loans by publisher
 
@@ -248,9 +231,6 @@ module _ {T : Type 0} where
   still-itself : (service : Service T) → Still service service
   still-itself service = ((λ number. refl), refl)
 
-  pub still-same : (old new : Service T) → new ≡ old → Still old new
-  still-same old new same = subst (Still old) (sym same) (still-itself old)
-
   still-both : (one two three : Service T) → Still one two → Still two three → Still one three
   still-both one two three h k = ((λ number. k.0 number ∙ h.0 number), k.1 ∙ h.1)
 
@@ -270,141 +250,14 @@ module _ {T : Type 0} where
     refl,
   )
 
-  staying-most : (o : Option (Publisher T)) → option_map most_of (option_map publisher_staying o) ≡ option_map most_of o
-  staying-most None = refl
-  staying-most (Some one) = refl
-
-  still-ports : (old new : Service T) → KeepsPorts old new → new.loans ≡ old.loans → Still old new
-  still-ports old new ports loans = (
-    (λ number. sym (staying-most (at number new.publishers))
-        ∙ (ap (option_map most_of) (ports.5 number) ∙ staying-most (at number old.publishers))),
-    loans,
-  )
-
-  -- ---- sends
-
-  delivers-still : (choices : Choices T) (number : ℕ) (one : Publisher T) (left : List ℕ) (send : Send T) (old : Service T)
-      (after : Send T) (new : Service T) → Delivers choices number one left send old after new
-      → (new.publishers ≡ old.publishers) × (new.loans ≡ old.loans)
-  delivers-still choices number one [] send old after new (is, stays) =
-      (ap (λ (it : Service T). it.publishers) stays, ap (λ (it : Service T). it.loans) stays)
-  delivers-still choices number one (t ∷ more) send old after new h =
-      here (put old.settings.enable_safe_overflow send.message (mailbox number t old))
-      (λ next mid went. delivers-still choices number one more next mid after new went) h
-    where
-      here : (met : Option (Mailbox T))
-          → ((next : Send T) (mid : Service T) → Delivers choices number one more next mid after new
-          → (new.publishers ≡ mid.publishers) × (new.loans ≡ mid.loans))
-          → MatchOption met
-          ((MayDecide choices number one t send old Retry × (after ≡ record send { left = t ∷ more }) × (new ≡ old))
-          ⊎ (MayDecide choices number one t send old DiscardData
-          × Delivers choices number one more (record send { retries = 0; elapsed = 0 }) old after new)
-          ⊎ (MayDecide choices number one t send old DiscardDataAndFail
-          × Delivers choices number one more (record send { retries = 0; elapsed = 0; fails = true }) old after new))
-          (λ box. Delivers choices number one more (record send { retries = 0; elapsed = 0; delivered = send.delivered + 1 })
-          (with_mailbox number t box old) after new)
-          → (new.publishers ≡ old.publishers) × (new.loans ≡ old.loans)
-      here (Some box) on went =
-          on (record send { retries = 0; elapsed = 0; delivered = send.delivered + 1 }) (with_mailbox number t box old) went
-      here None on (inl (may, is, stays)) =
-          (ap (λ (it : Service T). it.publishers) stays, ap (λ (it : Service T). it.loans) stays)
-      here None on (inr (inl (may, went))) = on (record send { retries = 0; elapsed = 0 }) old went
-      here None on (inr (inr (may, went))) = on (record send { retries = 0; elapsed = 0; fails = true }) old went
-
-  pub goes-on-still : (choices : Choices T) (number : ℕ) (was one : Publisher T) (send : Send T) (old : Service T) (answer : Reply T)
-      (new : Service T) → at number old.publishers ≡ Some was → one.max_loaned_samples ≡ was.max_loaned_samples
-      → GoesOn choices number one send old answer new → Still old new
-  goes-on-still choices number was one send old answer new found same (after, mid, went, told, came) =
-      let on = delivers-still choices number one send.left send old after mid went in
-      let now : Publisher T = record one { blocked = cond (is_some (slice_get after.left 0)) (Some after) None } in
-      subst (Still old) (sym came)
-      (still-both old mid (with_publisher number now mid)
-      ((λ n. ap (λ (table : List (ℕ × Publisher T)). option_map most_of (at n table)) on.0), on.1)
-      (still-set number was now mid (ap (at number) on.0 ∙ found) same))
-
-  begins-still : (choices : Choices T) (number : ℕ) (message : Message T) (one : Publisher T) (old : Service T) (answer : Reply T)
-      (new : Service T) → at number old.publishers ≡ Some one → Begins choices number message one old answer new → Still old new
-  begins-still choices number message one old answer new found h =
-      goes-on-still choices number one (keeping message one old) (sending message one) old answer new found refl h
-
-  -- A publisher does something after it updated its connections, or is refused then.
-  pub updates-still : (choices : Choices T) (number : ℕ) (told : ConnectionFailure → Refusal)
-      (Does : Publisher T → Service T → Reply T → Service T → Type 0) (one : Publisher T) (old : Service T) (answer : Reply T)
-      (new : Service T) → at number old.publishers ≡ Some one
-      → ((after : Publisher T) (mid : Service T) → at number mid.publishers ≡ Some after → Does after mid answer new → Still mid new)
-      → publishing.UpdatesFirst choices number told Does one old answer new → Still old new
-  updates-still choices number told Does one old answer new found does h =
-      elim (by-bool (one.seen == old.subscriber_list.changes) (Does one old answer new)
-      ((after : Publisher T) × (mid : Service T) × publishing.Follows number one old after mid
-      × Outcomes (choices.publisher_acts number one.degradation) (zip old.subscriber_list.places after.connected)
-      (λ done. Does after mid answer new) (λ failure. IsRefused (told failure) mid answer new)) h) [
-        | inl w ↦ does one old found w.1
-        | inr w ↦ followed w.1.0 w.1.1 w.1.2 w.1.3
-      ]
-    where
-      followed : (after : Publisher T) (mid : Service T) → publishing.Follows number one old after mid
-          → Outcomes (choices.publisher_acts number one.degradation) (zip old.subscriber_list.places after.connected)
-          (λ done. Does after mid answer new) (λ failure. IsRefused (told failure) mid answer new) → Still old new
-      followed after mid came said =
-          let on : Still old mid =
-          still-ports old mid (keeps-ports number one old after mid found came) (keeps-loans number one old after mid found came) in
-          elim (by-outcome (choices.publisher_acts number one.degradation) (zip old.subscriber_list.places after.connected)
-          (λ done. Does after mid answer new) (λ failure. IsRefused (told failure) mid answer new) said) [
-            | inl r ↦ still-both old mid new on (does after mid (follows-publishers number 0 one old after mid found came) r.2)
-            | inr r ↦ still-both old mid new on (still-same mid new r.2.1)
-          ]
-
-  pub attends-still : (choices : Choices T) (buffer number : ℕ) (told : ConnectionFailure → Refusal)
-      (Does : Subscriber → Service T → Reply T → Service T → Type 0) (one : Subscriber) (old : Service T) (answer : Reply T)
-      (new : Service T) → at number old.subscribers ≡ Some one
-      → ((after : Subscriber) (mid : Service T) → Does after mid answer new → Still mid new)
-      → subscribing.UpdatesFirst choices buffer number told Does one old answer new → Still old new
-  attends-still choices buffer number told Does one old answer new found does h =
-      elim (by-bool ((one.seen == old.publisher_list.changes) && not one.again) (Does one old answer new)
-      ((after : Subscriber) × (mid : Service T) × subscribing.Follows buffer number one old after mid
-      × Outcomes (choices.subscriber_acts number one.degradation) (zip old.publisher_list.places after.connected)
-      (λ done. Does after mid answer new) (λ failure. IsRefused (told failure) mid answer new)) h) [
-        | inl w ↦ does one old w.1
-        | inr w ↦ followed w.1.0 w.1.1 w.1.2 w.1.3
-      ]
-    where
-      followed : (after : Subscriber) (mid : Service T) → subscribing.Follows buffer number one old after mid
-          → Outcomes (choices.subscriber_acts number one.degradation) (zip old.publisher_list.places after.connected)
-          (λ done. Does after mid answer new) (λ failure. IsRefused (told failure) mid answer new) → Still old new
-      followed after mid came said =
-          let on : Still old mid =
-          still-ports old mid (attended-ports buffer number one old after mid found came)
-          (attended-loans buffer number one old after mid found came) in
-          elim (by-outcome (choices.subscriber_acts number one.degradation) (zip old.publisher_list.places after.connected)
-          (λ done. Does after mid answer new) (λ failure. IsRefused (told failure) mid answer new) said) [
-            | inl r ↦ still-both old mid new on (does after mid r.2)
-            | inr r ↦ still-both old mid new on (still-same mid new r.2.1)
-          ]
-
-  sends-still : (choices : Choices T) (number : ℕ) (message : Message T) (one : Publisher T) (old : Service T) (answer : Reply T)
-      (new : Service T) → at number old.publishers ≡ Some one → Sends choices number message one old answer new → Still old new
-  sends-still choices number message one old answer new found h =
-      elim (by-send choices number message one old answer new h) [
-        | inl w ↦ updates-still choices number (λ failure. refusal.Send (error.ConnectionError failure)) (Begins choices number message)
-            one old answer new found (λ after mid known begun. begins-still choices number message after mid answer new known begun) w
-        | inr w ↦ still-same old new w.1.1
-      ]
-
-  lent-most : (number count : ℕ) (one : Publisher T) (service : Service T) (refused : Option LoanError) (after : Publisher T)
-      → Lends number count one service refused after → after.max_loaned_samples ≡ one.max_loaned_samples
-  lent-most number count one service refused after h =
-      ap (λ (it : Publisher T). it.max_loaned_samples) (lends-alike number count one service refused after h).0
-
-  pub puts-still : (choices : Choices T) (number : ℕ) (values : List T) (one : Publisher T) (old : Service T) (answer : Reply T)
-      (new : Service T) → at number old.publishers ≡ Some one → Puts choices number values one old answer new → Still old new
-  puts-still choices number values one old answer new found (None, after, lends, sent) =
-      still-both old (with_publisher number after old) new
-      (still-set number one after old found (lent-most number (length values) one old None after lends))
-      (sends-still choices number (record { number = one.next; sequence = None; values = values }) after (with_publisher number after old)
-      answer new (at-changed number after one old.publishers found) sent)
-  puts-still choices number values one old answer new found (Some why, after, lends, (told, same)) = still-same old new same
-
-  -- ---- loans that come, are written and go
+  still-lasts : Lasts Still
+  still-lasts = record {
+    none = still-itself;
+    both = still-both;
+    boxed = λ boxes service. still-itself service;
+    alike = λ number was after service found is. still-set number was after service found (ap most_of is);
+    turned = λ number was after service found is. still-itself service;
+  }
 
   lent-few : (number count : ℕ) (one : Publisher T) (service : Service T) → IsLentOrRefused number one service count None
       → out number service.loans < one.max_loaned_samples
@@ -418,46 +271,6 @@ module _ {T : Type 0} where
       differ e = cc
   lent-few number count one service (inr (inr (inl h))) = h.0
   lent-few number count one service (inr (inr (inr h))) = h.0
-
-  pub lends-good : (loan number count : ℕ) (value : Option T) (one : Publisher T) (old : Service T) (answer : Reply T) (new : Service T)
-      → at number old.publishers ≡ Some one → LendsLoan loan number count value one old answer new → IsGood old → IsGood new
-  lends-good loan number count value one old answer new found (Some why, after, lends, (told, same)) good =
-      subst IsGood (sym same) good
-  lends-good loan number count value one old answer new found (None, after, lends, (told, came)) good =
-      let on : Still old (with_publisher number after old) =
-      still-set number one after old found (lent-most number count one old None after lends) in
-      subst IsGood (sym came)
-      (good-lent (limits (with_publisher number after old))
-      (loan, record { publisher = number; number = one.next; values = replicate count value }) one.max_loaned_samples old.loans
-      (on.0 number ∙ ap (option_map most_of) found)
-      (lent-few number count one old (lent-or-refused number one old count None after lends))
-      (still-good old (with_publisher number after old) on good))
-
-  pub writes-good : (loan : ℕ) (one : Loan T) (fit : Bool) (values : List (Option T)) (old : Service T) (answer : Reply T) (new : Service T)
-      → at loan old.loans ≡ Some one → times loan (numbers_in old.loans) ≤ 1 → Writes loan one fit values old answer new → IsGood old
-      → IsGood new
-  writes-good loan one false values old answer new found once h good = subst IsGood (sym h.1) good
-  writes-good loan one true values old answer new found once h good =
-      subst IsGood (sym h.1)
-      (good-written (limits old) loan one (record one { values = values }) old.loans refl found once good)
-
-  pub sends-good : (choices : Choices T) (loan : ℕ) (one : Loan T) (old : Service T) (answer : Reply T) (new : Service T)
-      → SendsLoan choices loan one old answer new → IsGood old → IsGood new
-  sends-good choices loan one old answer new h good =
-      elim (by-option (at one.publisher old.publishers) (IsSkipped old answer new)
-      (λ publisher. MatchBool (is_written one && not (is_some publisher.blocked))
-      (Sends choices one.publisher (sent_as one) publisher (record old { loans = removed loan old.loans }) answer new)
-      (IsSkipped old answer new)) h) [
-        | inl w ↦ subst IsGood (sym w.1.1) good
-        | inr w ↦ elim (by-bool (is_written one && not (is_some w.0.blocked))
-            (Sends choices one.publisher (sent_as one) w.0 (record old { loans = removed loan old.loans }) answer new)
-            (IsSkipped old answer new) w.2) [
-              | inl k ↦ still-good (record old { loans = removed loan old.loans }) new
-                  (sends-still choices one.publisher (sent_as one) w.0 (record old { loans = removed loan old.loans }) answer new w.1 k.1)
-                  (good-fewer (limits old) (λ (entry : ℕ × Loan T). not (entry.0 == loan)) old.loans good)
-              | inr k ↦ subst IsGood (sym k.1.1) good
-            ]
-      ]
 
   -- ---- ports that come
 
@@ -489,44 +302,75 @@ module _ {T : Type 0} where
       here n most is (Some was) found =
           good.1 n most (ap (option_map most_of) found ∙ (sym (kept n was found) ∙ is))
 
-  pub publisher-good : (number : ℕ) (one : Publisher T) (old : Service T) (answer : Reply T) (new : Service T)
-      → (answer ≡ reply.PublisherMade number → at number old.publishers ≡ None) → PublisherArrives number one old answer new → IsGood old
-      → IsGood new
-  publisher-good number one old answer new fresh h good =
-      elim (publisher-comes number one old answer new h) [
-        | inl same ↦ subst IsGood (sym same) good
-        | inr w ↦ subst IsGood (sym w.4) (came w.1 w.2 (fresh w.5) w.3)
-      ]
-    where
-      more : Service T
-      more = record old { publishers = old.publishers ++ (number, one) ∷ [] }
+  -- ---- each move
 
-      came : (after : Publisher T) (mid : Service T) → at number old.publishers ≡ None → publishing.Follows number one more after mid
-          → IsGood mid
-      came after mid none follows =
-          let found : at number more.publishers ≡ Some one = at-appended number one old.publishers none in
-          still-good more mid
-          (still-ports more mid (keeps-ports number one more after mid found follows) (keeps-loans number one more after mid found follows))
-          (good-appended number one old good)
+  good-loud : (factories : List (ℕ × Factory)) (one : Loud T) (old new : Service T) → is_port one ≡ false
+      → (is_write one ≡ true → AreSingle old) → Loudly factories one old new → IsGood old → IsGood new
+  good-loud factories (move.Lends number was after loan one) old new beside single
+      (found, up, ((room, segments, first, grown, is), (count, lent)), by, next, came) good =
+      let mid : Service T = with_publisher number after old in
+      let on : Still old mid = still-set number was after old found (ap most_of is) in
+      subst IsGood (sym came)
+      (good-lent (limits mid) (loan, one) was.max_loaned_samples old.loans
+      (ap (limits mid) by ∙ (on.0 number ∙ ap (option_map most_of) found))
+      (subst (λ (n : ℕ). out n old.loans < was.max_loaned_samples) (sym by)
+      (lent-few number count was old (lent-or-refused number was old count None after lent))) (still-good old mid on good))
+  good-loud factories (move.Numbers number was after) old new beside single (found, (room, segments, first, grown, is), came) good =
+      subst IsGood (sym came)
+      (still-good old (with_publisher number after old) (still-set number was after old found (ap most_of is)) good)
+  good-loud factories (move.Writes loan one values) old new beside single (found, came) good =
+      subst IsGood (sym came)
+      (good-written (limits old) loan one (record one { values = values }) old.loans refl found (single refl loan) good)
+  good-loud factories (move.Spends loan one) old new beside single (found, came) good =
+      subst IsGood (sym came) (good-fewer (limits old) (λ (entry : ℕ × Loan T). not (entry.0 == loan)) old.loans good)
+  good-loud factories (move.Begins number one message) old new beside single (found, free, came) good =
+      let begun : Publisher T = record (keeping message one old) { blocked = Some (sending message one) } in
+      subst IsGood (sym came) (still-good old (with_publisher number begun old) (still-set number one begun old found refl) good)
+  good-loud factories (move.Takes number sample) old new beside single (one, first, came) good = subst IsGood (sym came) good
+  good-loud factories (move.Releases number sample) old new beside single (found, came) good = subst IsGood (sym came) good
+  good-loud factories other old new beside single did good = absurd (true≢false beside)
 
-  pub subscriber-good : (buffer number : ℕ) (one : Subscriber) (old : Service T) (answer : Reply T) (new : Service T)
-      → SubscriberArrives buffer number one old answer new → IsGood old → IsGood new
-  subscriber-good buffer number one old answer new h good =
-      elim (subscriber-comes buffer number one old answer new h) [
-        | inl same ↦ subst IsGood (sym same) good
-        | inr w ↦ subst IsGood (sym w.4) (came w.1 w.2 w.3)
-      ]
-    where
-      more : Service T
-      more = record old { subscribers = old.subscribers ++ (number, one) ∷ [] }
+  pub good-port : (factories : List (ℕ × Factory)) (one : Loud T) (old new : Service T) → is_port one ≡ true
+      → ((place number : ℕ) (options : PublisherOptions) (it after : Publisher T) → one ≡ move.Publishes place number options it after
+      → at number old.publishers ≡ None) → Loudly factories one old new → IsGood old → IsGood new
+  good-port factories (move.Publishes place number options one after) old new is fresh (open_one, follows, turned, came) good =
+      let more : Service T = record old { publishers = old.publishers ++ (number, one) ∷ [] } in
+      subst IsGood (sym came)
+      (still-good more (with_publisher number after more)
+      (still-set number one after more
+      (at-appended number one old.publishers (fresh place number options one after refl)) (ap most_of turned))
+      (good-appended number one old good))
+  good-port factories (move.Subscribes buffer place number options one after) old new is fresh (open_one, follows, turned, came) good =
+      subst IsGood (sym came) good
+  good-port factories (move.Unpublishes number one) old new is fresh (found, came) good =
+      subst IsGood (sym came)
+      (still-good old (with_publisher number (record one { stands = false }) old)
+      (still-set number one (record one { stands = false }) old found refl) good)
+  good-port factories (move.Unsubscribes number one) old new is fresh (found, came) good = subst IsGood (sym came) good
+  good-port factories other old new is fresh did good = absurd (true≢false (sym is))
 
-      came : (after : Subscriber) (mid : Service T) → subscribing.Follows buffer number one more after mid → IsGood mid
-      came after mid follows =
-          still-good more mid (
-            (λ n. ap (λ (table : List (ℕ × Publisher T)). option_map most_of (at n table))
-                (soft-followed buffer number one more after mid follows).0.3),
-            (same-subscriber-follows buffer number one more after mid follows).0,
-          ) good
+  quiets-good : (old new : Service T) → Quiets old new → IsGood old → IsGood new
+  quiets-good old new h good = still-good old new (by-quiets Still still-lasts old new h) good
+
+  unwritten-good : (factories : List (ℕ × Factory)) (loud : List (Loud T)) (old new : Service T) → has_port loud ≡ false
+      → list_any is_write loud ≡ false → Walk factories loud old new → IsGood old → IsGood new
+  unwritten-good factories [] old new beside none h good = quiets-good old new h good
+  unwritten-good factories (one ∷ more) old new beside none h good =
+      let parts : (is_port one ≡ false) × (has_port more ≡ false) = or_parts (is_port one) (has_port more) beside in
+      let writes : (is_write one ≡ false) × (list_any is_write more ≡ false) = or_parts (is_write one) (list_any is_write more) none in
+      unwritten-good factories more h.1 new parts.1 writes.1 h.4
+      (good-loud factories one h.0 h.1 parts.0 (λ is. absurd (true≢false (sym is ∙ writes.0))) h.3 (quiets-good old h.0 h.2 good))
+
+  pub walk-good : (factories : List (ℕ × Factory)) (loud : List (Loud T)) (old new : Service T) → has_port loud ≡ false
+      → writes_late loud ≡ false → AreSingle old → Walk factories loud old new → IsGood old → IsGood new
+  walk-good factories [] old new beside early single h good = quiets-good old new h good
+  walk-good factories (one ∷ more) old new beside early single h good =
+      let parts : (is_port one ≡ false) × (has_port more ≡ false) = or_parts (is_port one) (has_port more) beside in
+      let on : Still old h.0 = by-quiets Still still-lasts old h.0 h.2 in
+      unwritten-good factories more h.1 new parts.1 early h.4
+      (good-loud factories one h.0 h.1 parts.0
+      (λ is loan. subst (λ (l : List (ℕ × Loan T)). times loan (numbers_in l) ≤ 1) (sym on.1) (single loan)) h.3
+      (still-good old h.0 on good))
 
   -- ---- numbers that are there once
 

@@ -27,7 +27,7 @@ use Rattle.iox_machine.proofs.OrderPorts.{those-none}
 use Rattle.iox_machine.proofs.OrderSteps.{IsLater, made-later, up}
 use Rattle.iox_machine.proofs.Parts.{Once, contains-set, contains-unless, once-set-new, once-set-other, once-unless}
 use Rattle.iox_machine.proofs.Tables.{at-appended, at-appended-other, at-changed, at-changed-other, at-kept}
-use Rattle.iox_machine.proofs.WalkSteps.{Comes, Moved, OneMoves, Publishes, Subscribes, Unpublishes, Unsubscribes, step-comes}
+use Rattle.iox_machine.proofs.Walks.{Comes, Moved, OneMoves, Publishes, Subscribes, Unpublishes, Unsubscribes, step-comes}
 use Rattle.iox_command.specs.NegotiateBase.DescribeBase.declared.message_type.MessageTypeDetails.{MessageTypeDetails}
 use Rattle.iox_command.specs.NegotiateBase.DescribeSettings.declared.static_config.publish_subscribe.StaticConfig.{StaticConfig}
 use Rattle.iox_command.specs.declared.command.Command.{Command}
@@ -418,7 +418,7 @@ module _ {T : Type 0} where
 
   linked-subscribes : (made : Made) (service : Service T) (answer : Reply T) (new : Service T) → Subscribes made service answer new
       → Linked made service → Linked (counted answer made) new
-  linked-subscribes made service answer new (buffer, factory, options, place, after, mid, free, came, told, is) l =
+  linked-subscribes made service answer new (buffer, factory, options, (place, free, after, mid, came, told, is)) l =
       subst (λ (it : Reply T). Linked (counted it made) new) (sym told)
       (subst (λ (it : Service T). Linked (counted {T = T} (reply.SubscriberMade number) made) it) (sym is) (record {
         publishers_made = λ n known. l.publishers_made n (sym (same-publishers more mid t.publishers n) ∙ known);

@@ -124,23 +124,6 @@ module _ {T : Type 0} where
   refused-keeps Q why old answer new h all =
       (subst (λ (state : State T). AllByRecursion Q state.services) (sym h.1) all, refused-made why old answer new h)
 
-  pub at-one-keeps : {V : Type 0} (P Q : Service T → Type 0) (found : Service T → Option V)
-      (Does : V → Service T → Reply T → Service T → Type 0)
-      (old : State T) (answer : Reply T) (new : State T) → ((it : Service T) → P it → Q it)
-      → ((one : V) (service after : Service T) → find (λ (other : Service T). is_some (found other)) old.services ≡ Some service
-      → found service ≡ Some one → Does one service answer after → P service → Q after)
-      → AtOne found Does old answer new → AllByRecursion P old.services → Keeps Q old answer new
-  at-one-keeps P Q found Does old answer new weaker does h all =
-      elim (at-one found Does old answer new h) [
-        | inl w ↦ skipped-keeps Q old answer new w (all-weaker P Q weaker old.services all)
-        | inr w ↦ (
-          subst (λ (state : State T). AllByRecursion Q state.services) (sym w.6)
-              (replaced-keeps P Q (λ (other : Service T). is_some (found other)) w.0 w.2 old.services weaker
-              (does w.1 w.0 w.2 w.3 w.4 w.5) w.3 all),
-          ap (λ (state : State T). state.made) w.6,
-        )
-      ]
-
   -- ---- a negotiation
 
   -- What a negotiation comes to: it is skipped or refused, with another phase of the service at most; or its node has a factory.

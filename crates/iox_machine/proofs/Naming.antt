@@ -1,39 +1,34 @@
 -- In every run each subscriber is as it was named.
-use Rattle.std.proofs.Common.{◌≡◌, ◌⊎◌, ◌+◌, ℕ, Bool, true, false, cond, List, [], ◌∷◌, ◌++◌, Option, None, Some, refl, sym}
-use Rattle.std.proofs.Common.{ap, subst, inl, inr}
-use Rattle.std.proofs.Common.{◌∙◌}
+use Rattle.std.proofs.Common.{◌≡◌, ◌⊎◌, ℕ, true, false, List, [], ◌∷◌, ◌++◌, Option, None, Some, refl, sym}
+use Rattle.std.proofs.Common.{ap, subst, inl, inr, ◌∙◌}
 use Rattle.std.proofs.lemmas.Bool.{cases_Bool, eqb-false, eqb-true}
 use Rattle.std.specs.List.{AllByRecursion}
-use Rattle.std.specs.Prelude.{◌==◌, find, is_some, max, option_map, unwrap_or}
-use Rattle.iox_machine.proofs.Cases.{by-option, never-some, same-some}
-use Rattle.iox_machine.proofs.Frames.{soft-followed, subscriber-comes, subscriber-stands}
+use Rattle.std.specs.Prelude.{◌==◌, max, option_map, unwrap_or}
+use Rattle.iox_machine.proofs.Cases.{never-some, same-some}
+use Rattle.iox_machine.proofs.Frames.{soft-followed}
 use Rattle.iox_machine.proofs.Lists.{all-weaker}
-use Rattle.iox_machine.proofs.Moving.{at-one-keeps}
-use Rattle.iox_machine.proofs.Resting.{Rests, named_at, named_of, rests-attending, rests-itself, rests-subscriber, step-rests}
-use Rattle.iox_machine.proofs.Shorthands.{IsSkipped, registered, with_subscriber}
+use Rattle.iox_machine.proofs.MoveForms.{Loud, Loudly, Walk}
+use Rattle.iox_machine.proofs.MoveForms as move
+use Rattle.iox_machine.proofs.MoveLaws.{becomes-keeps}
+use Rattle.iox_machine.proofs.MoveSteps.{step-moves}
+use Rattle.iox_machine.proofs.Moves.{IsTold, Walks}
+use Rattle.iox_machine.proofs.Resting.{Rests, named_at, named_of, rests-loud, rests-quiets}
+use Rattle.iox_machine.proofs.Shorthands.{registered}
 use Rattle.iox_machine.proofs.Tables.{at-appended-other, at-changed-either, at-changed-other, at-either}
-use Rattle.iox_machine.specs.Arriving.{SubscriberArrives, new_subscriber}
 use Rattle.iox_machine.specs.Choices.{Choices}
 use Rattle.iox_machine.specs.DefaultLaws.{ComesAsSubscriber, SubscriberCameAs, SubscribersAreAsNamed}
-use Rattle.iox_machine.specs.Message.{Sample}
-use Rattle.iox_machine.specs.Ports.{Releases, subscriber_in}
-use Rattle.iox_machine.specs.Receiving.{Receives, lasting}
 use Rattle.iox_machine.specs.Run.{Runs, Step}
 use Rattle.iox_machine.specs.Service.{Service, Subscriber, new_service}
-use Rattle.iox_machine.specs.State.{AtOne, State, is_service_of, new_state}
+use Rattle.iox_machine.specs.State.{Factory, State, new_state}
 use Rattle.iox_machine.specs.SubscriberUpdate as subscribing
 use Rattle.iox_machine.specs.Table.{at, changed}
 use Rattle.iox_command.specs.DomainValues.declared.degradation.DegradationAction.{DegradationAction}
 use Rattle.iox_command.specs.DomainValues.declared.degradation.DegradationAction.TheVariants.{Warn}
-use Rattle.iox_command.specs.DomainValues.declared.port_error.ReceiveError.TheVariants as receive_error
 use Rattle.iox_command.specs.NegotiateBase.DescribeBase.declared.message_type.MessageTypeDetails.{MessageTypeDetails}
 use Rattle.iox_command.specs.NegotiateBase.DescribeSettings.declared.static_config.publish_subscribe.StaticConfig.{StaticConfig}
 use Rattle.iox_command.specs.declared.command.Command.{Command}
-use Rattle.iox_command.specs.declared.command.Command.TheVariants as command
 use Rattle.iox_command.specs.declared.port.SubscriberOptions.{SubscriberOptions}
-use Rattle.iox_command.specs.declared.refusal.Refusal.TheVariants as refusal
 use Rattle.iox_command.specs.declared.reply.Reply.{Reply}
-use Rattle.iox_command.specs.declared.reply.Reply.TheVariants as reply
 
 -- how a subscriber is to be by what was named for it
 abbrev IsViewed : SubscriberOptions → StaticConfig → ℕ × DegradationAction → Type 0
@@ -86,25 +81,18 @@ module _ {T : Type 0} where
   all-better Known Later on state all = all-weaker (Named Known) (Named Later) (named-better Known Later on) state.services all
 
   -- a subscriber comes
-  named-comes : (Known : ℕ → SubscriberOptions → Type 0) (buffer factory number : ℕ) (options : SubscriberOptions) (old : Service T)
-      (answer : Reply T) (new : Service T) → (answer ≡ reply.SubscriberMade number → Known number options)
-      → SubscriberArrives buffer number (new_subscriber factory options old.settings) old answer new → Named Known old → Named Known new
-  named-comes Known buffer factory number options old answer new knows h named =
-      elim (subscriber-comes buffer number one old answer new h) [
-        | inl same ↦ subst (Named Known) (sym same) named
-        | inr w ↦ subst (Named Known) (sym w.4) (came w.0 w.1 w.2 w.3 (knows w.6))
-      ]
+  named-comes : (Known : ℕ → SubscriberOptions → Type 0) (factories : List (ℕ × Factory)) (buffer place number : ℕ)
+      (options : SubscriberOptions) (one after : Subscriber) (old new : Service T) → Known number options
+      → Loudly factories (move.Subscribes buffer place number options one after) old new → Named Known old → Named Known new
+  named-comes Known factories buffer place number options one after old new known
+      (open_one, (made, small, free, mid, did, listed), turned, is) named = subst (Named Known) (sym listed) (came did)
     where
-      one : Subscriber
-      one = new_subscriber factory options old.settings
-
       more : Service T
       more = record old { subscribers = old.subscribers ++ (number, one) ∷ [] }
 
-      came : (place : ℕ) (after : Subscriber) (mid : Service T) → subscribing.Follows buffer number one more after mid
-          → Known number options
+      came : subscribing.Follows buffer number one more after mid
           → Named Known (record mid { subscriber_list = registered place number mid.subscriber_list })
-      came place after mid follows known n view is =
+      came follows n view is =
           let settled = soft-followed buffer number one more after mid follows in
           let there : (was : Subscriber) × (at n mid.subscribers ≡ Some was) × (named_of was ≡ view) =
           was-there (at n mid.subscribers) view is in
@@ -124,7 +112,8 @@ module _ {T : Type 0} where
             options,
             subst (λ (k : ℕ). Known k options) (sym is_it) known,
             subst (λ (c : StaticConfig). IsViewed options c view) (sym same)
-                (subst (λ (v : ℕ × DegradationAction). IsViewed options old.settings v) (sym alike ∙ viewed) (refl, refl)),
+                (subst (λ (v : ℕ × DegradationAction). IsViewed options old.settings v) (sym alike ∙ viewed)
+                (subst (λ (it : Subscriber). IsViewed options old.settings (named_of it)) (sym made) (refl, refl))),
           )
 
           here : mid.settings ≡ old.settings → (was : Subscriber) → named_of was ≡ view
@@ -143,53 +132,35 @@ module _ {T : Type 0} where
               (sym (at-appended-other number n one old.subscribers (eqb-false n number off))
               ∙ (sym (at-changed-other number n after more.subscribers (eqb-false n number off)) ∙ found))
 
-  module _ (types : MessageTypeDetails) (choices : Choices T) (buffer : ℕ) where
-    receives-names : (number sample : ℕ) (one : Subscriber) (old : Service T) (answer : Reply T) (new : Service T)
-        → at number old.subscribers ≡ Some one → Receives number sample one old answer new → Names old new
-    receives-names number sample one old answer new found (None, giver, (told, came)) =
-        let later : Subscriber = record one { expired = lasting number old one.expired } in
-        let on : Rests old (with_subscriber number later old) = rests-subscriber number one later old found refl in
-        subst (Names old) (sym came) (on.2, on.3)
-    receives-names number sample one old answer new found (Some publisher, giver, took) =
-        let later : Subscriber = record one { expired = lasting number old one.expired } in
-        let on : Rests old (with_subscriber number later old) = rests-subscriber number one later old found refl in
-        subst (Names old) (sym took.5) (on.2, on.3)
+  module _ (Known : ℕ → SubscriberOptions → Type 0) (asked : Command T) (state : State T) (answer : Reply T)
+      (knows : (number : ℕ) (options : SubscriberOptions) → ComesAsSubscriber number options asked answer → Known number options) where
+    named-loud : (factories : List (ℕ × Factory)) (one : Loud T) (old new : Service T) → IsTold asked state answer one
+        → Loudly factories one old new → Named Known old → Named Known new
+    named-loud factories (move.Takes number sample) old new told (holder, first, came) named =
+        named-names Known old new (subst (Names old) (sym came) (refl, (λ n. refl))) named
+    named-loud factories (move.Releases number sample) old new told (found, came) named =
+        named-names Known old new (subst (Names old) (sym came) (refl, (λ n. refl))) named
+    named-loud factories (move.Subscribes buffer place number options one after) old new (asks, next, told) did named =
+        named-comes Known factories buffer place number options one after old new
+        (knows number options (subst (λ (it : Command T). ComesAsSubscriber number options it answer) (sym asks) (refl, told))) did named
+    named-loud factories other old new told did named = named-rests Known old new (rests-loud factories other old new refl did) named
 
+    named-walk : (factories : List (ℕ × Factory)) (loud : List (Loud T)) (old new : Service T)
+        → AllByRecursion (IsTold asked state answer) loud → Walk factories loud old new → Named Known old → Named Known new
+    named-walk factories [] old new told h named = named-rests Known old new (rests-quiets old new h) named
+    named-walk factories (one ∷ more) old new told h named =
+        named-walk factories more h.1 new told.1 h.4
+        (named-loud factories one h.0 h.1 told.0 h.3 (named-rests Known old h.0 (rests-quiets old h.0 h.2) named))
+
+  module _ (types : MessageTypeDetails) (choices : Choices T) (buffer : ℕ) where
     step-named : (Known : ℕ → SubscriberOptions → Type 0) (asked : Command T) (old : State T) (answer : Reply T) (new : State T)
         → ((number : ℕ) (options : SubscriberOptions) → ComesAsSubscriber number options asked answer → Known number options)
         → Step types choices buffer asked old answer new → AllNamed Known old → AllNamed Known new
-    step-named Known (command.Subscriber factory options) old answer new knows h all =
-        elim (by-option (at factory old.factories) (IsSkipped old answer new)
-        (λ of_it. AtOne (λ (service : Service T). cond (is_service_of of_it service) (Some service) None)
-        (λ (service : Service T) (it : Service T) (told : Reply T) (after : Service T). SubscriberArrives buffer (old.made.subscribers + 1)
-        (new_subscriber factory options it.settings) it told after) old answer new) h) [
-          | inl w ↦ subst (AllNamed Known) (sym w.1.1) all
-          | inr w ↦ (at-one-keeps (Named Known) (Named Known)
-              (λ (service : Service T). cond (is_service_of w.0 service) (Some service) None)
-              (λ (service : Service T) (it : Service T) (told : Reply T) (after : Service T).
-              SubscriberArrives buffer (old.made.subscribers + 1) (new_subscriber factory options it.settings) it told after) old answer new
-              (λ it named. named)
-              (λ one service after first found did named. named-comes Known buffer factory (old.made.subscribers + 1) options service answer
-              after (λ told. knows (old.made.subscribers + 1) options (refl, told)) did named) w.2 all).0
-        ]
-    step-named Known (command.Receive number) old answer new knows h all =
-        (at-one-keeps (Named Known) (Named Known) (subscriber_in number)
-        (subscribing.UpdatesFirst choices buffer number (λ failure. refusal.Receive (receive_error.ConnectionFailure failure))
-        (Receives number (old.made.samples + 1))) old answer new (λ it named. named)
-        (λ one service after first is did named. rests-attending choices (Named Known after) buffer number
-        (λ failure. refusal.Receive (receive_error.ConnectionFailure failure)) (Receives number (old.made.samples + 1)) one service answer
-        after (subscriber-stands number service one is).0
-        (λ next mid on found took. named-names Known mid after (receives-names number
-        (old.made.samples + 1) next mid answer after found took)
-        (named-rests Known service mid on named))
-        (λ why mid on refused. subst (Named Known) (sym refused.1) (named-rests Known service mid on named)) did) h all).0
-    step-named Known (command.Release sample) old answer new knows h all =
-        (at-one-keeps (Named Known) (Named Known) (λ (service : Service T). at sample service.samples) (Releases sample) old answer new
-        (λ it named. named)
-        (λ one service after first found did named. named-names Known service after
-        (subst (Names service) (sym did.1) (refl, (λ n. refl))) named) h all).0
     step-named Known asked old answer new knows h all =
-        step-rests (Named Known) (named-rests Known) (new-named T Known) types choices buffer asked old answer new refl h all
+        (becomes-keeps (Walks asked old answer) (Named Known) (new-named T Known) asked old answer new
+        (λ has service after first walks named.
+        named-walk Known asked old answer knows old.factories walks.0 service after walks.1.5 walks.2 named)
+        (step-moves types choices buffer asked old answer new h) all).0
 
     runs-named : (Known : ℕ → SubscriberOptions → Type 0) (asked : List (Command T)) (old : State T) (answers : List (Reply T))
         (new : State T) (run : Runs types choices buffer asked old answers new) → AllNamed Known old

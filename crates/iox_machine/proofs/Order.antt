@@ -5,40 +5,26 @@ use Rattle.std.proofs.Common.{Some, refl, sym, ap, subst, inl, inr, ◌∙◌, a
 use Rattle.std.proofs.lemmas.Bool.{eqb-true, eqb-false, and_from, and_right, or_left, or_right, or_parts, cases_Bool, not-true, not-false}
 use Rattle.std.proofs.lemmas.Bool.{true≢false}
 use Rattle.std.specs.Option.{option_map_or}
-use Rattle.std.specs.Prelude.{⊤, ◌==◌, nat_le, nat_lt, is_some, option_map, filter, fold, length, slice_get, MatchBool, MatchOption}
-use Rattle.std.specs.Prelude.{drop, zip}
-use Rattle.iox_machine.specs.Choices.{Choices}
-use Rattle.iox_machine.proofs.Delivering.{Outcomes, by-outcome, first_of, offered, deliver, goes-on-so, keeping, at_once, at-once-silent}
-use Rattle.iox_machine.proofs.Delivering.{by-send, sending}
+use Rattle.std.specs.Prelude.{⊤, ◌==◌, nat_le, nat_lt, is_some, option_map, filter, fold, length, MatchBool, MatchOption}
+use Rattle.iox_machine.proofs.Delivering.{keeping, sending}
 use Rattle.iox_machine.specs.Lending.{Lends, loan_refusal}
 use Rattle.iox_machine.specs.Mailbox.{Mailbox, newest, put}
 use Rattle.iox_machine.specs.Message.{Message}
-use Rattle.iox_machine.specs.MessageLaws.{IsPartOf, next_message}
+use Rattle.iox_machine.specs.MessageLaws.{IsPartOf}
 use Rattle.iox_machine.specs.PortList.{those, unless}
-use Rattle.iox_machine.specs.Ports.{LendsLoan, Puts}
 use Rattle.iox_machine.specs.PublisherUpdate as publishing
-use Rattle.iox_machine.specs.Sending.{GoesOn, Begins, Sends}
-use Rattle.iox_machine.specs.RunLaws.{numbered, has_begun}
+use Rattle.iox_machine.specs.RunLaws.{numbered}
 use Rattle.iox_machine.specs.SequenceLaws.{GoOnBehind, last_behind}
 use Rattle.iox_machine.specs.Service.{Service, Publisher, Subscriber, Send, mailbox, with_mailbox, connect}
-use Rattle.iox_machine.proofs.Shorthands.{with_publisher, IsRefused, LendsLonger}
+use Rattle.iox_machine.proofs.Shorthands.{with_publisher, LendsLonger}
 use Rattle.iox_machine.specs.Table.{at, contains}
 use Rattle.iox_machine.proofs.Cases.{by-bool, by-option, same-some, never-some, chosen, both-true}
-use Rattle.iox_machine.proofs.Frames.{waiting_in, Softer, box-same, box-aside, soft-connect, by-follows, by-deliver}
+use Rattle.iox_machine.proofs.Frames.{waiting_in, Softer, box-same, box-aside, soft-connect, by-follows}
 use Rattle.iox_machine.proofs.Parts.{part-more, part-last, part-newest, part-front, Once, once-tail, once-past, once-unless}
 use Rattle.iox_machine.proofs.Parts.{contains-filter, contains-unless, all-contained}
-use Rattle.iox_machine.proofs.Steps.{beginning-told}
 use Rattle.iox_machine.proofs.Tables.{at-changed}
-use Rattle.iox_command.specs.DomainValues.declared.backpressure.BackpressureDecision.{BackpressureDecision}
-use Rattle.iox_command.specs.DomainValues.declared.backpressure.BackpressureDecision.TheVariants.{Retry, DiscardData, DiscardDataAndFail}
-use Rattle.iox_command.specs.DomainValues.declared.connection_failure.ConnectionFailure.{ConnectionFailure}
 use Rattle.iox_command.specs.DomainValues.declared.port_error.LoanError.{LoanError}
-use Rattle.iox_command.specs.DomainValues.declared.port_error.SendError.TheVariants as error
 use Rattle.iox_command.specs.NegotiateBase.DescribeSettings.declared.static_config.publish_subscribe.StaticConfig.{StaticConfig}
-use Rattle.iox_command.specs.declared.refusal.Refusal.{Refusal}
-use Rattle.iox_command.specs.declared.refusal.Refusal.TheVariants as refusal
-use Rattle.iox_command.specs.declared.reply.Reply.{Reply}
-use Rattle.iox_command.specs.declared.reply.Reply.TheVariants as reply
 use Rattle.iox_command.specs.DomainValues.Sequences.{before_first, next_sequence}
 
 pub absurd-both : {A : Type 0} (b : Bool) → b ≡ true → b ≡ false → A
@@ -421,7 +407,7 @@ module _ {T : Type 0} (p s : ℕ) where
 
   -- ---- a send
 
-  put-waits : (overflows : Bool) (message : Message T) (box it : Mailbox T) → put overflows message box ≡ Some it
+  pub put-waits : (overflows : Bool) (message : Message T) (box it : Mailbox T) → put overflows message box ≡ Some it
       → (limit : ℕ) × (it.waiting ≡ newest limit (box.waiting ++ message ∷ []))
   put-waits overflows message box it e =
       elim (chosen (not overflows && nat_le box.limit (length box.waiting)) None
@@ -438,7 +424,7 @@ module _ {T : Type 0} (p s : ℕ) where
     abbrev IsUnderWith : List ℕ → Option (Mailbox T) → Type 0
     IsUnderWith remaining box = Under T s May received before message connected remaining box
 
-    under-past : (t : ℕ) (more : List ℕ) (box : Option (Mailbox T)) → IsUnderWith (t ∷ more) box → IsUnderWith more box
+    pub under-past : (t : ℕ) (more : List ℕ) (box : Option (Mailbox T)) → IsUnderWith (t ∷ more) box → IsUnderWith more box
     under-past t more box u = record {
       once = once-tail s t more u.once;
       is_connected = λ is. u.is_connected (or_right (t == s) (contains more s) is);
@@ -448,7 +434,7 @@ module _ {T : Type 0} (p s : ℕ) where
       unmet = u.unmet;
     }
 
-    under-put : (t : ℕ) (more : List ℕ) (box : Option (Mailbox T)) (it : Mailbox T) → (t == s) ≡ true
+    pub under-put : (t : ℕ) (more : List ℕ) (box : Option (Mailbox T)) (it : Mailbox T) → (t == s) ≡ true
         → (limit : ℕ) × (it.waiting ≡ newest limit (waiting_in box ++ message ∷ []))
         → IsUnderWith (t ∷ more) box → IsUnderWith more (Some it)
     under-put t more box it here (limit, waits) u = record {
@@ -464,54 +450,6 @@ module _ {T : Type 0} (p s : ℕ) where
       unmet = λ may is. absurd-both (contains (those connected) s) (u.is_connected (or_left (t == s) (contains more s) here)) is;
     }
 
-    -- what a send leaves behind that went on
-    abbrev Went : Service T → Send T × Service T → Type 0
-    Went service after =
-        IsUnderWith after.0.left (after.1.mailboxes p s) × (after.0.message ≡ message) × (after.1.publishers ≡ service.publishers)
-
-    offered-under : (t : ℕ) (more : List ℕ) (service : Service T) (met : Option (Mailbox T)) (decision : BackpressureDecision)
-        (goes_on : Send T → Service T → Send T × Service T) (send : Send T)
-        → ((box : Mailbox T) → met ≡ Some box → (limit : ℕ)
-        × (box.waiting ≡ newest limit ((mailbox p t service).waiting ++ message ∷ [])))
-        → ((next : Send T) (mid : Service T) → next.message ≡ message → IsUnderWith more (mid.mailboxes p s)
-        → Went mid (goes_on next mid))
-        → send.message ≡ message → IsUnderWith (t ∷ more) (service.mailboxes p s)
-        → Went service (offered p met decision t more goes_on send service)
-    offered-under t more service (Some box) decision goes_on send puts on same u =
-        let next : Send T = record send { retries = 0; elapsed = 0; delivered = send.delivered + 1 } in
-        let mid : Service T = with_mailbox p t box service in
-        on next mid same (elim (cases_Bool (t == s)) [
-          | inl here ↦ subst (IsUnderWith more) (sym (at_it here)) (under-put t more (service.mailboxes p s) box here (put_at here) u)
-          | inr other ↦ subst (IsUnderWith more) (sym (box-aside p t box service p s (λ e. eqb-false t s other (sym e))))
-              (under-past t more (service.mailboxes p s) u)
-        ])
-      where
-        at_it : (t == s) ≡ true → (with_mailbox p t box service).mailboxes p s ≡ Some box
-        at_it here =
-            subst (λ (k : ℕ). (with_mailbox p t box service).mailboxes p k ≡ Some box) (eqb-true t s here) (box-same p t box service)
-
-        put_at : (t == s) ≡ true → (limit : ℕ) × (box.waiting ≡ newest limit (waiting_in (service.mailboxes p s) ++ message ∷ []))
-        put_at here =
-            subst (λ (k : ℕ). (limit : ℕ) × (box.waiting ≡ newest limit (waiting_in (service.mailboxes p k) ++ message ∷ [])))
-            (eqb-true t s here) (puts box refl)
-    offered-under t more service None Retry goes_on send puts on same u = (u, same, refl)
-    offered-under t more service None DiscardData goes_on send puts on same u =
-        on (record send { retries = 0; elapsed = 0 }) service same (under-past t more (service.mailboxes p s) u)
-    offered-under t more service None DiscardDataAndFail goes_on send puts on same u =
-        on (record send { retries = 0; elapsed = 0; fails = true }) service same (under-past t more (service.mailboxes p s) u)
-
-    deliver-under : (decisions : List BackpressureDecision) (remaining : List ℕ) (send : Send T) (service : Service T) → send.message
-        ≡ message
-        → IsUnderWith remaining (service.mailboxes p s) → Went service (deliver p decisions remaining send service)
-    deliver-under decisions [] send service same u = (u, same, refl)
-    deliver-under decisions (t ∷ more) send service same u =
-        offered-under t more service (put service.settings.enable_safe_overflow send.message (mailbox p t service))
-        (first_of decisions) (deliver p (drop 1 decisions) more) send
-        (λ box e. subst (λ (m : Message T). (limit : ℕ)
-        × (box.waiting ≡ newest limit ((mailbox p t service).waiting ++ m ∷ []))) same
-        (put-waits service.settings.enable_safe_overflow send.message (mailbox p t service) box e))
-        (λ next mid its under. deliver-under (drop 1 decisions) more next mid its under) same u
-
   -- ---- what a publisher's commands do
 
   -- a publisher is there, and what is between it and the subscriber is as it should be
@@ -519,93 +457,55 @@ module _ {T : Type 0} (p s : ℕ) where
   Stands sent received born service =
       (one : Publisher T) × (at p service.publishers ≡ Some one) × BetweenOf sent received born one service
 
-  goes-between : (choices : Choices T) (sent received before : List (Message T)) (born : ℕ) (one was : Publisher T) (send : Send T)
-      (old : Service T)
-      (answer : Reply T) (new : Service T) → sent ≡ before ++ send.message ∷ [] → at p old.publishers ≡ Some was
-      → NumberedUpTo T old.settings.sequence_numbers one.last_sequence sent
-      → IsPartOf one.history sent → Once s (those old.subscriber_list.places) → Once s (those one.connected)
-      → (born < s → (contains (those old.subscriber_list.places) s ≡ false) × (contains (those one.connected) s ≡ false))
-      → Under T s (MayCome s born old.subscriber_list.places) received before send.message one.connected send.left
-      (old.mailboxes p s)
-      → GoesOn choices p one send old answer new → Stands sent received born new
-  goes-between choices sent received before born one was send old answer new is found counts kept listed connected unlisted u h =
-      let places : List (Option ℕ) = old.subscriber_list.places in
-      let (decisions, (told, came)) = goes-on-so choices p one send old answer new h in
-      let after : Send T × Service T = deliver p decisions send.left send old in
-      let went : Under T s (MayCome s born places) received before send.message one.connected after.0.left
-      (after.1.mailboxes p s) × (after.0.message ≡ send.message) × (after.1.publishers ≡ old.publishers) =
-      deliver-under (MayCome s born places) received before send.message one.connected decisions send.left send old refl
-      u in
-      let now : Publisher T = record one { blocked = cond (is_some (slice_get after.0.left 0)) (Some after.0) None } in (
-        now,
-        ap (λ (service : Service T). at p service.publishers) came
-            ∙ at-changed p now was after.1.publishers (ap (at p) went.2 ∙ found),
-        subst (λ (service : Service T). BetweenOf sent received born now service) (sym came)
-            (subst (λ (l : List (Option ℕ)). Between T s after.1.settings.sequence_numbers one.last_sequence sent received born one.history
-            one.connected now.blocked (after.1.mailboxes p s) l)
-            (sym (ap (λ l. l.places) (by-deliver p decisions send.left send old).2))
-            (record {
-              numbered_so = subst (λ (c : StaticConfig). NumberedUpTo T c.sequence_numbers one.last_sequence sent)
-                  (sym (by-deliver p decisions send.left send old).1) counts;
-              kept = kept;
-              waits = subst (λ (l : List (Message T)). IsPartOf (received ++ waiting_in (after.1.mailboxes p s)) l) (sym is) went.0.waits;
-              listed_once = listed;
-              connected_once = connected;
-              has_box = went.0.has_box;
-              unmet = went.0.unmet;
-              unlisted = unlisted;
-              under = blocked-so (is_some (slice_get after.0.left 0)) after went.0 went.1;
-            })),
-      )
-    where
-      blocked-so : (b : Bool) (after : Send T × Service T)
-          → Under T s (MayCome s born old.subscriber_list.places) received before send.message one.connected after.0.left
-          (after.1.mailboxes p s)
-          → after.0.message ≡ send.message
-          → MatchOption (cond b (Some after.0) None) ⊤
-          (IsUnder T s (MayCome s born old.subscriber_list.places) sent received one.connected (after.1.mailboxes p s))
-      blocked-so false after u same = tt
-      blocked-so true after u same = (
-        before,
-        is ∙ ap (λ (m : Message T). before ++ m ∷ []) (sym same),
-        subst (λ (m : Message T). Under T s (MayCome s born old.subscriber_list.places) received before m one.connected after.0.left
-            (after.1.mailboxes p s)) (sym same) u,
-      )
+  -- the publisher's send is another of a message that it sent last, and other messages wait
+  pub sends-so : (sent received before : List (Message T)) (born : ℕ) (one : Publisher T) (next : Send T) (old : Service T)
+      (boxes : ℕ → ℕ → Option (Mailbox T)) → sent ≡ before ++ next.message ∷ [] → BetweenOf sent received born one old
+      → Under T s (MayCome s born old.subscriber_list.places) received before next.message one.connected next.left (boxes p s)
+      → BetweenOf sent received born (record one { blocked = Some next }) (record old { mailboxes = boxes })
+  sends-so sent received before born one next old boxes is b u = record {
+    numbered_so = b.numbered_so;
+    kept = b.kept;
+    waits = subst (λ (l : List (Message T)). IsPartOf (received ++ waiting_in (boxes p s)) l) (sym is) u.waits;
+    listed_once = b.listed_once;
+    connected_once = b.connected_once;
+    has_box = u.has_box;
+    unmet = u.unmet;
+    unlisted = b.unlisted;
+    under = (before, is, u);
+  }
 
-  begins-between : (choices : Choices T) (sent received : List (Message T)) (born : ℕ) (message : Message T) (one : Publisher T)
-      (old : Service T)
-      (answer : Reply T) (new : Service T) → at p old.publishers ≡ Some one → BetweenOf sent received born one old
-      → Begins choices p message one old answer new → Stands (sent ++ numbered one message ∷ []) received born new
-  begins-between choices sent received born message one old answer new found b h =
-      goes-between choices (sent ++ numbered one message ∷ []) received sent born (keeping message one old) one (sending message one)
-      old answer new refl found
-      (behind-more (before_first old.settings.sequence_numbers 1) one.last_sequence sent (numbered one message) refl b.numbered_so)
-      (part-newest old.settings.history_size [] (one.history ++ numbered one message ∷ []) (sent ++ numbered one message ∷ [])
-      (part-last (numbered one message) one.history sent b.kept))
-      b.listed_once b.connected_once b.unlisted
-      (record {
+  -- a send begins
+  pub begun-between : (sent received : List (Message T)) (born : ℕ) (message : Message T) (one : Publisher T) (old : Service T)
+      → BetweenOf sent received born one old
+      → BetweenOf (sent ++ numbered one message ∷ []) received born
+      (record (keeping message one old) { blocked = Some (sending message one) }) old
+  begun-between sent received born message one old b = record {
+    numbered_so =
+        behind-more (before_first old.settings.sequence_numbers 1) one.last_sequence sent (numbered one message) refl b.numbered_so;
+    kept = part-newest old.settings.history_size [] (one.history ++ numbered one message ∷ []) (sent ++ numbered one message ∷ [])
+        (part-last (numbered one message) one.history sent b.kept);
+    waits = later;
+    listed_once = b.listed_once;
+    connected_once = b.connected_once;
+    has_box = b.has_box;
+    unmet = b.unmet;
+    unlisted = b.unlisted;
+    under = (
+      sent,
+      refl,
+      record {
         once = b.connected_once;
         is_connected = λ is. is;
         from_before = λ is. b.waits;
-        waits = part-more (received ++ waiting_in (old.mailboxes p s)) sent (numbered one message ∷ []) b.waits;
+        waits = later;
         has_box = b.has_box;
         unmet = b.unmet;
-      }) h
-
-  -- a send that goes on after it was blocked
-  pub retries-between : (choices : Choices T) (sent received : List (Message T)) (born : ℕ) (one : Publisher T) (send : Send T)
-      (retries elapsed : ℕ)
-      (old : Service T) (answer : Reply T) (new : Service T) → at p old.publishers ≡ Some one → one.blocked ≡ Some send
-      → BetweenOf sent received born one old
-      → GoesOn choices p one (record send { retries = retries; elapsed = elapsed }) old answer new → Stands sent received born new
-  retries-between choices sent received born one send retries elapsed old answer new found waits b h =
-      let u : IsUnder T s (MayCome s born old.subscriber_list.places) sent received one.connected
-      (old.mailboxes p s) send =
-      subst (λ (o : Option (Send T)). MatchOption o ⊤ (IsUnder T s
-      (MayCome s born old.subscriber_list.places) sent received one.connected (old.mailboxes p s))) waits b.under in
-      goes-between choices sent received u.0 born one one (record send { retries = retries; elapsed = elapsed }) old answer new u.1 found
-      b.numbered_so b.kept
-      b.listed_once b.connected_once b.unlisted u.2 h
+      },
+    );
+  }
+    where
+      later : IsPartOf (received ++ waiting_in (old.mailboxes p s)) (sent ++ numbered one message ∷ [])
+      later = part-more (received ++ waiting_in (old.mailboxes p s)) sent (numbered one message ∷ []) b.waits
 
   pub free-between : (sent received : List (Message T)) (born : ℕ) (one : Publisher T) (service : Service T)
       → BetweenOf sent received born one service → BetweenOf sent received born (record one { blocked = None }) service
@@ -620,69 +520,6 @@ module _ {T : Type 0} (p s : ℕ) where
     unlisted = b.unlisted;
     under = tt;
   }
-
-  -- a publisher of which no send is blocked does something after it brought its connections up to date
-  pub updates-between : (choices : Choices T) (R : Type 0) (sent received : List (Message T)) (born : ℕ)
-      (told : ConnectionFailure → Refusal)
-      (Does : Publisher T → Service T → Reply T → Service T → Type 0) (one : Publisher T) (old : Service T) (answer : Reply T)
-      (new : Service T) → at p old.publishers ≡ Some one → one.blocked ≡ None → BetweenOf sent received born one old
-      → ((after : Publisher T) (mid : Service T) → at p mid.publishers ≡ Some after → BetweenOf sent received born after mid
-      → after.last_sequence ≡ one.last_sequence → Does after mid answer new → R)
-      → ((failure : ConnectionFailure) (mid : Service T) → Stands sent received born mid → IsRefused (told failure) mid answer new → R)
-      → publishing.UpdatesFirst choices p told Does one old answer new → R
-  updates-between choices R sent received born told Does one old answer new found free b does refused h =
-      elim (by-bool (one.seen == old.subscriber_list.changes) (Does one old answer new)
-      ((after : Publisher T) × (mid : Service T) × publishing.Follows p one old after mid
-      × Outcomes (choices.publisher_acts p one.degradation) (zip old.subscriber_list.places after.connected)
-      (λ done. Does after mid answer new) (λ failure. IsRefused (told failure) mid answer new)) h) [
-        | inl w ↦ does one old found b refl w.1
-        | inr w ↦ next w.1.0 w.1.1 w.1.2 w.1.3
-      ]
-    where
-      next : (after : Publisher T) (mid : Service T) → publishing.Follows p one old after mid
-          → Outcomes (choices.publisher_acts p one.degradation) (zip old.subscriber_list.places after.connected)
-          (λ done. Does after mid answer new) (λ failure. IsRefused (told failure) mid answer new) → R
-      next after mid came told_so =
-          let there : at p mid.publishers ≡ Some after = follows-publishers one old after mid found came in
-          let now : BetweenOf sent received born after mid = (follows-between sent received born one old after mid free came b).0 in
-          elim (by-outcome (choices.publisher_acts p one.degradation) (zip old.subscriber_list.places after.connected)
-          (λ done. Does after mid answer new) (λ failure. IsRefused (told failure) mid answer new) told_so) [
-            | inl r ↦ does after mid there now (ap (λ (it : Publisher T). it.last_sequence) came.2) r.2
-            | inr r ↦ refused r.0 mid (after, there, now) r.2
-          ]
-
-  -- What a send comes to: it began, and its message was sent; or it didn't.
-  abbrev pub CameTo : List (Message T) → List (Message T) → ℕ → Message T → Reply T → Service T → Type 0
-  CameTo sent received born message answer new =
-      ((has_begun answer ≡ true) × Stands (sent ++ message ∷ []) received born new)
-      ⊎ ((has_begun answer ≡ false) × Stands sent received born new)
-
-  unsent : (sent received : List (Message T)) (born : ℕ) (message : Message T) (why : Refusal) (mid : Service T) (answer : Reply T)
-      (new : Service T) → has_begun {T = T} (reply.Refused why) ≡ false → Stands sent received born mid → IsRefused why mid answer new
-      → CameTo sent received born message answer new
-  unsent sent received born message why mid answer new silent stands refused = inr (
-    ap has_begun refused.0 ∙ silent,
-    subst (λ (service : Service T). Stands sent received born service) (sym refused.1) stands,
-  )
-
-  pub sends-between : (choices : Choices T) (sent received : List (Message T)) (born : ℕ) (message : Message T) (one : Publisher T)
-      (old : Service T)
-      (answer : Reply T) (new : Service T) → at p old.publishers ≡ Some one → one.blocked ≡ None → BetweenOf sent received born one old
-      → Sends choices p message one old answer new → CameTo sent received born (numbered one message) answer new
-  sends-between choices sent received born message one old answer new found free b h =
-      elim (by-send choices p message one old answer new h) [
-        | inl w ↦ updates-between choices (CameTo sent received born (numbered one message) answer new) sent received born
-            (λ failure. refusal.Send (error.ConnectionError failure)) (Begins choices p message) one old answer new found free b
-            (λ after mid there now same begun. inl (
-              beginning-told choices p message after mid answer new begun,
-              subst (λ (last : Option ℕ). Stands (sent ++ record message { sequence = next_sequence last } ∷ []) received born new) same
-                  (begins-between choices sent received born message after mid answer new there now begun),
-            ))
-            (λ failure mid stands refused. unsent sent received born (numbered one message)
-            (refusal.Send (error.ConnectionError failure)) mid answer new refl stands refused) w
-        | inr w ↦ unsent sent received born (numbered one message) (refusal.Send (at_once w.0)) old answer new (at-once-silent T w.0)
-            (one, found, b) w.1
-      ]
 
   pub lends-stands : (sent received : List (Message T)) (born values : ℕ) (one : Publisher T) (old : Service T) (refused : Option LoanError)
       (after : Publisher T) → at p old.publishers ≡ Some one → BetweenOf sent received born one old
@@ -700,34 +537,3 @@ module _ {T : Type 0} (p s : ℕ) where
       → one.blocked ≡ None → Lends p values one old refused after → after.blocked ≡ None
   lends-free values one old refused after free lent =
       lends-between p values one old refused after (λ history connected blocked last. blocked ≡ None) lent free
-
-  lends-numbered : (values : ℕ) (one : Publisher T) (old : Service T) (refused : Option LoanError) (after : Publisher T)
-      → Lends p values one old refused after → after.last_sequence ≡ one.last_sequence
-  lends-numbered values one old refused after lent =
-      lends-between p values one old refused after (λ history connected blocked last. last ≡ one.last_sequence) lent refl
-
-  pub puts-between : (choices : Choices T) (sent received : List (Message T)) (born : ℕ) (values : List T) (one : Publisher T)
-      (old : Service T)
-      (answer : Reply T) (new : Service T) → at p old.publishers ≡ Some one → one.blocked ≡ None → BetweenOf sent received born one old
-      → Puts choices p values one old answer new → CameTo sent received born (next_message values one) answer new
-  puts-between choices sent received born values one old answer new found free b (None, after, lent, sent_so) =
-      let next : (at p (with_publisher p after old).publishers ≡ Some after)
-      × BetweenOf sent received born after (with_publisher p after old) =
-      lends-stands sent received born (length values) one old None after found b lent in
-      subst (λ (last : Option ℕ). CameTo sent received born (record { number = one.next; sequence = next_sequence last; values = values })
-      answer new) (lends-numbered (length values) one old None after lent)
-      (sends-between choices sent received born (record { number = one.next; sequence = None; values = values }) after
-      (with_publisher p after old) answer new next.0 (lends-free (length values) one old None after free lent) next.1 sent_so)
-  puts-between choices sent received born values one old answer new found free b (Some why, after, lent, refused) =
-      unsent sent received born (next_message values one) (refusal.Send (error.LoanError why)) old answer new refl (one, found, b) refused
-
-  pub lends-loan-between : (sent received : List (Message T)) (born loan count : ℕ) (value : Option T) (one : Publisher T)
-      (old : Service T) (answer : Reply T) (new : Service T) → at p old.publishers ≡ Some one → BetweenOf sent received born one old
-      → LendsLoan loan p count value one old answer new → Stands sent received born new
-  lends-loan-between sent received born loan count value one old answer new found b (None, after, lent, (told, came)) =
-      let next : (at p (with_publisher p after old).publishers ≡ Some after)
-      × BetweenOf sent received born after (with_publisher p after old) =
-      lends-stands sent received born count one old None after found b lent in
-      subst (λ (service : Service T). Stands sent received born service) (sym came) (after, next.0, next.1)
-  lends-loan-between sent received born loan count value one old answer new found b (Some why, after, lent, (told, same)) =
-      subst (λ (service : Service T). Stands sent received born service) (sym same) (one, found, b)

@@ -5,7 +5,7 @@ use Rattle.std.proofs.lemmas.Bool.{eqb-true, eqb-false, and_cases, cases_Bool, t
 use Rattle.std.specs.List.{AllByRecursion}
 use Rattle.std.specs.Prelude.{⊤, ◌==◌, is_some, find, slice_get}
 use Rattle.iox_machine.proofs.Shorthands.{left, registered, taken, with_subscriber}
-use Rattle.iox_machine.specs.Arriving.{SubscriberArrives, new_publisher}
+use Rattle.iox_machine.specs.Arriving.{new_publisher}
 use Rattle.iox_machine.specs.Mailbox.{Mailbox}
 use Rattle.iox_machine.specs.Message.{Message, Sample}
 use Rattle.iox_machine.specs.PortList.{PortList, those, unless}
@@ -16,11 +16,12 @@ use Rattle.iox_machine.specs.State.{Made, counted, replaced}
 use Rattle.iox_machine.specs.SubscriberUpdate as subscribing
 use Rattle.iox_machine.specs.Table.{at, contains}
 use Rattle.iox_machine.proofs.Cases.{same-some, never-some, both-true}
-use Rattle.iox_machine.proofs.Frames.{waiting_in, BySubscriber, box-same, box-other, box-aside, soft-followed, subscriber-comes}
+use Rattle.iox_machine.proofs.Frames.{waiting_in, BySubscriber, box-same, box-other, box-aside, soft-followed}
 use Rattle.iox_machine.proofs.Lists.{all-weaker}
 use Rattle.iox_machine.proofs.Order.{Between, BetweenOf, between-waits, between-places, follows-between, follows-publishers}
-use Rattle.iox_machine.proofs.OrderSteps.{IsLater, Alike, Lacks, Fits, IsOfOne, Moves, made-later, below, up, alike-soft, lacks-later}
-use Rattle.iox_machine.proofs.OrderSteps.{stands-later, moves-alike, alike-none, noted}
+use Rattle.iox_machine.proofs.OrderSteps.{IsLater, Alike, Lacks, Fits, IsOfOne, Moves, made-later, made-same, below, up, alike-soft}
+use Rattle.iox_machine.proofs.OrderSteps.{lacks-later}
+use Rattle.iox_machine.proofs.OrderSteps.{stands-later, moves-alike, noted}
 use Rattle.iox_machine.proofs.Parts.{part-none, Once, contains-set, contains-unless, once-set-new, once-set-other, once-unless}
 use Rattle.iox_machine.proofs.Tables.{at-appended}
 use Rattle.iox_command.specs.NegotiateBase.DescribeSettings.declared.static_config.publish_subscribe.StaticConfig.{StaticConfig}
@@ -132,52 +133,39 @@ module _ {T : Type 0} (p s : ℕ) (G : List ℕ → StaticConfig → Message T �
         )),
   )
 
-  pub moves-leaves : (made : Made) (answer : Reply T) (sent received : List (Message T)) (IsFirst : Type 0) (number : ℕ) (one : Subscriber)
-      (old : Service T) → (counted answer made).subscribers ≡ made.subscribers
-      → Moves p s G made (counted answer made) sent received sent received IsFirst old
+  pub moves-leaves : (made : Made) (sent received : List (Message T)) (IsFirst : Type 0) (number : ℕ) (one : Subscriber) (old : Service T)
+      → Moves p s G made made sent received sent received IsFirst old
       (with_subscriber number one (record old { subscriber_list = left number old.subscriber_list }))
-  moves-leaves made answer sent received IsFirst number one old same =
-      moves-places made (counted answer made) sent received IsFirst old
+  moves-leaves made sent received IsFirst number one old =
+      moves-places made made sent received IsFirst old
       (with_subscriber number one (record old { subscriber_list = left number old.subscriber_list }))
-      (map (unless (number ∷ [])) old.subscriber_list.places) (made-later answer made) refl refl refl refl refl
-      (λ once fresh. subst (λ (later : ℕ). AreListed s made.subscribers later old.subscriber_list.places
-      (map (unless (number ∷ [])) old.subscriber_list.places)) (sym same)
-      (leaves s made.subscribers number old.subscriber_list.places once fresh))
+      (map (unless (number ∷ [])) old.subscriber_list.places) (made-same made) refl refl refl refl refl
+      (λ once fresh. leaves s made.subscribers number old.subscriber_list.places once fresh)
 
-  pub moves-subscriber : (made : Made) (sent received : List (Message T)) (IsFirst : Type 0) (buffer : ℕ) (one : Subscriber)
-      (old : Service T) (answer : Reply T) (new : Service T) → SubscriberArrives buffer (made.subscribers + 1) one old answer new
+  pub moves-subscriber : (made : Made) (sent received : List (Message T)) (IsFirst : Type 0) (buffer number place : ℕ)
+      (one after : Subscriber) (old mid new : Service T) (answer : Reply T) → number ≡ made.subscribers + 1
+      → subscribing.Follows buffer number one (record old { subscribers = old.subscribers ++ (number, one) ∷ [] }) after mid
+      → new ≡ record mid { subscriber_list = registered place number mid.subscriber_list }
+      → slice_get old.subscriber_list.places place ≡ Some None → answer ≡ reply.SubscriberMade number
       → Moves p s G made (counted answer made) sent received sent received IsFirst old new
-  moves-subscriber made sent received IsFirst buffer one old answer new h =
-      elim (subscriber-comes buffer (made.subscribers + 1) one old answer new h) [
-        | inl same ↦ moves-alike p s G made (counted answer made) sent received IsFirst old new (made-later answer made)
-            (subst (λ (service : Service T). Alike p s old service) (sym same) (alike-none p s old))
-        | inr w ↦ comes w.0 w.1 w.2 w.3 w.4 w.5 w.6
-      ]
-    where
-      comes : (place : ℕ) (after : Subscriber) (mid : Service T) → subscribing.Follows buffer (made.subscribers + 1) one
-          (record old { subscribers = old.subscribers ++ (made.subscribers + 1, one) ∷ [] }) after mid
-          → new ≡ record mid { subscriber_list = registered place (made.subscribers + 1) mid.subscriber_list }
-          → slice_get old.subscriber_list.places place ≡ Some None → answer ≡ reply.SubscriberMade (made.subscribers + 1)
-          → Moves p s G made (counted answer made) sent received sent received IsFirst old new
-      comes place after mid came is free told =
-          let number : ℕ = made.subscribers + 1 in
-          let more : Service T = record old { subscribers = old.subscribers ++ (number, one) ∷ [] } in
-          let soft : BySubscriber (with_subscriber number after more) mid = (soft-followed buffer number one more after mid came).0 in
-          let a : Alike p s old mid = alike-soft p s (with_subscriber number after more) mid soft in
-          let end : Service T = record mid { subscriber_list = registered place number mid.subscriber_list } in
-          let places : mid.subscriber_list.places ≡ old.subscriber_list.places = ap (λ (l : PortList). l.places) a.3 in
-          let first : Moves p s G made made sent received sent received IsFirst old mid =
-          moves-alike p s G made made sent received IsFirst old mid (omega arith, omega arith) a in
-          let second : Moves p s G made (counted answer made) sent received sent received ⊤ mid end =
-          moves-places made (counted answer made) sent received ⊤ mid end
-          (set mid.subscriber_list.places place (Some number)) (made-later answer made) refl refl refl refl refl
-          (λ once fresh. registers s made.subscribers number (counted answer made).subscribers place mid.subscriber_list.places
-          (ap (λ (l : List (Option ℕ)). slice_get l place) places ∙ free) refl
-          (ap (λ (told_so : Reply T). (counted told_so made).subscribers) told) once fresh) in
-          subst (λ (service : Service T). Moves p s G made (counted answer made) sent received sent received IsFirst old service) (sym is) (
-            (λ lacks. second.0 (first.0 lacks).0),
-            (λ fits is_first. second.1 (first.1 fits is_first) tt),
-          )
+  moves-subscriber made sent received IsFirst buffer number place one after old mid new answer next came is free told =
+      let more : Service T = record old { subscribers = old.subscribers ++ (number, one) ∷ [] } in
+      let soft : BySubscriber (with_subscriber number after more) mid = (soft-followed buffer number one more after mid came).0 in
+      let a : Alike p s old mid = alike-soft p s (with_subscriber number after more) mid soft in
+      let end : Service T = record mid { subscriber_list = registered place number mid.subscriber_list } in
+      let places : mid.subscriber_list.places ≡ old.subscriber_list.places = ap (λ (l : PortList). l.places) a.3 in
+      let first : Moves p s G made made sent received sent received IsFirst old mid =
+      moves-alike p s G made made sent received IsFirst old mid (made-same made) a in
+      let second : Moves p s G made (counted answer made) sent received sent received ⊤ mid end =
+      moves-places made (counted answer made) sent received ⊤ mid end
+      (set mid.subscriber_list.places place (Some number)) (made-later answer made) refl refl refl refl refl
+      (λ once fresh. registers s made.subscribers number (counted answer made).subscribers place mid.subscriber_list.places
+      (ap (λ (l : List (Option ℕ)). slice_get l place) places ∙ free) next
+      (ap (λ (told_so : Reply T). (counted told_so made).subscribers) told ∙ sym next) once fresh) in
+      subst (λ (service : Service T). Moves p s G made (counted answer made) sent received sent received IsFirst old service) (sym is) (
+        (λ lacks. second.0 (first.0 lacks).0),
+        (λ fits is_first. second.1 (first.1 fits is_first) tt),
+      )
 
   -- ---- the publisher itself comes
 

@@ -1,32 +1,25 @@
--- A put, a send and a receive keep the order in which messages were sent.
-use Rattle.std.proofs.Common.{◌≡◌, ◌+◌, ℕ, Bool, true, false, cond, not, ◌&&◌, List, [], ◌∷◌, ◌++◌, Option, None, Some, refl, sym, ap}
-use Rattle.std.proofs.Common.{subst, inl, inr, ◌∙◌}
-use Rattle.std.proofs.lemmas.Bool.{eqb-true, eqb-false, and_from, and_right, cases_Bool, true≢false}
+-- A receive keeps the order in which messages were sent.
+use Rattle.std.proofs.Common.{◌≡◌, ◌+◌, ℕ, Bool, true, false, cond, ◌&&◌, List, [], ◌∷◌, Option, None, Some, refl, sym, ap, subst}
+use Rattle.std.proofs.Common.{◌∙◌}
 use Rattle.std.specs.List.{AllByRecursion}
-use Rattle.std.specs.Prelude.{⊤, ◌==◌, is_some, find, option_map, option_and_then, MatchBool, MatchOption}
+use Rattle.std.specs.Prelude.{⊤, ◌==◌, is_some, find, option_and_then}
+use Rattle.iox_machine.proofs.Cases.{never-some}
+use Rattle.iox_machine.proofs.Frames.{BySubscriber, subscriber-stands, soft-both, soft-set, soft-updates}
+use Rattle.iox_machine.proofs.OrderPorts.{takes-moves}
+use Rattle.iox_machine.proofs.OrderRuns.{Goes, Quiet, alike-goes}
+use Rattle.iox_machine.proofs.OrderSteps.{noted, Alike, Moves, has_it, made-later, alike-soft, alike-refused, moves-alike}
+use Rattle.iox_machine.proofs.Runs.{all-found}
+use Rattle.iox_machine.proofs.Shorthands.{with_subscriber}
+use Rattle.iox_machine.proofs.Tables.{at-appended}
 use Rattle.iox_machine.specs.Choices.{Choices}
-use Rattle.iox_machine.specs.Message.{Message, Loan, Sample}
-use Rattle.iox_machine.specs.MessageLaws.{first_in, next_message, begun_by, received_by, sent_in}
-use Rattle.iox_machine.specs.Ports.{publisher_in, subscriber_in, Puts, SendsLoan}
+use Rattle.iox_machine.specs.Message.{Message, Sample}
+use Rattle.iox_machine.specs.MessageLaws.{first_in, received_by}
+use Rattle.iox_machine.specs.Ports.{subscriber_in}
 use Rattle.iox_machine.specs.Receiving.{Receives, has_samples, lasting}
-use Rattle.iox_machine.specs.RunLaws.{BeginsToSend, has_begun, sent_as, numbered, is_written}
-use Rattle.iox_machine.specs.Sending.{Sends}
-use Rattle.iox_machine.specs.Service.{Service, Publisher, Subscriber, Send}
-use Rattle.iox_machine.proofs.Shorthands.{with_subscriber, IsSkipped}
+use Rattle.iox_machine.specs.Service.{Service, Subscriber}
 use Rattle.iox_machine.specs.State.{State, Made, replaced, counted}
 use Rattle.iox_machine.specs.SubscriberUpdate as subscribing
-use Rattle.iox_machine.specs.Table.{at, removed}
-use Rattle.iox_machine.proofs.Cases.{by-bool, by-option, never-some, both-true}
-use Rattle.iox_machine.proofs.Frames.{ByPublisher, BySubscriber, publisher-stands, subscriber-stands, by-sends, by-puts, by-sends-loan}
-use Rattle.iox_machine.proofs.Frames.{soft-both, soft-set, soft-updates}
-use Rattle.iox_machine.proofs.Lists.{all-joined}
-use Rattle.iox_machine.proofs.Order.{BetweenOf, CameTo, sends-between, puts-between}
-use Rattle.iox_machine.proofs.OrderPorts.{takes-moves}
-use Rattle.iox_machine.proofs.OrderRuns.{begun-loan, first-is, Goes, Quiet, alike-goes, skip-goes}
-use Rattle.iox_machine.proofs.OrderSteps.{noted, Alike, Fits, Moves, has_it, made-later, up, alike-by, alike-soft, alike-refused}
-use Rattle.iox_machine.proofs.OrderSteps.{between-found, lacks-none, stands-later, moves-alike}
-use Rattle.iox_machine.proofs.Runs.{all-found}
-use Rattle.iox_machine.proofs.Tables.{at-appended}
+use Rattle.iox_machine.specs.Table.{at}
 use Rattle.iox_command.specs.DomainValues.declared.port_error.ReceiveError.TheVariants as receive_error
 use Rattle.iox_command.specs.NegotiateBase.DescribeSettings.declared.static_config.publish_subscribe.StaticConfig.{StaticConfig}
 use Rattle.iox_command.specs.declared.command.Command.TheVariants as command
@@ -67,163 +60,6 @@ module _ {T : Type 0} (p s : ℕ) (G : List ℕ → StaticConfig → Message T �
       → Moves p s G made later sent received then_sent then_received First one three
   moves-both made later then_sent then_received First one two three h k =
       ((λ lacks. k.0 (h.0 lacks).0), (λ fits is_first. k.1 (h.1 fits is_first) tt))
-
-  -- ---- a send
-
-  -- what the publisher's send comes to at its service
-  sends-goes : (old : State T) (answer : Reply T) (sending : Option (Message T)) (message : Message T) (service after : Service T)
-      (one : Publisher T) → (after.name ≡ service.name) → (after.settings ≡ service.settings) → at p service.publishers ≡ Some one
-      → (has_begun answer ≡ true → sending ≡ Some message) → (has_begun answer ≡ false → sending ≡ None)
-      → (has_begun answer ≡ true → IsFirst old service → G service.name service.settings message)
-      → (BetweenOf p s sent received old.made.subscribers one service
-      → CameTo p s sent received old.made.subscribers message answer after)
-      → Goes p s G sent received old answer sending None service after
-  sends-goes old answer sending message service after one names same found begun silent good does = (
-    (λ lacks. lacks-none p s old.made.subscribers service one found lacks),
-    (λ fits is_first. elim (does (between-found p s sent received old.made.subscribers service one found fits.0)) [
-      | inl w ↦ subst (λ (o : Option (Message T)). Fits p s G (counted answer old.made) (noted sent o) received after) (sym (begun w.0)) (
-        stands-later p s (sent ++ message ∷ []) received old.made.subscribers (counted answer old.made).subscribers
-            (made-later answer old.made).1 after w.1,
-        up p old.made.publishers (counted answer old.made).publishers fits.1 (made-later answer old.made).0,
-        all-joined (G after.name after.settings) sent (message ∷ []) (moved sent fits.2)
-            (moved (message ∷ []) (good w.0 is_first, tt)),
-      )
-      | inr w ↦ subst (λ (o : Option (Message T)). Fits p s G (counted answer old.made) (noted sent o) received after) (sym (silent w.0)) (
-        stands-later p s sent received old.made.subscribers (counted answer old.made).subscribers (made-later answer old.made).1 after w.1,
-        up p old.made.publishers (counted answer old.made).publishers fits.1 (made-later answer old.made).0,
-        moved sent fits.2,
-      )
-    ]),
-  )
-    where
-      moved : (messages : List (Message T)) → AllByRecursion (G service.name service.settings) messages
-          → AllByRecursion (G after.name after.settings) messages
-      moved messages all =
-          subst (λ (name : List ℕ). AllByRecursion (G name after.settings) messages) (sym names)
-          (subst (λ (c : StaticConfig). AllByRecursion (G service.name c) messages) (sym same) all)
-
-  -- which message is begun, once the publisher's answer is known
-  chosen-begun : (one begun : Bool) (message : Message T) → one ≡ true → begun ≡ true
-      → cond (one && begun) (Some message) None ≡ Some message
-  chosen-begun one begun message is told = ap (λ (b : Bool). cond b (Some message) None) (and_from one begun is told)
-
-  chosen-silent : (one begun : Bool) (o : Option (Message T)) → begun ≡ false → cond (one && begun) o None ≡ None
-  chosen-silent one begun o told = ap (λ (b : Bool). cond b o None) (and_right one begun told)
-
-  chosen-other : (one begun : Bool) (o : Option (Message T)) → one ≡ false → cond (one && begun) o None ≡ None
-  chosen-other one begun o is = ap (λ (b : Bool). cond (b && begun) o None) is
-
-  quiet-goes : (old : State T) (answer : Reply T) (sending : Option (Message T)) (service after : Service T) → sending ≡ None
-      → Quiet p s G sent received old answer service after → Goes p s G sent received old answer sending None service after
-  quiet-goes old answer sending service after none goes =
-      subst (λ (o : Option (Message T)). Goes p s G sent received old answer o None service after) (sym none) goes
-
-  pub put-goes : (choices : Choices T) (number : ℕ) (values : List T) (old : State T) (answer : Reply T) (service : Service T)
-      (one : Publisher T)
-      (after : Service T)
-      → find (λ (other : Service T). is_some (publisher_in number other)) old.services ≡ Some service
-      → publisher_in number service ≡ Some one
-      → ((message : Message T) (it : Service T) → BeginsToSend p message.values (command.Put number values) old answer → IsFirst old it
-      → G it.name it.settings message)
-      → MatchOption one.blocked (Puts choices number values one service answer after) (λ send. IsSkipped service answer after)
-      → Goes p s G sent received old answer (begun_by p (command.Put number values) old answer) None service after
-  put-goes choices number values old answer service one after first is good did = elim (cases_Bool (number == p)) [
-    | inr other ↦ quiet-goes old answer (begun_by p (command.Put number values) old answer) service after
-        (chosen-other (number == p) (has_begun answer) (option_map (next_message values) (first_in (publisher_in number) old)) other)
-        (elim (by-option one.blocked (Puts choices number values one service answer after) (λ send. IsSkipped service answer after) did) [
-          | inl w ↦ alike-goes p s G sent received old answer service after
-              (alike-by p s number service after (λ e. eqb-false number p other (sym e))
-              (by-puts choices number values one service answer after w.1))
-          | inr w ↦ skip-goes p s G sent received old answer service after w.2
-        ])
-    | inl same ↦ elim (by-option one.blocked (Puts choices number values one service answer after)
-        (λ send. IsSkipped service answer after) did) [
-          | inl w ↦ puts (eqb-true number p same) same w.0 w.1
-          | inr w ↦ quiet-goes old answer (begun_by p (command.Put number values) old answer) service after
-              (chosen-silent (number == p) (has_begun answer) (option_map (next_message values) (first_in (publisher_in number) old))
-              (ap has_begun w.2.0))
-              (skip-goes p s G sent received old answer service after w.2)
-        ]
-  ]
-    where
-      puts : number ≡ p → (number == p) ≡ true → one.blocked ≡ None → Puts choices number values one service answer after
-          → Goes p s G sent received old answer (begun_by p (command.Put number values) old answer) None service after
-      puts e same free h =
-          let there : at p service.publishers ≡ Some one =
-          subst (λ (k : ℕ). at k service.publishers ≡ Some one) e (publisher-stands number service one is) in
-          let by : ByPublisher number service after = by-puts choices number values one service answer after h in
-          let message : Message T = next_message values one in
-          sends-goes old answer (begun_by p (command.Put number values) old answer) message service after one by.0 by.1 there
-          (λ begun. ap (λ (o : Option (Publisher T)). cond ((number == p) && has_begun answer) (option_map (next_message values) o) None)
-          (first-is (publisher_in number) old service one first is)
-          ∙ chosen-begun (number == p) (has_begun answer) message same begun)
-          (λ silent. chosen-silent (number == p) (has_begun answer)
-          (option_map (next_message values) (first_in (publisher_in number) old)) silent)
-          (λ begun is_first. good message service (e, refl, begun) is_first)
-          (λ b. puts-between p s choices sent received old.made.subscribers values one service answer after there free b
-          (subst (λ (k : ℕ). Puts choices k values one service answer after) e h))
-
-  pub send-goes : (choices : Choices T) (loan : ℕ) (old : State T) (answer : Reply T) (service : Service T) (one : Loan T)
-      (after : Service T)
-      → find (λ (other : Service T). is_some (at loan other.loans)) old.services ≡ Some service → at loan service.loans ≡ Some one
-      → ((message : Message T) (it : Service T) → BeginsToSend p message.values (command.Send loan) old answer → IsFirst old it
-      → G it.name it.settings message)
-      → SendsLoan choices loan one service answer after
-      → Goes p s G sent received old answer (begun_by p (command.Send loan) old answer) None service after
-  send-goes choices loan old answer service one after first is good did = elim (cases_Bool (one.publisher == p)) [
-    | inr other ↦ quiet-goes old answer (begun_by p (command.Send loan) old answer) service after
-        (found ∙ chosen-other (one.publisher == p) (has_begun answer) (sent_in service one) other)
-        (alike-goes p s G sent received old answer service after
-        (alike-by p s one.publisher service after (λ e. eqb-false one.publisher p other (sym e))
-        (by-sends-loan choices loan one service answer after did)))
-    | inl same ↦ elim (by-option (at one.publisher service.publishers) (IsSkipped service answer after)
-        (λ publisher. MatchBool (is_written one && not (is_some publisher.blocked))
-        (Sends choices one.publisher (sent_as one) publisher (record service { loans = removed loan service.loans }) answer after)
-        (IsSkipped service answer after)) did) [
-          | inl w ↦ quiet-goes old answer (begun_by p (command.Send loan) old answer) service after
-              (found ∙ chosen-silent (one.publisher == p) (has_begun answer) (sent_in service one) (ap has_begun w.1.0))
-              (skip-goes p s G sent received old answer service after w.1)
-          | inr w ↦ elim (by-bool (is_written one && not (is_some w.0.blocked))
-              (Sends choices one.publisher (sent_as one) w.0 (record service { loans = removed loan service.loans }) answer after)
-              (IsSkipped service answer after) w.2) [
-                | inl k ↦ sends (eqb-true one.publisher p same) same w.0 w.1
-                    (both-true (is_written one) (not (is_some w.0.blocked)) k.0) k.1
-                | inr k ↦ quiet-goes old answer (begun_by p (command.Send loan) old answer) service after
-                    (found ∙ chosen-silent (one.publisher == p) (has_begun answer) (sent_in service one) (ap has_begun k.1.0))
-                    (skip-goes p s G sent received old answer service after k.1)
-              ]
-        ]
-  ]
-    where
-      found : begun_by p (command.Send loan) old answer
-          ≡ cond ((one.publisher == p) && has_begun answer) (sent_in service one) None
-      found = begun-loan p loan old answer service one first is
-
-      none-blocked : (o : Option (Send T)) → not (is_some o) ≡ true → o ≡ None
-      none-blocked None e = refl
-      none-blocked (Some send) e = absurd (true≢false (sym e))
-
-      sends : one.publisher ≡ p → (one.publisher == p) ≡ true → (publisher : Publisher T)
-          → at one.publisher service.publishers ≡ Some publisher
-          → (is_written one ≡ true) × (not (is_some publisher.blocked) ≡ true)
-          → Sends choices one.publisher (sent_as one) publisher (record service { loans = removed loan service.loans }) answer after
-          → Goes p s G sent received old answer (begun_by p (command.Send loan) old answer) None service after
-      sends e same publisher stands tests h =
-          let there : at p service.publishers ≡ Some publisher =
-          subst (λ (k : ℕ). at k service.publishers ≡ Some publisher) e stands in
-          let fewer : Service T = record service { loans = removed loan service.loans } in
-          let by : ByPublisher one.publisher fewer after = by-sends choices one.publisher (sent_as one) publisher fewer answer after h in
-          sends-goes old answer (begun_by p (command.Send loan) old answer) (numbered publisher (sent_as one)) service after publisher
-          by.0 by.1 there
-          (λ begun. found
-          ∙ (ap (λ (o : Option (Publisher T)). cond ((one.publisher == p) && has_begun answer)
-          (option_map (λ sender. numbered sender (sent_as one)) o) None) stands
-          ∙ chosen-begun (one.publisher == p) (has_begun answer) (numbered publisher (sent_as one)) same begun))
-          (λ silent. found ∙ chosen-silent (one.publisher == p) (has_begun answer) (sent_in service one) silent)
-          (λ begun is_first. good (numbered publisher (sent_as one)) service (service, one, first, is, e, tests.0, refl, begun) is_first)
-          (λ b. sends-between p s choices sent received old.made.subscribers (sent_as one) publisher fewer answer after there
-          (none-blocked publisher.blocked tests.1) b
-          (subst (λ (k : ℕ). Sends choices k (sent_as one) publisher fewer answer after) e h))
 
   -- ---- a receive
 

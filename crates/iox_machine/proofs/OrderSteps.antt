@@ -268,15 +268,60 @@ module _ {T : Type 0} (p s : ℕ) where
               inl (lacks, done.1, done.2),
             )
 
-    pub ordered-later : (sent received : List (Message T)) (old new : State T) → IsLater old.made new.made → new.services ≡ old.services
-        → IsOrdered sent received old → IsOrdered sent received new
-    ordered-later sent received old new on same ordered = (
-      subst (λ (services : List (Service T)). IsOfOne new.made sent received services) (sym same)
-          (one-later old.made new.made sent received on old.services ordered.0),
+    -- other services come and go
+    pub ordered-services : (sent received : List (Message T)) (old new : State T) → IsLater old.made new.made
+        → IsOfOne old.made sent received new.services → IsOrdered sent received old → IsOrdered sent received new
+    ordered-services sent received old new on one ordered = (
+      one-later old.made new.made sent received on new.services one,
       (λ early. ordered.1 (under old.made.publishers new.made.publishers p on.0 early)),
       ordered.2,
       ordered.3,
     )
+
+    pub moves-later : (made later : Made) (sent received then : List (Message T)) (IsFirst : Type 0) (old new : Service T)
+        → IsLater made later → Moves made made sent received then received IsFirst old new
+        → Moves made later sent received then received IsFirst old new
+    moves-later made later sent received then IsFirst old new on h = (
+      (λ lacks.
+          let went = h.0 lacks in
+          (lacks-later made.subscribers later.subscribers on.1 new went.0, went.1, went.2)),
+      (λ fits is_first. fits-later made later then received on new (h.1 fits is_first)),
+    )
+
+    -- something is done at one service
+    pub ordered-acted : (sent received : List (Message T)) (sending receiving : Option (Message T)) (has : Service T → Bool)
+        (service after : Service T) (old : State T) (answer : Reply T) (new : State T) → find has old.services ≡ Some service
+        → Moves old.made (counted answer old.made) sent received (noted sent sending) (noted received receiving)
+        (find has_it old.services ≡ Some service) service after
+        → new ≡ record old { made = counted answer old.made; services = replaced has after old.services } → IsOrdered sent received old
+        → IsOrdered (noted sent sending) (noted received receiving) new
+    ordered-acted sent received sending receiving has service after old answer new first moves came ordered =
+        let on : IsLater old.made (counted answer old.made) = made-later answer old.made in
+        let done : IsOfOne (counted answer old.made) (noted sent sending) (noted received receiving) (replaced has after old.services)
+        × ((Lacks old.made.subscribers service × (noted sent sending ≡ sent) × (noted received receiving ≡ received))
+        ⊎ (Fits old.made sent received service
+        × Fits (counted answer old.made) (noted sent sending) (noted received receiving) after)) =
+        moves-one old.made (counted answer old.made) sent received (noted sent sending) (noted received receiving) on has service after
+        old.services first moves ordered.0 in
+        subst (IsOrdered (noted sent sending) (noted received receiving)) (sym came) (
+          done.0,
+          (λ early. elim done.1 [
+            | inl idle ↦ (
+              idle.1 ∙ (ordered.1 (under old.made.publishers (counted answer old.made).publishers p on.0 early)).0,
+              idle.2 ∙ (ordered.1 (under old.made.publishers (counted answer old.made).publishers p on.0 early)).1,
+            )
+            | inr fits ↦ below p (counted answer old.made).publishers fits.1.1 early
+          ]),
+          elim done.1 [
+            | inl idle ↦ subst (λ (l : List (Message T)). IsPartOf l (noted sent sending)) (sym idle.2)
+                (subst (λ (l : List (Message T)). IsPartOf received l) (sym idle.1) ordered.2)
+            | inr fits ↦ part-front (noted received receiving) (waiting_in (after.mailboxes p s)) (noted sent sending) fits.1.0.2.waits
+          ],
+          elim done.1 [
+            | inl idle ↦ subst (λ (l : List (Message T)). (switch : Bool) × GoOnBehind (before_first switch 1) l) (sym idle.1) ordered.3
+            | inr fits ↦ (after.settings.sequence_numbers, fits.1.0.2.numbered_so.0)
+          ],
+        )
 
     -- a command does something at one service
     pub ordered-at-one : {V : Type 0} (sent received : List (Message T)) (sending receiving : Option (Message T))
@@ -299,45 +344,9 @@ module _ {T : Type 0} (p s : ℕ) where
           | inl w ↦ subst (λ (o : Option (Message T)). IsOrdered (noted sent o) (noted received receiving) new) (sym (skips w).0)
               (subst (λ (o : Option (Message T)). IsOrdered sent (noted received o) new) (sym (skips w).1)
               (subst (IsOrdered sent received) (sym w.1) ordered))
-          | inr w ↦ acted_so w.0 w.2 w.3 (does w.0 w.1 w.2 w.3 w.4 w.5 w.6) w.6
+          | inr w ↦ ordered-acted sent received sending receiving (λ (other : Service T). is_some (found other)) w.0 w.2 old answer new w.3
+              (does w.0 w.1 w.2 w.3 w.4 w.5 w.6) w.6 ordered
         ]
-      where
-        acted_so : (service after : Service T) → find (λ (other : Service T). is_some (found other)) old.services ≡ Some service
-            → Moves old.made (counted answer old.made) sent received (noted sent sending) (noted received receiving)
-            (find has_it old.services ≡ Some service) service after
-            → new ≡ record old {
-              made = counted answer old.made;
-              services = replaced (λ (other : Service T). is_some (found other)) after old.services;
-            } → IsOrdered (noted sent sending) (noted received receiving) new
-        acted_so service after first moves came =
-            let on : IsLater old.made (counted answer old.made) = made-later answer old.made in
-            let done : IsOfOne (counted answer old.made) (noted sent sending) (noted received receiving)
-            (replaced (λ (other : Service T). is_some (found other)) after old.services)
-            × ((Lacks old.made.subscribers service × (noted sent sending ≡ sent) × (noted received receiving ≡ received))
-            ⊎ (Fits old.made sent received service
-            × Fits (counted answer old.made) (noted sent sending) (noted received receiving) after)) =
-            moves-one old.made (counted answer old.made) sent received (noted sent sending) (noted received receiving) on
-            (λ (other : Service T). is_some (found other)) service after old.services first moves ordered.0 in
-            subst (IsOrdered (noted sent sending) (noted received receiving)) (sym came) (
-              done.0,
-              (λ early. elim done.1 [
-                | inl idle ↦ (
-                  idle.1 ∙ (ordered.1 (under old.made.publishers (counted answer old.made).publishers p on.0 early)).0,
-                  idle.2 ∙ (ordered.1 (under old.made.publishers (counted answer old.made).publishers p on.0 early)).1,
-                )
-                | inr fits ↦ below p (counted answer old.made).publishers fits.1.1 early
-              ]),
-              elim done.1 [
-                | inl idle ↦ subst (λ (l : List (Message T)). IsPartOf l (noted sent sending)) (sym idle.2)
-                    (subst (λ (l : List (Message T)). IsPartOf received l) (sym idle.1) ordered.2)
-                | inr fits ↦ part-front (noted received receiving) (waiting_in (after.mailboxes p s)) (noted sent sending)
-                    fits.1.0.2.waits
-              ],
-              elim done.1 [
-                | inl idle ↦ subst (λ (l : List (Message T)). (switch : Bool) × GoOnBehind (before_first switch 1) l) (sym idle.1) ordered.3
-                | inr fits ↦ (after.settings.sequence_numbers, fits.1.0.2.numbered_so.0)
-              ],
-            )
 
     -- ---- services at which nothing is sent or received
 

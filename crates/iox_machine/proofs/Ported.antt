@@ -154,30 +154,6 @@ module _ {T : Type 0} where
   module _ (types : MessageTypeDetails) (choices : Choices T) (buffer : ℕ) where
     pub ports-move : (asked : Command T) (old : State T) (answer : Reply T) (new : State T) → is_of_ports asked ≡ true
         → Step types choices buffer asked old answer new → IsBeside asked old answer new
-    ports-move command.Node old answer new is h = absurd (differ is)
-      where
-        differ : false ≡ true → ⊥
-        differ e = cc
-    ports-move (command.Create node name options attributes steps) old answer new is h = absurd (differ is)
-      where
-        differ : false ≡ true → ⊥
-        differ e = cc
-    ports-move (command.Open node name options required steps) old answer new is h = absurd (differ is)
-      where
-        differ : false ≡ true → ⊥
-        differ e = cc
-    ports-move (command.OpenOrCreate node name options required steps) old answer new is h = absurd (differ is)
-      where
-        differ : false ≡ true → ⊥
-        differ e = cc
-    ports-move (command.Foreign pattern name steps) old answer new is h = absurd (differ is)
-      where
-        differ : false ≡ true → ⊥
-        differ e = cc
-    ports-move (command.Close factory) old answer new is h = absurd (differ is)
-      where
-        differ : false ≡ true → ⊥
-        differ e = cc
     ports-move (command.Publisher factory options) old answer new is h =
         at-factory (command.Publisher factory options) types choices buffer factory
         (λ (service : Service T). PublisherArrives (old.made.publishers + 1)
@@ -311,3 +287,4 @@ module _ {T : Type 0} where
         (λ (it : Subscriber) (mid : Service T) (answered : Reply T) (end : Service T).
         (answered ≡ reply.Has (has_samples subscriber it mid)) × (end ≡ mid)) one service after (itself old.made service)
         (λ it mid k done. ends old.made service answer (reply.Has (has_samples subscriber it mid)) mid after k done tt) did) h
+    ports-move other old answer new is h = absurd (true≢false (sym is))

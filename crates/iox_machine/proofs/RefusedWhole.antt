@@ -1,27 +1,22 @@
 -- A command that is refused as a whole changes nothing.
-use Rattle.std.proofs.Common.{◌≡◌, ◌⊎◌, ◌+◌, ℕ, Bool, true, false, cond, List, [], ◌∷◌, ◌++◌, Option, None, Some, refl, ap, inl, inr, ◌∙◌}
-use Rattle.std.specs.Prelude.{nat_lt, nat_le, is_some, slice_get, MatchBool, MatchOption, ◌||◌, ◌^◌}
-use Rattle.std.specs.List.{list_all}
+use Rattle.std.proofs.Common.{◌≡◌, ◌+◌, ℕ, Bool, true, false, cond, List, Option, None, Some, refl, ap, inl, inr, ◌∙◌}
+use Rattle.std.specs.Prelude.{is_some, MatchOption}
+use Rattle.iox_machine.proofs.Cases.{by-option}
+use Rattle.iox_machine.proofs.Frames.{publisher-comes, subscriber-comes}
+use Rattle.iox_machine.proofs.Moving.{IsClosed, at-one, replaced-same, closed}
+use Rattle.iox_machine.proofs.Shorthands.{AtFree, IsSkipped}
+use Rattle.iox_machine.specs.Arriving.{PublisherArrives, SubscriberArrives, new_publisher, new_subscriber}
 use Rattle.iox_machine.specs.Choices.{Choices}
-use Rattle.iox_machine.specs.Arriving.{PublisherArrives, SubscriberArrives, new_publisher, new_subscriber, worst_case}
 use Rattle.iox_machine.specs.Ports.{publisher_in, LendsLoan}
-use Rattle.iox_machine.specs.PublisherUpdate as publishing
-use Rattle.iox_machine.proofs.Shorthands.{IsSkipped, IsRefused, registered, AtFree}
 use Rattle.iox_machine.specs.Run.{Step, AtFactory}
 use Rattle.iox_machine.specs.RunLaws.{RefusedChangesNothing, is_refused_whole}
 use Rattle.iox_machine.specs.Service.{Service, Publisher, Subscriber}
 use Rattle.iox_machine.specs.State.{State, AtOne, is_service_of, replaced}
-use Rattle.iox_machine.specs.SubscriberUpdate as subscribing
 use Rattle.iox_machine.specs.Table.{at}
-use Rattle.iox_machine.proofs.Cases.{by-bool, by-option}
-use Rattle.iox_machine.proofs.Moving.{IsClosed, at-one, replaced-same, closed}
-use Rattle.iox_command.specs.DomainValues.declared.create_error.PublisherCreateError.TheVariants as publisher_error
-use Rattle.iox_command.specs.DomainValues.declared.create_error.SubscriberCreateError.TheVariants as subscriber_error
 use Rattle.iox_command.specs.NegotiateBase.DescribeBase.declared.message_type.MessageTypeDetails.{MessageTypeDetails}
 use Rattle.iox_command.specs.declared.command.Command.{Command}
 use Rattle.iox_command.specs.declared.command.Command.TheVariants as command
 use Rattle.iox_command.specs.declared.refusal.Refusal.{Refusal}
-use Rattle.iox_command.specs.declared.refusal.Refusal.TheVariants as refusal
 use Rattle.iox_command.specs.declared.reply.Reply.{Reply}
 use Rattle.iox_command.specs.declared.reply.Reply.TheVariants as reply
 
@@ -45,96 +40,21 @@ module _ {T : Type 0} (reason : Refusal) where
   lends-refused loan number count value publisher old new (None, after, lent, (told, came)) = never (reply.LoanMade loan) told refl
   lends-refused loan number count value publisher old new (Some why, after, lent, (told, same)) = same
 
-  publisher-arrives-refused : (number : ℕ) (one : Publisher T) (old new : Service T) → PublisherArrives number one old
-      refused_so new → new ≡ old
-  publisher-arrives-refused number one old new h =
-      elim (by-bool (nat_le (2 ^ 32) (worst_case old.settings one.max_loaned_samples) || nat_le (2 ^ 32) one.room)
-      (IsRefused (refusal.Publisher publisher_error.UnableToCreateDataSegment) old refused_so new)
-      (MatchBool (list_all is_some old.publisher_list.places)
-      (IsRefused (refusal.Publisher publisher_error.ExceedsMaxSupportedPublishers) old refused_so new)
-      (IsRefused (refusal.Publisher publisher_error.UnableToCreateDataSegment) old refused_so new
-      ⊎ ((place : ℕ) × (slice_get old.publisher_list.places place ≡ Some None) × (after : Publisher T) × (mid : Service T)
-      × publishing.Follows number one (record old { publishers = old.publishers ++ (number, one) ∷ [] }) after mid
-      × (refused_so ≡ reply.PublisherMade number) ×
-      (new ≡ record mid { publisher_list = registered place number mid.publisher_list })))) h) [
-        | inl w ↦ w.1.1
-        | inr w ↦ further w.1
-      ]
-    where
-      comes : IsRefused (refusal.Publisher publisher_error.UnableToCreateDataSegment) old refused_so new
-          ⊎ ((place : ℕ) × (slice_get old.publisher_list.places place ≡ Some None) × (after : Publisher T) × (mid : Service T)
-          × publishing.Follows number one (record old { publishers = old.publishers ++ (number, one) ∷ [] }) after mid
-          × (refused_so ≡ reply.PublisherMade number) ×
-          (new ≡ record mid { publisher_list = registered place number mid.publisher_list }))
-          → new ≡ old
-      comes (inl same) = same.1
-      comes (inr (place, free, after, mid, came, told, is)) = never (reply.PublisherMade number) told refl
-
-      further : MatchBool (list_all is_some old.publisher_list.places)
-          (IsRefused (refusal.Publisher publisher_error.ExceedsMaxSupportedPublishers) old refused_so new)
-          (IsRefused (refusal.Publisher publisher_error.UnableToCreateDataSegment) old refused_so new
-          ⊎ ((place : ℕ) × (slice_get old.publisher_list.places place ≡ Some None) × (after : Publisher T) × (mid : Service T)
-          × publishing.Follows number one (record old { publishers = old.publishers ++ (number, one) ∷ [] }) after mid
-          × (refused_so ≡ reply.PublisherMade number) ×
-          (new ≡ record mid { publisher_list = registered place number mid.publisher_list })))
-          → new ≡ old
-      further h =
-          elim (by-bool (list_all is_some old.publisher_list.places)
-          (IsRefused (refusal.Publisher publisher_error.ExceedsMaxSupportedPublishers) old refused_so new)
-          (IsRefused (refusal.Publisher publisher_error.UnableToCreateDataSegment) old refused_so new
-          ⊎ ((place : ℕ) × (slice_get old.publisher_list.places place ≡ Some None) × (after : Publisher T) × (mid : Service T)
-          × publishing.Follows number one (record old { publishers = old.publishers ++ (number, one) ∷ [] }) after mid
-          × (refused_so ≡ reply.PublisherMade number) ×
-          (new ≡ record mid { publisher_list = registered place number mid.publisher_list }))) h) [
-            | inl w ↦ w.1.1
-            | inr w ↦ comes w.1
-          ]
-
-  subscriber-arrives-refused : (buffer number : ℕ) (one : Subscriber) (old new : Service T) → SubscriberArrives buffer number one old
-      refused_so new
+  publisher-arrives-refused : (number : ℕ) (one : Publisher T) (old new : Service T) → PublisherArrives number one old refused_so new
       → new ≡ old
-  subscriber-arrives-refused buffer number one old new h =
-      elim (by-bool (nat_lt old.settings.subscriber_max_buffer_size one.buffer_size)
-      (IsRefused (refusal.Subscriber subscriber_error.BufferSizeExceedsMaxSupportedBufferSizeOfService) old refused_so new)
-      (MatchBool (list_all is_some old.subscriber_list.places)
-      (IsRefused (refusal.Subscriber subscriber_error.ExceedsMaxSupportedSubscribers) old refused_so new)
-      (IsRefused (refusal.Subscriber subscriber_error.OutOfMemory) old refused_so new
-      ⊎ ((place : ℕ) × (slice_get old.subscriber_list.places place ≡ Some None) × (after : Subscriber) × (mid : Service T)
-      × subscribing.Follows buffer number one (record old { subscribers = old.subscribers ++ (number, one) ∷ [] }) after mid
-      × (refused_so ≡ reply.SubscriberMade number) ×
-      (new ≡ record mid { subscriber_list = registered place number mid.subscriber_list })))) h) [
-        | inl w ↦ w.1.1
-        | inr w ↦ further w.1
+  publisher-arrives-refused number one old new h =
+      elim (publisher-comes number one old refused_so new h) [
+        | inl same ↦ same
+        | inr w ↦ never (reply.PublisherMade number) w.5 refl
       ]
-    where
-      comes : IsRefused (refusal.Subscriber subscriber_error.OutOfMemory) old refused_so new
-          ⊎ ((place : ℕ) × (slice_get old.subscriber_list.places place ≡ Some None) × (after : Subscriber) × (mid : Service T)
-          × subscribing.Follows buffer number one (record old { subscribers = old.subscribers ++ (number, one) ∷ [] }) after mid
-          × (refused_so ≡ reply.SubscriberMade number) ×
-          (new ≡ record mid { subscriber_list = registered place number mid.subscriber_list }))
-          → new ≡ old
-      comes (inl same) = same.1
-      comes (inr (place, free, after, mid, came, told, is)) = never (reply.SubscriberMade number) told refl
 
-      further : MatchBool (list_all is_some old.subscriber_list.places)
-          (IsRefused (refusal.Subscriber subscriber_error.ExceedsMaxSupportedSubscribers) old refused_so new)
-          (IsRefused (refusal.Subscriber subscriber_error.OutOfMemory) old refused_so new
-          ⊎ ((place : ℕ) × (slice_get old.subscriber_list.places place ≡ Some None) × (after : Subscriber) × (mid : Service T)
-          × subscribing.Follows buffer number one (record old { subscribers = old.subscribers ++ (number, one) ∷ [] }) after mid
-          × (refused_so ≡ reply.SubscriberMade number) ×
-          (new ≡ record mid { subscriber_list = registered place number mid.subscriber_list })))
-          → new ≡ old
-      further h =
-          elim (by-bool (list_all is_some old.subscriber_list.places)
-          (IsRefused (refusal.Subscriber subscriber_error.ExceedsMaxSupportedSubscribers) old refused_so new)
-          (IsRefused (refusal.Subscriber subscriber_error.OutOfMemory) old refused_so new
-          ⊎ ((place : ℕ) × (slice_get old.subscriber_list.places place ≡ Some None) × (after : Subscriber) × (mid : Service T)
-          × subscribing.Follows buffer number one (record old { subscribers = old.subscribers ++ (number, one) ∷ [] }) after mid
-          × (refused_so ≡ reply.SubscriberMade number) ×
-          (new ≡ record mid { subscriber_list = registered place number mid.subscriber_list }))) h) [
-            | inl w ↦ w.1.1
-            | inr w ↦ comes w.1
-          ]
+  subscriber-arrives-refused : (buffer number : ℕ) (one : Subscriber) (old new : Service T)
+      → SubscriberArrives buffer number one old refused_so new → new ≡ old
+  subscriber-arrives-refused buffer number one old new h =
+      elim (subscriber-comes buffer number one old refused_so new h) [
+        | inl same ↦ same
+        | inr w ↦ never (reply.SubscriberMade number) w.6 refl
+      ]
 
   -- ---- the state
 
@@ -213,24 +133,7 @@ module _ {T : Type 0} (reason : Refusal) where
     step-refused (command.LoanUninit publisher count) old new whole h =
         at-free-refused publisher (LendsLoan (old.made.loans + 1) publisher count None) old new
         (λ one service after did. lends-refused (old.made.loans + 1) publisher count None one service after did) h
-    step-refused (command.Create node name options attributes steps) old new whole h = absurd (differ whole)
-    step-refused (command.Open node name options required steps) old new whole h = absurd (differ whole)
-    step-refused (command.OpenOrCreate node name options required steps) old new whole h = absurd (differ whole)
-    step-refused (command.Foreign pattern name steps) old new whole h = absurd (differ whole)
-    step-refused (command.Set loan place value) old new whole h = absurd (differ whole)
-    step-refused (command.Fill loan values) old new whole h = absurd (differ whole)
-    step-refused (command.Drop loan) old new whole h = absurd (differ whole)
-    step-refused (command.Send loan) old new whole h = absurd (differ whole)
-    step-refused (command.Put publisher values) old new whole h = absurd (differ whole)
-    step-refused (command.Retry publisher nanoseconds) old new whole h = absurd (differ whole)
-    step-refused (command.GiveUp publisher) old new whole h = absurd (differ whole)
-    step-refused (command.Receive subscriber) old new whole h = absurd (differ whole)
-    step-refused (command.Read sample) old new whole h = absurd (differ whole)
-    step-refused (command.Sequence sample) old new whole h = absurd (differ whole)
-    step-refused (command.Release sample) old new whole h = absurd (differ whole)
-    step-refused (command.Update which) old new whole h = absurd (differ whole)
-    step-refused (command.Leave which) old new whole h = absurd (differ whole)
-    step-refused (command.Has subscriber) old new whole h = absurd (differ whole)
+    step-refused other old new whole h = absurd (differ whole)
 
 pub refused-changes-nothing : {T : Type 0} (choices : Choices T) → RefusedChangesNothing choices
 refused-changes-nothing choices types buffer asked old new reason whole h =

@@ -1,7 +1,7 @@
 -- A service that was created can be opened by the same options.
 use Rattle.std.proofs.Common.{◌≡◌, ◌⊎◌, ◌≤◌, ◌+◌, ℕ, Bool, true, false, ◌||◌, List, [], ◌∷◌, length, Option, None, Some, Result}
 use Rattle.std.proofs.Common.{Ok, Err, refl, sym}
-use Rattle.std.proofs.Common.{ap, subst, inl, inr, arith, ◌∙◌, true≢false}
+use Rattle.std.proofs.Common.{subst, inl, inr, arith, ◌∙◌, true≢false}
 use Rattle.std.proofs.lemmas.Bool.{eq-eqb, ltb-false}
 use Rattle.std.specs.List.{AllByRecursion}
 use Rattle.std.specs.Prelude.{◌==◌, max, nat_lt, unwrap_or, MatchBool, MatchResult}
@@ -13,7 +13,7 @@ use Rattle.iox_machine.specs.Agreement.{Agreement, verdict}
 use Rattle.iox_machine.specs.AgreementLaws.{HasOne}
 use Rattle.iox_machine.specs.Asked.{number_unless_off, settings_of}
 use Rattle.iox_machine.specs.Choices.{Choices}
-use Rattle.iox_machine.specs.Phase.{Node, Own, Phase, Published, is_in}
+use Rattle.iox_machine.specs.Phase.{Node, Own, Phase, is_in}
 use Rattle.iox_machine.specs.ReopeningLaws.{AskedMeetsItself, CreatedMayBeOpened, requiring}
 use Rattle.iox_machine.specs.ServiceReplyLaws.{OpeningAnswers, open_told}
 use Rattle.iox_machine.specs.VerdictLaws.{AreCompatible, HasRequired, IsAsNamed, IsEnough, IsSwitched}
@@ -23,13 +23,10 @@ use Rattle.iox_command.specs.NegotiateBase.DescribeSettings.Agreement.{max_nodes
 use Rattle.iox_command.specs.NegotiateBase.declared.errors.event.EventOpenError.TheVariants as event_open
 use Rattle.iox_command.specs.NegotiateBase.declared.errors.publish_subscribe.PublishSubscribeOpenError.TheVariants as publish_subscribe_open
 use Rattle.iox_command.specs.NegotiateBase.declared.errors.request_response.RequestResponseOpenError.TheVariants as request_response_open
-use Rattle.iox_command.specs.Patterns.{pattern_of}
 use Rattle.iox_command.specs.declared.refusal.Refusal.{Refusal}
-use Rattle.iox_command.specs.declared.reply.Reply.{Reply}
 use Rattle.iox_command.specs.declared.reply.Reply.TheVariants as reply
 use Rattle.iox_command.specs.declared.service.NumberOrOff.{NumberOrOff}
 use Rattle.iox_command.specs.declared.service.NumberOrOff.TheVariants.{Number, Off}
-use Rattle.iox_command.specs.declared.service.ServiceOptions.{ServiceOptions}
 use Rattle.iox_command.specs.declared.service.ServiceOptions.TheVariants as options
 
 -- ---- clauses

@@ -1,6 +1,6 @@
--- A command is skipped exactly if it can't be carried out.
+-- A command is skipped exactly if it can't be carried out, and changes nothing then.
 use Rattle.std.proofs.Common.{◌≡◌, ◌⊎◌, ◌+◌, ℕ, Bool, true, false, cond, not, ◌&&◌, List, [], ◌∷◌, length, map, set, Option, None, Some}
-use Rattle.std.proofs.Common.{Result, Ok, Err, refl, sym, ap, inl, inr, ◌∙◌}
+use Rattle.std.proofs.Common.{Result, Ok, Err, refl, sym, ap, subst, inl, inr, ◌∙◌, true≢false}
 use Rattle.std.specs.Option.{option_map_or}
 use Rattle.std.specs.List.{list_all, list_any}
 use Rattle.std.specs.Prelude.{◌==◌, ◌||◌, ◌^◌, bytes_eq, filter, find, is_some, nat_le, nat_lt, slice_get, MatchBool, MatchOption}
@@ -10,6 +10,7 @@ use Rattle.std.specs.Vec.{vec_items}
 use Rattle.iox_machine.proofs.Cases.{by-bool, by-option}
 use Rattle.iox_machine.proofs.Delivering.{at_once, by-send, keeping, sending}
 use Rattle.iox_machine.proofs.Frames.{PublisherComes, SubscriberComes, by-updates, publisher-stands, soft-updates, subscriber-stands}
+use Rattle.iox_machine.proofs.Moving.{replaced-same}
 use Rattle.iox_machine.proofs.Shorthands.{AtBlocked, AtFree, IsRefused, IsSkipped, Opens, OpensOrCreates, closed_by, either_lacking}
 use Rattle.iox_machine.proofs.Shorthands.{factory_of, left}
 use Rattle.iox_machine.proofs.Shorthands.{with_publisher, with_subscriber}
@@ -29,11 +30,11 @@ use Rattle.iox_machine.specs.PublisherUpdate as publishing
 use Rattle.iox_machine.specs.Receiving.{Receives, has_samples}
 use Rattle.iox_machine.specs.Refusals.{create_refusal, either_refusal, open_refusal}
 use Rattle.iox_machine.specs.Run.{AtFactory, Step}
-use Rattle.iox_machine.specs.RunLaws.{is_written, sent_as}
+use Rattle.iox_machine.specs.RunLaws.{SkippedChangesNothing, is_written, sent_as}
 use Rattle.iox_machine.specs.Sending.{Begins, GoesOn, Sends}
 use Rattle.iox_machine.specs.Service.{Publisher, Send, Service, Subscriber}
 use Rattle.iox_machine.specs.SkippedLaws.{SkippedIfUnready, is_applicable, is_held_up, is_ready_for, sends_freely}
-use Rattle.iox_machine.specs.State.{AtOne, Factory, State, counted, is_service_of, replaced, with_phase}
+use Rattle.iox_machine.specs.State.{AtOne, Factory, Made, State, counted, is_service_of, replaced, with_phase}
 use Rattle.iox_machine.specs.SubscriberUpdate as subscribing
 use Rattle.iox_machine.specs.Table.{at, removed}
 use Rattle.iox_command.specs.DomainValues.declared.connection_failure.ConnectionFailure.{ConnectionFailure}
@@ -70,6 +71,21 @@ module _ {T : Type 0} where
 
   refuses : (why : Refusal) (old : Service T) (answer : Reply T) (new : Service T) → IsRefused why old answer new → Tells answer
   refuses why old answer new h = ap is_skipped h.0
+
+  -- The command is skipped exactly if it isn't ready, and nothing changes then.
+  abbrev Exactly : {S : Type 0} → Bool → Reply T → S → S → Type 0
+  Exactly ready answer old new = (is_skipped answer ≡ not ready) × (is_skipped answer ≡ true → new ≡ old)
+
+  does-so : {S : Type 0} (ready : Bool) (answer : Reply T) (old new : S) → ready ≡ true → Tells answer → Exactly ready answer old new
+  does-so ready answer old new is tells = (tells ∙ sym (ap not is), (λ skipped. absurd (true≢false (sym skipped ∙ tells))))
+
+  skips-so : {S : Type 0} (ready : Bool) (answer : Reply T) (old new : S) → ready ≡ false → IsSkipped old answer new
+      → Exactly ready answer old new
+  skips-so ready answer old new is h = (ap is_skipped h.0 ∙ sym (ap not is), (λ skipped. h.1))
+
+  skipped-counts : (answer : Reply T) (made : Made) → is_skipped answer ≡ true → counted answer made ≡ made
+  skipped-counts reply.Skipped made is = refl
+  skipped-counts other made is = absurd (true≢false (sym is))
 
   -- ---- sends
 
@@ -122,8 +138,8 @@ module _ {T : Type 0} where
   at-one-exactly : {V : Type 0} (found : Service T → Option V) (Does : V → Service T → Reply T → Service T → Type 0) (old : State T)
       (answer : Reply T) (new : State T) (has ready : Service T → Bool) → ((service : Service T) → has service ≡ is_some (found service))
       → ((one : V) (service after : Service T) → found service ≡ Some one → Does one service answer after
-      → is_skipped answer ≡ not (ready service))
-      → AtOne found Does old answer new → is_skipped answer ≡ not (option_map_or ready (find has old.services) false)
+      → Exactly (ready service) answer service after)
+      → AtOne found Does old answer new → Exactly (option_map_or ready (find has old.services) false) answer old new
   at-one-exactly {V} found Does old answer new has ready same does h =
       elim (by-option (find (λ (other : Service T). is_some (found other)) old.services) (IsSkipped old answer new)
       (λ service. (after : Service T) × MatchOption (found service) ⊥ (λ one. Does one service answer after)
@@ -131,24 +147,44 @@ module _ {T : Type 0} where
         made = counted answer old.made;
         services = replaced (λ (other : Service T). is_some (found other)) after old.services;
       })) h) [
-        | inl w ↦ ap is_skipped w.1.0 ∙ sym (seen None w.0)
+        | inl w ↦ skips-so (option_map_or ready (find has old.services) false) answer old new (seen None w.0) w.1
         | inr w ↦ elim (by-option (found w.0) ⊥ (λ one. Does one w.0 answer w.2.0) w.2.1) [
           | inl k ↦ absurd k.1
-          | inr k ↦ does k.0 w.0 w.2.0 k.1 k.2 ∙ sym (seen (Some w.0) w.1)
+          | inr k ↦ at_it w.0 w.2.0 w.1 (does k.0 w.0 w.2.0 k.1 k.2) w.2.2
         ]
       ]
     where
       seen : (o : Option (Service T)) → find (λ (other : Service T). is_some (found other)) old.services ≡ o
-          → not (option_map_or ready (find has old.services) false) ≡ not (option_map_or ready o false)
+          → option_map_or ready (find has old.services) false ≡ option_map_or ready o false
       seen o is =
-          ap (λ (it : Option (Service T)). not (option_map_or ready it false))
+          ap (λ (it : Option (Service T)). option_map_or ready it false)
           (find-alike has (λ (other : Service T). is_some (found other)) same old.services ∙ is)
+
+      at_it : (service after : Service T) → find (λ (other : Service T). is_some (found other)) old.services ≡ Some service
+          → Exactly (ready service) answer service after
+          → new ≡ record old {
+            made = counted answer old.made;
+            services = replaced (λ (other : Service T). is_some (found other)) after old.services;
+          }
+          → Exactly (option_map_or ready (find has old.services) false) answer old new
+      at_it service after first exactly came = (
+        exactly.0 ∙ sym (ap not (seen (Some service) first)),
+        (λ skipped. came ∙ (λ i. record old {
+          made = skipped-counts answer old.made skipped i;
+          services = unmoved skipped i;
+        })),
+      )
+        where
+          unmoved : is_skipped answer ≡ true → replaced (λ (other : Service T). is_some (found other)) after old.services ≡ old.services
+          unmoved skipped =
+              ap (λ (it : Service T). replaced (λ (other : Service T). is_some (found other)) it old.services) (exactly.1 skipped)
+              ∙ replaced-same (λ (other : Service T). is_some (found other)) service old.services first
 
   at-free-exactly : (number : ℕ) (Does : Publisher T → Service T → Reply T → Service T → Type 0) (old : State T) (answer : Reply T)
       (new : State T) → ((one : Publisher T) (service after : Service T) → Does one service answer after → Tells answer)
       → AtFree number Does old answer new
-      → is_skipped answer
-      ≡ not (option_map_or (sends_freely number) (find (λ (it : Service T). is_some (publisher_in number it)) old.services) false)
+      → Exactly (option_map_or (sends_freely number) (find (λ (it : Service T). is_some (publisher_in number it)) old.services) false)
+      answer old new
   at-free-exactly number Does old answer new does h =
       at-one-exactly (publisher_in number)
       (λ (publisher : Publisher T) (service : Service T) (told : Reply T) (after : Service T). MatchOption publisher.blocked
@@ -156,23 +192,23 @@ module _ {T : Type 0} where
       old answer new (λ (it : Service T). is_some (publisher_in number it)) (sends_freely number) (λ service. refl)
       (λ one service after found did. elim (by-option one.blocked (Does one service answer after)
       (λ send. IsSkipped service answer after) did) [
-        | inl w ↦ does one service after w.1 ∙ sym (seen one service found None w.0)
-        | inr w ↦ ap is_skipped w.2.0 ∙ sym (seen one service found (Some w.0) w.1)
+        | inl w ↦ does-so (sends_freely number service) answer service after (seen one service found None w.0) (does one service after w.1)
+        | inr w ↦ skips-so (sends_freely number service) answer service after (seen one service found (Some w.0) w.1) w.2
       ]) h
     where
       seen : (one : Publisher T) (service : Service T) → publisher_in number service ≡ Some one → (o : Option (Send T)) → one.blocked ≡ o
-          → not (sends_freely number service) ≡ not (not (is_some o))
+          → sends_freely number service ≡ not (is_some o)
       seen one service found o is =
-          ap (λ (it : Option (Publisher T)). not (option_map_or (λ (p : Publisher T). not (is_some p.blocked)) it false))
+          ap (λ (it : Option (Publisher T)). option_map_or (λ (p : Publisher T). not (is_some p.blocked)) it false)
           (publisher-stands number service one found)
-          ∙ ap (λ (it : Option (Send T)). not (not (is_some it))) is
+          ∙ ap (λ (it : Option (Send T)). not (is_some it)) is
 
   at-blocked-exactly : (number : ℕ) (Does : Publisher T → Send T → Service T → Reply T → Service T → Type 0) (old : State T)
       (answer : Reply T) (new : State T)
       → ((one : Publisher T) (send : Send T) (service after : Service T) → Does one send service answer after → Tells answer)
       → AtBlocked number Does old answer new
-      → is_skipped answer
-      ≡ not (option_map_or (is_held_up number) (find (λ (it : Service T). is_some (publisher_in number it)) old.services) false)
+      → Exactly (option_map_or (is_held_up number) (find (λ (it : Service T). is_some (publisher_in number it)) old.services) false)
+      answer old new
   at-blocked-exactly number Does old answer new does h =
       at-one-exactly (publisher_in number)
       (λ (publisher : Publisher T) (service : Service T) (told : Reply T) (after : Service T). MatchOption publisher.blocked
@@ -180,16 +216,17 @@ module _ {T : Type 0} where
       old answer new (λ (it : Service T). is_some (publisher_in number it)) (is_held_up number) (λ service. refl)
       (λ one service after found did. elim (by-option one.blocked (IsSkipped service answer after)
       (λ send. Does one send service answer after) did) [
-        | inl w ↦ ap is_skipped w.1.0 ∙ sym (seen one service found None w.0)
-        | inr w ↦ does one w.0 service after w.2 ∙ sym (seen one service found (Some w.0) w.1)
+        | inl w ↦ skips-so (is_held_up number service) answer service after (seen one service found None w.0) w.1
+        | inr w ↦ does-so (is_held_up number service) answer service after (seen one service found (Some w.0) w.1)
+            (does one w.0 service after w.2)
       ]) h
     where
       seen : (one : Publisher T) (service : Service T) → publisher_in number service ≡ Some one → (o : Option (Send T)) → one.blocked ≡ o
-          → not (is_held_up number service) ≡ not (is_some o)
+          → is_held_up number service ≡ is_some o
       seen one service found o is =
-          ap (λ (it : Option (Publisher T)). not (option_map_or (λ (p : Publisher T). is_some p.blocked) it false))
+          ap (λ (it : Option (Publisher T)). option_map_or (λ (p : Publisher T). is_some p.blocked) it false)
           (publisher-stands number service one found)
-          ∙ ap (λ (it : Option (Send T)). not (is_some it)) is
+          ∙ ap (λ (it : Option (Send T)). is_some it) is
 
   -- ---- nodes
 
@@ -200,11 +237,11 @@ module _ {T : Type 0} where
 
   negotiated-exactly : {F : Type 0} (Calls : Call → Answer F → Call → Type 0) (told : F → Refusal) (lacking : Bool → F) (factory : Factory)
       (old : State T) (answer : Reply T) (new : State T) → Negotiates Calls told lacking factory old answer new
-      → is_skipped answer ≡ not (nat_le 1 factory.node && nat_le factory.node old.made.nodes)
+      → Exactly (nat_le 1 factory.node && nat_le factory.node old.made.nodes) answer old new
   negotiated-exactly {F} Calls told lacking factory old answer new h =
       elim (by-bool (nat_le 1 factory.node && nat_le factory.node old.made.nodes) Called (IsSkipped old answer new) h) [
-        | inl w ↦ calls w.1 ∙ sym (ap not w.0)
-        | inr w ↦ ap is_skipped w.1.0 ∙ sym (ap not w.0)
+        | inl w ↦ does-so (nat_le 1 factory.node && nat_le factory.node old.made.nodes) answer old new w.0 (calls w.1)
+        | inr w ↦ skips-so (nat_le 1 factory.node && nat_le factory.node old.made.nodes) answer old new w.0 w.1
       ]
     where
       Called : Type 0
@@ -225,7 +262,7 @@ module _ {T : Type 0} where
   created-exactly : (types : MessageTypeDetails) (steps : List StepBefore) (factory : Factory) (named : ServiceOptions)
       (attributes : List Attribute) (old : State T) (answer : Reply T) (new : State T)
       → CreatesService types steps factory named attributes old answer new
-      → is_skipped answer ≡ not (nat_le 1 factory.node && nat_le factory.node old.made.nodes)
+      → Exactly (nat_le 1 factory.node && nat_le factory.node old.made.nodes) answer old new
   created-exactly types steps factory named attributes old answer new h =
       elim (by-option (unfit (settings_of types named)) Negotiated (λ failure. Refused failure) h) [
         | inl w ↦ negotiated-exactly (Creates types factory.pattern steps (Own factory.node)
@@ -233,8 +270,8 @@ module _ {T : Type 0} where
             (λ is_new. uncreated.OutOfMemory) factory old answer new w.1
         | inr w ↦ elim (by-bool (nat_le 1 factory.node && nat_le factory.node old.made.nodes)
             (IsRefused (create_refusal named w.0) old answer new) (IsSkipped old answer new) w.2) [
-              | inl k ↦ ap is_skipped k.1.0 ∙ sym (ap not k.0)
-              | inr k ↦ ap is_skipped k.1.0 ∙ sym (ap not k.0)
+              | inl k ↦ does-so (nat_le 1 factory.node && nat_le factory.node old.made.nodes) answer old new k.0 (ap is_skipped k.1.0)
+              | inr k ↦ skips-so (nat_le 1 factory.node && nat_le factory.node old.made.nodes) answer old new k.0 k.1
             ]
       ]
     where
@@ -250,14 +287,14 @@ module _ {T : Type 0} where
           (IsRefused (create_refusal named failure) old answer new) (IsSkipped old answer new)
 
   closed-exactly : (number : ℕ) (old : State T) (answer : Reply T) (new : State T) → Closes number old answer new
-      → is_skipped answer ≡ not (is_some (at number old.factories))
+      → Exactly (is_some (at number old.factories)) answer old new
   closed-exactly number old answer new h =
       elim (by-option (at number old.factories) (IsSkipped old answer new) (λ factory. Closing factory) h) [
-        | inl w ↦ ap is_skipped w.1.0 ∙ sym (ap (λ (o : Option Factory). not (is_some o)) w.0)
+        | inl w ↦ skips-so (is_some (at number old.factories)) answer old new (ap is_some w.0) w.1
         | inr w ↦ elim (by-bool (list_any (λ (service : Service T). is_service_of w.0 service && is_used_by number service) old.services)
             (IsRefused (refusal.Close StillInUse) old answer new) ((answer ≡ reply.Done) × (new ≡ closed w.0)) w.2) [
-              | inl k ↦ ap is_skipped k.1.0 ∙ sym (ap (λ (o : Option Factory). not (is_some o)) w.1)
-              | inr k ↦ ap is_skipped k.1.0 ∙ sym (ap (λ (o : Option Factory). not (is_some o)) w.1)
+              | inl k ↦ does-so (is_some (at number old.factories)) answer old new (ap is_some w.1) (ap is_skipped k.1.0)
+              | inr k ↦ does-so (is_some (at number old.factories)) answer old new (ap is_some w.1) (ap is_skipped k.1.0)
             ]
       ]
     where
@@ -315,23 +352,24 @@ module _ {T : Type 0} where
         → ((service : Service T) → is_ready_for asked service ≡ true)
         → ((service after : Service T) → Does service answer after → Tells answer)
         → AtFactory types choices buffer number Does old answer new
-        → is_skipped answer ≡ not (option_map_or (is_ready_for asked) (find (has_named old.factories asked) old.services) false)
+        → Exactly (option_map_or (is_ready_for asked) (find (has_named old.factories asked) old.services) false) answer old new
     at-factory-exactly number Does asked old answer new named ready does h =
         elim (by-option (at number old.factories) (IsSkipped old answer new)
         (λ factory. AtOne (λ (service : Service T). cond (is_service_of factory service) (Some service) None)
         (λ (service : Service T). Does) old answer new) h) [
-          | inl w ↦ ap is_skipped w.1.0
-              ∙ sym (ap (λ (o : Option (Service T)). not (option_map_or (is_ready_for asked) o false))
+          | inl w ↦ skips-so (option_map_or (is_ready_for asked) (find (has_named old.factories asked) old.services) false) answer old new
+              (ap (λ (o : Option (Service T)). option_map_or (is_ready_for asked) o false)
               (find-alike (has_named old.factories asked) (λ (it : Service T). false)
               (λ service. named service
               ∙ ap (λ (o : Option Factory). option_map_or (λ (one : Factory). is_service_of one service) o false) w.0) old.services
-              ∙ find-nothing old.services))
+              ∙ find-nothing old.services)) w.1
           | inr w ↦ at-one-exactly (λ (service : Service T). cond (is_service_of w.0 service) (Some service) None)
               (λ (service : Service T). Does) old answer new (has_named old.factories asked) (is_ready_for asked)
               (λ service. named service
               ∙ (ap (λ (o : Option Factory). option_map_or (λ (one : Factory). is_service_of one service) o false) w.1
               ∙ some-if (is_service_of w.0 service) service))
-              (λ one service after found did. does service after did ∙ sym (ap not (ready service))) w.2
+              (λ one service after found did.
+              does-so (is_ready_for asked service) answer service after (ready service) (does service after did)) w.2
         ]
       where
         find-nothing : (services : List (Service T)) → find (λ (it : Service T). false) services ≡ None
@@ -352,48 +390,54 @@ module _ {T : Type 0} where
         (λ why mid soft refused. refuses why mid answer after refused) h
 
     writes-exactly : (loan : ℕ) (one : Loan T) (fit : Bool) (values : List (Option T)) (old : Service T) (answer : Reply T)
-        (new : Service T) → Writes loan one fit values old answer new → is_skipped answer ≡ not fit
-    writes-exactly loan one true values old answer new h = ap is_skipped h.0
-    writes-exactly loan one false values old answer new h = ap is_skipped h.0
+        (new : Service T) → Writes loan one fit values old answer new → Exactly fit answer old new
+    writes-exactly loan one true values old answer new h = does-so true answer old new refl (ap is_skipped h.0)
+    writes-exactly loan one false values old answer new h = skips-so false answer old new refl h
 
     -- what is said of a loan that is there
-    at-loan : (test : Loan T → Bool) (loan : ℕ) (one : Loan T) (service : Service T) → at loan service.loans ≡ Some one
-        → not (test one) ≡ not (option_map_or test (at loan service.loans) false)
-    at-loan test loan one service found = sym (ap (λ (o : Option (Loan T)). not (option_map_or test o false)) found)
+    at-loan : (test : Loan T → Bool) (loan : ℕ) (one : Loan T) (service : Service T) (answer : Reply T) (after : Service T)
+        → at loan service.loans ≡ Some one → Exactly (test one) answer service after
+        → Exactly (option_map_or test (at loan service.loans) false) answer service after
+    at-loan test loan one service answer after found exactly =
+        subst (λ (b : Bool). Exactly b answer service after) (sym (ap (λ (o : Option (Loan T)). option_map_or test o false) found)) exactly
 
     sends-loan-exactly : (loan : ℕ) (one : Loan T) (service : Service T) (answer : Reply T) (after : Service T)
         → SendsLoan choices loan one service answer after
-        → is_skipped answer ≡ not (is_written one && sends_freely one.publisher service)
+        → Exactly (is_written one && sends_freely one.publisher service) answer service after
     sends-loan-exactly loan one service answer after h =
         elim (by-option (at one.publisher service.publishers) (IsSkipped service answer after)
         (λ publisher. MatchBool (is_written one && not (is_some publisher.blocked))
         (Sends choices one.publisher (sent_as one) publisher (record service { loans = removed loan service.loans }) answer after)
         (IsSkipped service answer after)) h) [
-          | inl w ↦ ap is_skipped w.1.0 ∙ sym (seen None w.0 ∙ never (is_written one))
+          | inl w ↦ skips-so (is_written one && sends_freely one.publisher service) answer service after
+              (seen None w.0 ∙ never (is_written one)) w.1
           | inr w ↦ elim (by-bool (is_written one && not (is_some w.0.blocked))
               (Sends choices one.publisher (sent_as one) w.0 (record service { loans = removed loan service.loans }) answer after)
               (IsSkipped service answer after) w.2) [
-                | inl k ↦ sends-tells choices one.publisher (sent_as one) w.0 (record service { loans = removed loan service.loans })
-                    answer after k.1 ∙ sym (seen (Some w.0) w.1 ∙ ap not k.0)
-                | inr k ↦ ap is_skipped k.1.0 ∙ sym (seen (Some w.0) w.1 ∙ ap not k.0)
+                | inl k ↦ does-so (is_written one && sends_freely one.publisher service) answer service after
+                    (seen (Some w.0) w.1 ∙ k.0)
+                    (sends-tells choices one.publisher (sent_as one) w.0 (record service { loans = removed loan service.loans }) answer
+                    after k.1)
+                | inr k ↦ skips-so (is_written one && sends_freely one.publisher service) answer service after
+                    (seen (Some w.0) w.1 ∙ k.0) k.1
               ]
         ]
       where
         seen : (o : Option (Publisher T)) → at one.publisher service.publishers ≡ o
-            → not (is_written one && sends_freely one.publisher service)
-            ≡ not (is_written one && option_map_or (λ (p : Publisher T). not (is_some p.blocked)) o false)
+            → (is_written one && sends_freely one.publisher service)
+            ≡ (is_written one && option_map_or (λ (p : Publisher T). not (is_some p.blocked)) o false)
         seen o is =
-            ap (λ (it : Option (Publisher T)). not (is_written one
-            && option_map_or (λ (p : Publisher T). not (is_some p.blocked)) it false)) is
+            ap (λ (it : Option (Publisher T)). is_written one
+            && option_map_or (λ (p : Publisher T). not (is_some p.blocked)) it false) is
 
-        never : (b : Bool) → not (b && false) ≡ true
+        never : (b : Bool) → (b && false) ≡ false
         never true = refl
         never false = refl
 
     step-exactly : (asked : Command T) (old : State T) (answer : Reply T) (new : State T) → Step types choices buffer asked old answer new
-        → is_skipped answer ≡ not (is_applicable asked old)
-    step-exactly command.Node old answer new (inl (told, came)) = ap is_skipped told
-    step-exactly command.Node old answer new (inr (told, same)) = ap is_skipped told
+        → Exactly (is_applicable asked old) answer old new
+    step-exactly command.Node old answer new (inl (told, came)) = does-so true answer old new refl (ap is_skipped told)
+    step-exactly command.Node old answer new (inr (told, same)) = does-so true answer old new refl (ap is_skipped told)
     step-exactly (command.Create node name options attributes steps) old answer new h =
         created-exactly types steps (factory_of node name options) options attributes old answer new h
     step-exactly (command.Open node name options required steps) old answer new h =
@@ -403,8 +447,10 @@ module _ {T : Type 0} where
         negotiated-exactly (OpensOrCreates types (factory_of node name options).pattern steps (Own node) (verdict types options required)
         (record { settings = settings_of types options; attributes = required.pairs }))
         (either_refusal options) either_lacking (factory_of node name options) old answer new h
-    step-exactly (command.Foreign pattern name steps) old answer new (inl (told, came)) = ap is_skipped told
-    step-exactly (command.Foreign pattern name steps) old answer new (inr (done, few, (told, came))) = ap is_skipped told
+    step-exactly (command.Foreign pattern name steps) old answer new (inl (told, came)) =
+        does-so true answer old new refl (ap is_skipped told)
+    step-exactly (command.Foreign pattern name steps) old answer new (inr (done, few, (told, came))) =
+        does-so true answer old new refl (ap is_skipped told)
     step-exactly (command.Close factory) old answer new h = closed-exactly factory old answer new h
     step-exactly (command.Publisher factory options) old answer new h =
         at-factory-exactly factory
@@ -430,26 +476,28 @@ module _ {T : Type 0} where
         (λ (one : Loan T). Writes loan one (is_written one && nat_lt place (length one.values)) (set one.values place (Some value)))
         old answer new (λ (service : Service T). is_some (at loan service.loans)) (is_ready_for (command.Set loan place value))
         (λ service. refl)
-        (λ one service after found did. writes-exactly loan one (is_written one && nat_lt place (length one.values))
-        (set one.values place (Some value)) service answer after did
-        ∙ at-loan (λ (it : Loan T). is_written it && nat_lt place (length it.values)) loan one service found) h
+        (λ one service after found did.
+        at-loan (λ (it : Loan T). is_written it && nat_lt place (length it.values)) loan one service answer after found
+        (writes-exactly loan one (is_written one && nat_lt place (length one.values)) (set one.values place (Some value)) service answer
+        after did)) h
     step-exactly (command.Fill loan values) old answer new h =
         at-one-exactly (λ (service : Service T). at loan service.loans)
         (λ (one : Loan T). Writes loan one (length values == length one.values) (map Some values)) old answer new
         (λ (service : Service T). is_some (at loan service.loans)) (is_ready_for (command.Fill loan values)) (λ service. refl)
-        (λ one service after found did. writes-exactly loan one (length values == length one.values) (map Some values) service answer
-        after did ∙ at-loan (λ (it : Loan T). length values == length it.values) loan one service found) h
+        (λ one service after found did. at-loan (λ (it : Loan T). length values == length it.values) loan one service answer after found
+        (writes-exactly loan one (length values == length one.values) (map Some values) service answer after did)) h
     step-exactly (command.Drop loan) old answer new h =
         at-one-exactly (λ (service : Service T). at loan service.loans)
         (λ (one : Loan T) (service : Service T) (answered : Reply T) (after : Service T). (answered ≡ reply.Done)
         × (after ≡ record service { loans = removed loan service.loans })) old answer new
         (λ (service : Service T). is_some (at loan service.loans)) (λ (service : Service T). true) (λ service. refl)
-        (λ one service after found did. ap is_skipped did.0) h
+        (λ one service after found did. does-so true answer service after refl (ap is_skipped did.0)) h
     step-exactly (command.Send loan) old answer new h =
         at-one-exactly (λ (service : Service T). at loan service.loans) (SendsLoan choices loan) old answer new
         (λ (service : Service T). is_some (at loan service.loans)) (is_ready_for (command.Send loan)) (λ service. refl)
-        (λ one service after found did. sends-loan-exactly loan one service answer after did
-        ∙ at-loan (λ (it : Loan T). is_written it && sends_freely it.publisher service) loan one service found) h
+        (λ one service after found did.
+        at-loan (λ (it : Loan T). is_written it && sends_freely it.publisher service) loan one service answer after found
+        (sends-loan-exactly loan one service answer after did)) h
     step-exactly (command.Put publisher values) old answer new h =
         at-free-exactly publisher (Puts choices publisher values) old answer new
         (λ one service after did. puts-tells choices publisher values one service answer after did) h
@@ -470,25 +518,25 @@ module _ {T : Type 0} where
         (subscribing.UpdatesFirst choices buffer subscriber (λ failure. refusal.Receive (receive_error.ConnectionFailure failure))
         (Receives subscriber (old.made.samples + 1))) old answer new (λ (service : Service T). is_some (subscriber_in subscriber service))
         (λ (service : Service T). true) (λ service. refl)
-        (λ one service after found did. attends-tells subscriber
+        (λ one service after found did. does-so true answer service after refl (attends-tells subscriber
         (λ failure. refusal.Receive (receive_error.ConnectionFailure failure)) (Receives subscriber (old.made.samples + 1)) one service
-        answer after found (λ next mid took. receives-tells subscriber (old.made.samples + 1) next mid answer after took) did) h
+        answer after found (λ next mid took. receives-tells subscriber (old.made.samples + 1) next mid answer after took) did)) h
     step-exactly (command.Read sample) old answer new h =
         at-one-exactly (λ (service : Service T). at sample service.samples)
         (λ (one : Sample T) (service : Service T) (answered : Reply T) (after : Service T). (values : Vec T)
         × (vec_items values ≡ one.message.values) × (answered ≡ reply.Values values) × (after ≡ service)) old answer new
         (λ (service : Service T). is_some (at sample service.samples)) (λ (service : Service T). true) (λ service. refl)
-        (λ one service after found did. ap is_skipped did.2) h
+        (λ one service after found did. does-so true answer service after refl (ap is_skipped did.2)) h
     step-exactly (command.Sequence sample) old answer new h =
         at-one-exactly (λ (service : Service T). at sample service.samples)
         (λ (one : Sample T) (service : Service T) (answered : Reply T) (after : Service T).
         (answered ≡ reply.Sequence one.message.sequence) × (after ≡ service)) old answer new
         (λ (service : Service T). is_some (at sample service.samples)) (λ (service : Service T). true) (λ service. refl)
-        (λ one service after found did. ap is_skipped did.0) h
+        (λ one service after found did. does-so true answer service after refl (ap is_skipped did.0)) h
     step-exactly (command.Release sample) old answer new h =
         at-one-exactly (λ (service : Service T). at sample service.samples) (Releases sample) old answer new
         (λ (service : Service T). is_some (at sample service.samples)) (λ (service : Service T). true) (λ service. refl)
-        (λ one service after found did. ap is_skipped did.0) h
+        (λ one service after found did. does-so true answer service after refl (ap is_skipped did.0)) h
     step-exactly (command.Update (port.Publisher number)) old answer new h =
         at-free-exactly number
         (publishing.UpdatesFirst choices number refusal.Connection
@@ -503,9 +551,9 @@ module _ {T : Type 0} where
         (subscribing.UpdatesFirst choices buffer number refusal.Connection
         (λ (one : Subscriber) (service : Service T) (answered : Reply T) (after : Service T). (answered ≡ reply.Done) × (after ≡ service)))
         old answer new (λ (service : Service T). is_some (subscriber_in number service)) (λ (service : Service T). true) (λ service. refl)
-        (λ one service after found did. attends-tells number refusal.Connection
+        (λ one service after found did. does-so true answer service after refl (attends-tells number refusal.Connection
         (λ (it : Subscriber) (mid : Service T) (answered : Reply T) (end : Service T). (answered ≡ reply.Done) × (end ≡ mid)) one service
-        answer after found (λ it mid done. ap is_skipped done.0) did) h
+        answer after found (λ it mid done. ap is_skipped done.0) did)) h
     step-exactly (command.Leave (port.Publisher number)) old answer new h =
         at-free-exactly number
         (λ (one : Publisher T) (service : Service T) (answered : Reply T) (after : Service T). (answered ≡ reply.Done)
@@ -518,17 +566,20 @@ module _ {T : Type 0} where
         × (after ≡ with_subscriber number (record one { stands = false })
         (record service { subscriber_list = left number service.subscriber_list }))) old answer new
         (λ (service : Service T). is_some (subscriber_in number service)) (λ (service : Service T). true) (λ service. refl)
-        (λ one service after found did. ap is_skipped did.0) h
+        (λ one service after found did. does-so true answer service after refl (ap is_skipped did.0)) h
     step-exactly (command.Has subscriber) old answer new h =
         at-one-exactly (subscriber_in subscriber)
         (subscribing.UpdatesFirst choices buffer subscriber refusal.Connection
         (λ (one : Subscriber) (service : Service T) (answered : Reply T) (after : Service T).
         (answered ≡ reply.Has (has_samples subscriber one service)) × (after ≡ service))) old answer new
         (λ (service : Service T). is_some (subscriber_in subscriber service)) (λ (service : Service T). true) (λ service. refl)
-        (λ one service after found did. attends-tells subscriber refusal.Connection
+        (λ one service after found did. does-so true answer service after refl (attends-tells subscriber refusal.Connection
         (λ (it : Subscriber) (mid : Service T) (answered : Reply T) (end : Service T).
         (answered ≡ reply.Has (has_samples subscriber it mid)) × (end ≡ mid)) one service answer after found
-        (λ it mid done. ap is_skipped done.0) did) h
+        (λ it mid done. ap is_skipped done.0) did)) h
 
 pub skipped-if-unready : {T : Type 0} (choices : Choices T) → SkippedIfUnready choices
-skipped-if-unready choices types buffer asked old answer new h = step-exactly types choices buffer asked old answer new h
+skipped-if-unready choices types buffer asked old answer new h = (step-exactly types choices buffer asked old answer new h).0
+
+pub skipped-changes-nothing : {T : Type 0} (choices : Choices T) → SkippedChangesNothing choices
+skipped-changes-nothing choices types buffer asked old new h = (step-exactly types choices buffer asked old reply.Skipped new h).1 refl

@@ -1,145 +1,229 @@
 -- Each step keeps what holds of each service.
-use Rattle.std.proofs.Common.{◌≡◌, ◌+◌, ℕ, Bool, true, false, cond, ◌&&◌, length, map, set, Option, None, Some, refl, sym, ap, subst}
-use Rattle.std.proofs.Common.{inl, inr, arith, ◌∙◌}
+use Rattle.std.proofs.Common.{◌≡◌, ◌+◌, ℕ, false, inl, inr, length, Option, None, Some, refl, sym, ap, subst, arith, ◌∙◌, ◌≤◌, ◌∷◌}
+use Rattle.std.proofs.Common.{◌++◌, List, []}
+use Rattle.std.proofs.Common.{not}
 use Rattle.std.specs.Global.{Vec}
 use Rattle.std.specs.List.{AllByRecursion}
-use Rattle.std.specs.Prelude.{⊤, ◌==◌, nat_lt, is_some, fold, take, slice_get, MatchOption}
+use Rattle.std.specs.Prelude.{⊤, ◌==◌, MatchOption, unwrap_or}
 use Rattle.std.specs.Vec.{vec_items}
-use Rattle.iox_machine.proofs.Shorthands.{factory_of, left, with_subscriber, with_publisher, IsSkipped, AtFree, AtBlocked}
+use Rattle.iox_machine.proofs.Shorthands.{left, given_back, taken}
 use Rattle.iox_machine.specs.Choices.{Choices}
-use Rattle.iox_machine.specs.Arriving.{PublisherArrives, SubscriberArrives, new_publisher, new_subscriber}
-use Rattle.iox_machine.specs.Message.{Message, Loan, Sample}
-use Rattle.iox_machine.specs.Phase.{acted}
-use Rattle.iox_machine.specs.Ports.{publisher_in, subscriber_in, LendsLoan, Puts, SendsLoan, Writes, Releases}
-use Rattle.iox_machine.specs.PublisherUpdate as publishing
-use Rattle.iox_machine.specs.Receiving.{Receives, has_samples}
-use Rattle.iox_machine.specs.Run.{Step, AtFactory}
-use Rattle.iox_machine.specs.RunLaws.{BeginsToSend, ComesAs, has_begun, sent_as, numbered, is_written}
-use Rattle.iox_machine.specs.Sending.{GoesOn, Begins}
-use Rattle.iox_machine.specs.Service.{Service, Publisher, Subscriber, Send}
-use Rattle.iox_machine.specs.State.{State, AtOne, is_service_of, counted, with_phase}
-use Rattle.iox_machine.specs.SubscriberUpdate as subscribing
+use Rattle.iox_machine.specs.DefaultLaws.{IsNamedAs}
+use Rattle.iox_machine.specs.Message.{Message, Sample}
+use Rattle.iox_machine.specs.Run.{Step}
+use Rattle.iox_machine.specs.RunLaws.{BeginsToSend, ComesAs, numbered}
+use Rattle.iox_machine.specs.Service.{Service, Publisher, Subscriber, Send, mailbox}
+use Rattle.iox_machine.specs.State.{State, Factory}
 use Rattle.iox_machine.specs.Table.{at, removed}
-use Rattle.iox_machine.proofs.Cases.{by-option}
-use Rattle.iox_machine.proofs.Moving.{Keeps, skipped-keeps, refused-keeps, at-one-keeps, creates, opens, opens-or-creates}
-use Rattle.iox_machine.proofs.Moving.{negotiated-keeps, closed, closed-keeps}
-use Rattle.iox_machine.proofs.Sound.{Sound, Both, Well, new-sound, publisher-fits, publisher-changed, updates-first, goes-on, lends-loan}
-use Rattle.iox_machine.proofs.Sound.{puts, sends-loan, writes, subscriber-fits, subscriber-changed, subscriber-updates, receives}
-use Rattle.iox_machine.proofs.Sound.{releases, publisher-arrives, subscriber-arrives}
+use Rattle.iox_machine.proofs.Moving.{Keeps}
+use Rattle.iox_machine.proofs.Sound.{Sound, new-sound, publisher-changed, subscriber-changed, box-changed, box-fits, follows, put-fits}
+use Rattle.iox_machine.proofs.Sound.{subscriber-follows, taken-fits, PublisherFits, SampleFits, SubscriberFits}
 use Rattle.iox_machine.proofs.Delivering.{keeping, sending}
-use Rattle.iox_command.specs.DomainValues.declared.connection_failure.ConnectionFailure.{ConnectionFailure}
-use Rattle.iox_command.specs.DomainValues.declared.port_error.ReceiveError.TheVariants as receive_error
-use Rattle.iox_command.specs.DomainValues.declared.port_error.SendError.TheVariants as error
 use Rattle.iox_command.specs.NegotiateBase.DescribeBase.declared.message_type.MessageTypeDetails.{MessageTypeDetails}
+use Rattle.iox_command.specs.NegotiateBase.DescribeSettings.declared.static_config.publish_subscribe.StaticConfig.{StaticConfig}
 use Rattle.iox_command.specs.declared.command.Command.{Command}
-use Rattle.iox_command.specs.declared.command.Command.TheVariants as command
-use Rattle.iox_command.specs.declared.port.PortNumber.TheVariants as port
 use Rattle.iox_command.specs.declared.port.PublisherOptions.{PublisherOptions}
-use Rattle.iox_command.specs.declared.refusal.HubError.TheVariants.{OutOfMemory}
-use Rattle.iox_command.specs.declared.refusal.Refusal.{Refusal}
-use Rattle.iox_command.specs.declared.refusal.Refusal.TheVariants as refusal
 use Rattle.iox_command.specs.declared.reply.Reply.{Reply}
 use Rattle.iox_command.specs.declared.reply.Reply.TheVariants as reply
-
-begun-told : (T : Type 0) (waits fails : Bool) (count : ℕ)
-    → has_begun {T = T} (cond waits reply.Blocked
-    (cond fails (reply.Refused (refusal.Send error.UnableToDeliver)) (reply.Delivered count))) ≡ true
-begun-told T true fails count = refl
-begun-told T false true count = refl
-begun-told T false false count = refl
-
--- a send that goes on tells that it began
-pub going-told : {T : Type 0} (choices : Choices T) (number : ℕ) (publisher : Publisher T) (send : Send T) (old : Service T)
-    (answer : Reply T) (new : Service T)
-    → GoesOn choices number publisher send old answer new → has_begun answer ≡ true
-going-told {T} choices number publisher send old answer new h =
-    subst (λ (told : Reply T). has_begun told ≡ true) (sym h.3) (begun-told T (is_some (slice_get h.0.left 0)) h.0.fails h.0.delivered)
-
-pub beginning-told : {T : Type 0} (choices : Choices T) (number : ℕ) (message : Message T) (publisher : Publisher T) (old : Service T)
-    (answer : Reply T)
-    (new : Service T)
-    → Begins choices number message publisher old answer new → has_begun answer ≡ true
-beginning-told choices number message publisher old answer new h =
-    going-told choices number (keeping message publisher old)
-    (sending message publisher) old answer new h
+use Rattle.iox_machine.proofs.Lists.{all-at, all-filtered, all-joined, all-newest, filter-fits, first-of, newest-fits}
+use Rattle.iox_machine.proofs.MoveForms.{Done, IsNumbered, Loud, Loudly, Quiet, Quietly, Walk, with_send}
+use Rattle.iox_machine.proofs.MoveForms as move
+use Rattle.iox_machine.proofs.MoveLaws.{becomes-keeps}
+use Rattle.iox_machine.proofs.MoveSteps.{step-moves}
+use Rattle.iox_machine.proofs.Moves.{IsTold, Walks}
+use Rattle.iox_machine.specs.Mailbox.{Mailbox}
 
 module _ {T : Type 0} (Good : ℕ → Message T → Type 0) (Fine : ℕ → Sample T → Type 0) (Named : ℕ → PublisherOptions → Type 0) where
   abbrev IsSound : Service T → Type 0
   IsSound service = Sound Good Fine Named service
 
-  abbrev AreSound : State T → Type 0
-  AreSound state = AllByRecursion IsSound state.services
+  fits-at : (number : ℕ) (one : Publisher T) (service : Service T) → at number service.publishers ≡ Some one → IsSound service
+      → PublisherFits Good Fine Named service.settings number one
+  fits-at number one service found sound =
+      all-at (PublisherFits Good Fine Named service.settings) number one service.publishers found sound.1
 
-  abbrev Leaves : State T → Reply T → State T → Type 0
-  Leaves old answer new = Keeps IsSound old answer new
+  small-at : (number : ℕ) (one : Subscriber) (service : Service T) → at number service.subscribers ≡ Some one → IsSound service
+      → one.buffer_size ≤ service.settings.subscriber_max_buffer_size
+  small-at number one service found sound =
+      all-at (SubscriberFits Good Fine Named service.settings) number one service.subscribers found sound.2
 
-  at-free : (number : ℕ) (Does : Publisher T → Service T → Reply T → Service T → Type 0) (old : State T) (answer : Reply T) (new : State T)
-      → ((one : Publisher T) (service after : Service T) → Both Good Fine Named number one service → Does one service answer after
-      → IsSound after)
-      → AtFree number Does old answer new → AreSound old → Leaves old answer new
-  at-free number Does old answer new does h all =
-      at-one-keeps IsSound IsSound (publisher_in number)
-      (λ (publisher : Publisher T) (service : Service T) (told : Reply T) (after : Service T). MatchOption publisher.blocked
-      (Does publisher service told after) (λ send. IsSkipped service told after))
-      old answer new (λ it sound. sound)
-      (λ one service after first found did sound. elim
-      (by-option one.blocked (Does one service answer after) (λ send. IsSkipped service answer after) did) [
-        | inl w ↦ does one service after (sound, publisher-fits Good Fine Named number one service sound found) w.1
-        | inr w ↦ subst IsSound (sym w.2.1) sound
-      ])
-      h all
+  -- a publisher is another, that is as large, keeps such a history, and sends a good message, if any
+  sends-so : (number : ℕ) (one : Publisher T) (blocked : Option (Send T)) (service : Service T) → at number service.publishers ≡ Some one
+      → MatchOption blocked ⊤ (λ it. Good number it.message) → IsSound service → IsSound (with_send number one blocked service)
+  sends-so number one blocked service found good sound =
+      let fits : PublisherFits Good Fine Named service.settings number one = fits-at number one service found sound in
+      publisher-changed Good Fine Named number (record one { blocked = blocked }) service sound (fits.0, fits.1, good, fits.3)
 
-  at-blocked : (number : ℕ) (Does : Publisher T → Send T → Service T → Reply T → Service T → Type 0) (old : State T) (answer : Reply T)
-      (new : State T)
-      → ((one : Publisher T) (send : Send T) (service after : Service T) → Both Good Fine Named number one service
-      → Good number send.message
-      → Does one send service answer after → IsSound after)
-      → AtBlocked number Does old answer new → AreSound old → Leaves old answer new
-  at-blocked number Does old answer new does h all =
-      at-one-keeps IsSound IsSound (publisher_in number)
-      (λ (publisher : Publisher T) (service : Service T) (told : Reply T) (after : Service T). MatchOption publisher.blocked
-      (IsSkipped service told after) (λ send. Does publisher send service told after))
-      old answer new (λ it sound. sound)
-      (λ one service after first found did sound. elim (by-option one.blocked (IsSkipped service answer after)
-      (λ send. Does one send service answer after) did) [
-        | inl w ↦ subst IsSound (sym w.1.1) sound
-        | inr w ↦ does one w.0 service after (sound, publisher-fits Good Fine Named number one service sound found)
-            (subst (λ (o : Option (Send T)). MatchOption o ⊤ (λ it. Good number it.message)) w.1
-            (publisher-fits Good Fine Named number one service sound found).2) w.2
-      ])
-      h all
+  good-send : (number : ℕ) (one : Publisher T) (send : Send T) (service : Service T) → at number service.publishers ≡ Some one
+      → one.blocked ≡ Some send → IsSound service → Good number send.message
+  good-send number one send service found is sound =
+      subst (λ (o : Option (Send T)). MatchOption o ⊤ (λ it. Good number it.message)) is (fits-at number one service found sound).2
 
-  at-subscriber : (choices : Choices T) (buffer number : ℕ) (told : ConnectionFailure → Refusal)
-      (Does : Subscriber → Service T → Reply T → Service T → Type 0)
-      (old : State T)
-      (answer : Reply T) (new : State T)
-      → ((one : Subscriber) (service after : Service T) → Well Good Fine Named number one service → Does one service answer after
-      → IsSound after)
-      → AtOne (subscriber_in number) (subscribing.UpdatesFirst choices buffer number told Does) old answer new → AreSound old
-      → Leaves old answer new
-  at-subscriber choices buffer number told Does old answer new does h all =
-      at-one-keeps IsSound IsSound (subscriber_in number) (subscribing.UpdatesFirst choices buffer number told Does) old answer new
-      (λ it sound. sound)
-      (λ one service after first found did sound. subscriber-updates Good Fine Named choices
-      (IsSound after) buffer number told Does one service answer after
-      (sound, subscriber-fits Good Fine Named number one service sound found)
-      (λ next mid well done. does next mid after well done) (λ why mid on refused. subst IsSound (sym refused.1) on) did)
-      h all
+  numbered-fits : (number : ℕ) (was after : Publisher T) (settings : StaticConfig) → IsNumbered was after
+      → PublisherFits Good Fine Named settings number was → PublisherFits Good Fine Named settings number after
+  numbered-fits number was after settings (room, segments, first, grown, is) fits =
+      let named : IsNamedAs fits.3.0 was = fits.3.2.1 in
+      let roomy : (1 ≤ segments) × (segments ≡ 1 → room ≡ unwrap_or fits.3.0.initial_max_slice_len 1) =
+      elim grown [
+        | inl same ↦ (
+          subst (λ (count : ℕ). 1 ≤ count) (sym same.1) named.4,
+          λ one. same.0 ∙ named.5 (sym same.1 ∙ one),
+        )
+        | inr more ↦ (
+          subst (λ (count : ℕ). 1 ≤ count) (sym more) (some was.segments),
+          λ one. absurd (further was.segments named.4 (sym more ∙ one)),
+        )
+      ] in
+      subst (λ (p : Publisher T). PublisherFits Good Fine Named settings number p) (sym is) (
+        fits.0,
+        fits.1,
+        fits.2,
+        (fits.3.0, fits.3.1, (fits.3.2.0, (named.0, named.1, named.2, named.3, roomy.0, roomy.1))),
+      )
+    where
+      some : (count : ℕ) → 1 ≤ count + 1
+      some count = omega arith
 
-  at-factory : (types : MessageTypeDetails) (choices : Choices T) (buffer number : ℕ) (Does : Service T → Reply T → Service T → Type 0)
-      (old : State T)
-      (answer : Reply T) (new : State T) → ((service after : Service T) → IsSound service → Does service answer after → IsSound after)
-      → AtFactory types choices buffer number Does old answer new → AreSound old → Leaves old answer new
-  at-factory types choices buffer number Does old answer new does h all =
-      elim (by-option (at number old.factories) (IsSkipped old answer new)
-      (λ factory. AtOne (λ (service : Service T). cond (is_service_of factory service) (Some service) None)
-      (λ (service : Service T). Does) old answer new)
-      h) [
-        | inl w ↦ skipped-keeps IsSound old answer new w.1 all
-        | inr w ↦ at-one-keeps IsSound IsSound (λ (service : Service T). cond (is_service_of w.0 service) (Some service) None)
-            (λ (service : Service T). Does)
-            old answer new (λ it sound. sound) (λ one service after first found did sound. does service after sound did) w.2 all
-      ]
+      further : (count : ℕ) → 1 ≤ count → count + 1 ≡ 1 → ⊥
+      further count least is = omega (arith, least, is)
+
+  sound-quiet : (one : Quiet T) (old new : Service T) → Quietly one old new → IsSound old → IsSound new
+  sound-quiet (move.Retries number one send elapsed) old new (on, came) sound =
+      subst IsSound (sym came) (sends-so number one _ old on.0 (good-send number one send old on.0 on.1 sound) sound)
+  sound-quiet (move.Puts number one send subscriber more box) old new (on, left, took, came) sound =
+      let good : Good number send.message = good-send number one send old on.0 on.1 sound in
+      let next : Send T = record send { left = more; retries = 0; elapsed = 0; delivered = send.delivered + 1 } in
+      subst IsSound (sym came)
+      (box-changed Good Fine Named number subscriber box (with_send number one (Some next) old)
+      (sends-so number one (Some next) old on.0 good sound)
+      (put-fits Good Fine Named number old.settings old.settings.enable_safe_overflow send.message (mailbox number subscriber old) box took
+      (box-fits Good Fine Named number subscriber old sound) good))
+  sound-quiet (move.Passes number one send subscriber more fails) old new (on, left, full, came) sound =
+      subst IsSound (sym came) (sends-so number one _ old on.0 (good-send number one send old on.0 on.1 sound) sound)
+  sound-quiet (move.Concludes number one) old new (found, came) sound =
+      subst IsSound (sym came) (sends-so number one None old found tt sound)
+  sound-quiet (move.Follows number was after) old new ((found, free), does, is, came) sound =
+      (follows Good Fine Named number was old after new (sound, fits-at number was old found sound) does).0
+  sound-quiet (move.Attends buffer number was after) old new (found, does, is, came) sound =
+      (subscriber-follows Good Fine Named buffer number was old after new (sound, small-at number was old found sound) does).0
+  sound-quiet (move.Sweeps number was expired) old new (found, came) sound =
+      subst IsSound (sym came)
+      (subscriber-changed Good Fine Named number (record was { expired = expired }) old sound (small-at number was old found sound))
+
+  sound-done : (moves : List (Quiet T)) (old new : Service T) → Done moves old new → IsSound old → IsSound new
+  sound-done [] old new h sound = subst IsSound (sym h) sound
+  sound-done (one ∷ more) old new h sound = sound-done more h.0 new h.2 (sound-quiet one old h.0 h.1 sound)
+
+  module _ (asked : Command T) (st : State T) (answer : Reply T)
+      (good : (publisher : ℕ) (message : Message T) → BeginsToSend publisher message.values asked st answer → Good publisher message)
+      (fine : (one : Sample T) (values : Vec T) → answer ≡ reply.Received (st.made.samples + 1) values
+      → vec_items values ≡ one.message.values → Fine (st.made.samples + 1) one)
+      (named : (number : ℕ) (options : PublisherOptions) → ComesAs number options asked answer → Named number options) where
+    sound-loud : (factories : List (ℕ × Factory)) (one : Loud T) (old new : Service T) → IsTold asked st answer one
+        → Loudly factories one old new → IsSound old → IsSound new
+    sound-loud factories (move.Lends number was after loan made) old new told (found, up, (taken_one, lent), by, next, came) sound =
+        subst IsSound (sym came) (publisher-changed Good Fine Named number after old sound
+        (numbered-fits number was after old.settings taken_one (fits-at number was old found sound)))
+    sound-loud factories (move.Numbers number was after) old new told (found, taken_one, came) sound =
+        subst IsSound (sym came) (publisher-changed Good Fine Named number after old sound
+        (numbered-fits number was after old.settings taken_one (fits-at number was old found sound)))
+    sound-loud factories (move.Writes loan one values) old new told (found, came) sound = subst IsSound (sym came) sound
+    sound-loud factories (move.Spends loan one) old new told (found, came) sound = subst IsSound (sym came) sound
+    sound-loud factories (move.Begins number one message) old new told (found, free, came) sound =
+        let fits : PublisherFits Good Fine Named old.settings number one = fits-at number one old found sound in
+        let sent : Message T = numbered one message in
+        let fair : Good number sent = good number sent told in
+        let kept : List (Message T) = one.history ++ sent ∷ [] in
+        subst IsSound (sym came) (publisher-changed Good Fine Named number
+        (record (keeping message one old) { blocked = Some (sending message one) }) old sound (
+          newest-fits old.settings.history_size kept,
+          all-newest (Good number) old.settings.history_size kept (all-joined (Good number) one.history (sent ∷ []) fits.1 (fair, tt)),
+          fair,
+          fits.3,
+        ))
+    sound-loud factories (move.Takes number sample) old new (asks, next, (values, same, told))
+        (holder, (first, few), came) sound =
+        let box : Mailbox T = mailbox sample.publisher sample.subscriber old in
+        let fits = box-fits Good Fine Named sample.publisher sample.subscriber old sound in
+        let more : Service T = record old { samples = old.samples ++ (number, sample) ∷ [] } in
+        let on : IsSound more = (
+          sound.0,
+          sound.1,
+          sound.2,
+          all-joined (λ (entry : ℕ × Sample T). SampleFits Good Fine Named entry.0 entry.1) old.samples ((number, sample) ∷ []) sound.3 (
+            (
+              subst (λ (k : ℕ). Fine k sample) (sym next) (fine sample values
+                  (told ∙ ap (λ (k : ℕ). reply.Received k values) next) same),
+              first-of (Good sample.publisher) box.waiting sample.message first fits.3,
+            ),
+            tt,
+          ),
+        ) in
+        subst IsSound (sym came) (box-changed Good Fine Named sample.publisher sample.subscriber (taken box) more on
+        (taken-fits Good Fine Named sample.publisher old.settings box fits few))
+    sound-loud factories (move.Releases number sample) old new told (found, came) sound =
+        let box : Mailbox T = mailbox sample.publisher sample.subscriber old in
+        let fits = box-fits Good Fine Named sample.publisher sample.subscriber old sound in
+        let fewer : Service T = record old { samples = removed number old.samples } in
+        let on : IsSound fewer = (
+          sound.0,
+          sound.1,
+          sound.2,
+          all-filtered (λ (entry : ℕ × Sample T). SampleFits Good Fine Named entry.0 entry.1)
+              (λ (entry : ℕ × Sample T). not (entry.0 == number)) old.samples sound.3,
+        ) in
+        subst IsSound (sym came)
+        (box-changed Good Fine Named sample.publisher sample.subscriber (given_back sample.message.number box) fewer on (
+          fits.0,
+          (let most : length box.borrowed ≤ old.settings.subscriber_max_borrowed_samples = fits.1 in
+              omega (arith, filter-fits (λ (message : Message T). not (message.number == sample.message.number)) box.borrowed)),
+          fits.2,
+          fits.3,
+          all-filtered (Good sample.publisher) (λ (message : Message T). not (message.number == sample.message.number)) box.borrowed
+              fits.4,
+        ))
+    sound-loud factories (move.Publishes place number options one after) old new told
+        (open_one, (made, free, mid, does, listed), is, came) sound =
+        let comes : ComesAs number options asked answer =
+        subst (λ (it : Command T). ComesAs number options it answer) (sym told.0) (refl, told.2) in
+        let fit : PublisherFits Good Fine Named old.settings number one =
+        subst (λ (p : Publisher T). PublisherFits Good Fine Named old.settings number p) (sym made)
+        (omega arith, tt, tt, (options, named number options comes, ((refl, refl), (refl, refl, refl, refl, omega arith, λ one. refl)))) in
+        let on : IsSound (record old { publishers = old.publishers ++ (number, one) ∷ [] }) = (
+          sound.0,
+          all-joined (λ (entry : ℕ × Publisher T). PublisherFits Good Fine Named old.settings entry.0 entry.1) old.publishers
+              ((number, one) ∷ []) sound.1 (fit, tt),
+          sound.2,
+          sound.3,
+        ) in
+        subst IsSound (sym listed) (follows Good Fine Named number one (record old {
+          publishers = old.publishers ++ (number, one) ∷ [];
+        }) after mid (on, fit) does).0
+    sound-loud factories (move.Subscribes buffer place number options one after) old new told
+        (open_one, (made, small, free, mid, does, listed), is, came) sound =
+        let on : IsSound (record old { subscribers = old.subscribers ++ (number, one) ∷ [] }) = (
+          sound.0,
+          sound.1,
+          all-joined (λ (entry : ℕ × Subscriber). SubscriberFits Good Fine Named old.settings entry.0 entry.1) old.subscribers
+              ((number, one) ∷ []) sound.2 (small, tt),
+          sound.3,
+        ) in
+        subst IsSound (sym listed) (subscriber-follows Good Fine Named buffer number one (record old {
+          subscribers = old.subscribers ++ (number, one) ∷ [];
+        }) after mid (on, small) does).0
+    sound-loud factories (move.Unpublishes number one) old new told (found, came) sound =
+        subst IsSound (sym came) (publisher-changed Good Fine Named number (record one { stands = false }) old sound
+        (fits-at number one old found sound))
+    sound-loud factories (move.Unsubscribes number one) old new told (found, came) sound =
+        subst IsSound (sym came) (subscriber-changed Good Fine Named number (record one { stands = false }) old sound
+        (small-at number one old found sound))
+
+    sound-walk : (factories : List (ℕ × Factory)) (loud : List (Loud T)) (old new : Service T)
+        → AllByRecursion (IsTold asked st answer) loud → Walk factories loud old new → IsSound old → IsSound new
+    sound-walk factories [] old new told h sound = sound-done h.0 old new h.1 sound
+    sound-walk factories (one ∷ more) old new told h sound =
+        sound-walk factories more h.1 new told.1 h.4
+        (sound-loud factories one h.0 h.1 told.0 h.3 (sound-done h.2.0 old h.0 h.2.1 sound))
 
   module _ (types : MessageTypeDetails) (choices : Choices T) (buffer : ℕ) where
     -- Each step keeps that all services are sound, if the message whose send it begins is good, the sample that it makes is fine, and
@@ -149,191 +233,9 @@ module _ {T : Type 0} (Good : ℕ → Message T → Type 0) (Fine : ℕ → Samp
         → ((one : Sample T) (values : Vec T) → answer ≡ reply.Received (old.made.samples + 1) values → vec_items values ≡ one.message.values
         → Fine (old.made.samples + 1) one)
         → ((number : ℕ) (options : PublisherOptions) → ComesAs number options asked answer → Named number options)
-        → Step types choices buffer asked old answer new → AreSound old → Leaves old answer new
-    step-sound command.Node old answer new good fine named (inl (told, came)) all =
-        (subst AreSound (sym came) all, ap (λ (state : State T). state.made) came)
-    step-sound command.Node old answer new good fine named (inr refused) all = refused-keeps IsSound
-        (refusal.Hub OutOfMemory) old answer new refused all
-    step-sound (command.Create node name options attributes steps) old answer new good fine named h all =
-        negotiated-keeps IsSound (factory_of node name options) (new-sound Good Fine Named name) old answer new
-        (creates types steps (factory_of node name options) old answer new options attributes h) all
-    step-sound (command.Open node name options required steps) old answer new good fine named h all =
-        negotiated-keeps IsSound (factory_of node name options) (new-sound Good Fine Named name) old answer new
-        (opens types steps (factory_of node name options) old answer new options required h) all
-    step-sound (command.OpenOrCreate node name options required steps) old answer new good fine named h all =
-        negotiated-keeps IsSound (factory_of node name options) (new-sound Good Fine Named name) old answer new
-        (opens-or-creates types steps (factory_of node name options) old answer new options required h) all
-    step-sound (command.Foreign pattern name steps) old answer new good fine named (inl (told, came)) all = (
-      subst AreSound (sym came) all,
-      ap (λ (state : State T). state.made) came ∙ ap (λ (told_so : Reply T). counted told_so old.made)
-          (sym told),
-    )
-    step-sound (command.Foreign pattern name steps) old answer new good fine named (inr (done, few, refused)) all =
-        refused-keeps IsSound (refusal.Hub OutOfMemory)
-        (with_phase pattern name (fold (acted types pattern) (old.phases pattern name) (take done steps)) old) answer new refused all
-    step-sound (command.Close factory) old answer new good fine named h all = closed-keeps IsSound factory old answer new
-        (closed factory old answer new h) all
-    step-sound (command.Publisher factory options) old answer new good fine named h all =
-        at-factory types choices buffer factory
-        (λ (service : Service T). PublisherArrives (old.made.publishers + 1)
-        (new_publisher factory options service.settings) service) old answer new
-        (λ service after sound did. publisher-arrives Good Fine Named (old.made.publishers + 1)
-        (new_publisher factory options service.settings) service answer after
-        sound (λ told. (
-          omega arith,
-          tt,
-          tt,
-          (
-            options,
-            named (old.made.publishers + 1) options (refl, told),
-            (
-              (refl, refl),
-              (refl, refl, refl, refl, omega arith, λ one. refl),
-            ),
-          ),
-        )) did)
-        h all
-    step-sound (command.Subscriber factory options) old answer new good fine named h all =
-        at-factory types choices buffer factory
-        (λ (service : Service T). SubscriberArrives buffer (old.made.subscribers + 1)
-        (new_subscriber factory options service.settings) service)
-        old answer new
-        (λ service after sound did. subscriber-arrives Good Fine Named buffer (old.made.subscribers + 1)
-        (new_subscriber factory options service.settings) service
-        answer after sound did)
-        h all
-    step-sound (command.Loan publisher count) old answer new good fine named (value, is, h) all =
-        at-free publisher (LendsLoan (old.made.loans + 1) publisher count (Some value)) old answer new
-        (λ one service after both did. lends-loan Good Fine Named (old.made.loans + 1) publisher count
-        (Some value) one service answer after both did) h all
-    step-sound (command.LoanUninit publisher count) old answer new good fine named h all =
-        at-free publisher (LendsLoan (old.made.loans + 1) publisher count None) old answer new
-        (λ one service after both did. lends-loan Good Fine Named
-        (old.made.loans + 1) publisher count None one service answer after both did) h all
-    step-sound (command.Set loan place value) old answer new good fine named h all =
-        at-one-keeps IsSound IsSound (λ (service : Service T). at loan service.loans)
-        (λ (one : Loan T). Writes loan one (is_written one && nat_lt place (length one.values))
-        (set one.values place (Some value))) old answer new
-        (λ it sound. sound)
-        (λ one service after first found did sound. writes Good Fine Named loan one (is_written one && nat_lt place (length one.values))
-        (set one.values place (Some value)) service answer after sound did)
-        h all
-    step-sound (command.Fill loan values) old answer new good fine named h all =
-        at-one-keeps IsSound IsSound (λ (service : Service T). at loan service.loans)
-        (λ (one : Loan T). Writes loan one (length values == length one.values) (map Some values)) old answer new (λ it sound. sound)
-        (λ one service after first found did sound. writes Good Fine Named loan one (length values == length one.values)
-        (map Some values) service answer after
-        sound did)
-        h all
-    step-sound (command.Drop loan) old answer new good fine named h all =
-        at-one-keeps IsSound IsSound (λ (service : Service T). at loan service.loans)
-        (λ (one : Loan T) (service : Service T) (answered : Reply T) (after : Service T). (answered ≡ reply.Done)
-        × (after ≡ record service { loans = removed loan service.loans }))
-        old answer new (λ it sound. sound) (λ one service after first found did sound. subst IsSound (sym did.1) sound) h all
-    step-sound (command.Send loan) old answer new good fine named h all =
-        at-one-keeps IsSound IsSound (λ (service : Service T). at loan service.loans) (SendsLoan choices loan) old answer new
-        (λ it sound. sound)
-        (λ one service after first found did sound. sends-loan Good Fine Named choices loan one service answer after sound
-        (λ mid then written begun. good one.publisher (numbered mid (sent_as one)) (
-          service,
-          one,
-          first,
-          found,
-          refl,
-          written,
-          refl,
-          beginning-told choices one.publisher (sent_as one) mid then answer after begun,
-        ))
-        did)
-        h all
-    step-sound (command.Put publisher values) old answer new good fine named h all =
-        at-free publisher (Puts choices publisher values) old answer new
-        (λ one service after both did. puts Good Fine Named choices publisher values one service answer after both
-        (λ next mid begun. good publisher (numbered next (record { number = one.next; sequence = None; values = values })) (
-          refl,
-          refl,
-          beginning-told choices publisher (record { number = one.next; sequence = None; values = values }) next mid answer after
-              begun,
-        ))
-        did)
-        h all
-    step-sound (command.Retry publisher nanoseconds) old answer new good fine named h all =
-        at-blocked publisher
-        (λ (one : Publisher T) (send : Send T). GoesOn choices publisher one
-        (record send { retries = send.retries + 1; elapsed = nanoseconds })) old answer new
-        (λ one send service after both sent did. goes-on Good Fine Named choices publisher one
-        (record send { retries = send.retries + 1; elapsed = nanoseconds }) service
-        answer after both sent did)
-        h all
-    step-sound (command.GiveUp publisher) old answer new good fine named h all =
-        at-blocked publisher
-        (λ (one : Publisher T) (send : Send T) (service : Service T) (answered : Reply T) (after : Service T).
-        (answered ≡ reply.Delivered send.delivered)
-        × (after ≡ with_publisher publisher (record one { blocked = None }) service))
-        old answer new
-        (λ one send service after both sent did. subst IsSound (sym did.1)
-        (publisher-changed Good Fine Named publisher (record one { blocked = None }) service both.0 (both.1.0, both.1.1, tt, both.1.3)))
-        h all
-    step-sound (command.Receive subscriber) old answer new good fine named h all =
-        at-subscriber choices buffer subscriber (λ failure. refusal.Receive (receive_error.ConnectionFailure failure))
-        (Receives subscriber (old.made.samples + 1)) old answer new
-        (λ one service after well did. receives Good Fine Named subscriber (old.made.samples + 1) one service answer after well
-        (λ sample values of told same. fine sample values told same) did)
-        h all
-    step-sound (command.Read sample) old answer new good fine named h all =
-        at-one-keeps IsSound IsSound (λ (service : Service T). at sample service.samples)
-        (λ (one : Sample T) (service : Service T) (answered : Reply T) (after : Service T). (values : Vec T) ×
-        (vec_items values ≡ one.message.values)
-        × (answered ≡ reply.Values values) × (after ≡ service))
-        old answer new (λ it sound. sound) (λ one service after first found did sound. subst IsSound (sym did.3) sound) h all
-    step-sound (command.Sequence sample) old answer new good fine named h all =
-        at-one-keeps IsSound IsSound (λ (service : Service T). at sample service.samples)
-        (λ (one : Sample T) (service : Service T) (answered : Reply T) (after : Service T).
-        (answered ≡ reply.Sequence one.message.sequence) × (after ≡ service))
-        old answer new (λ it sound. sound) (λ one service after first found did sound. subst IsSound (sym did.1) sound) h all
-    step-sound (command.Release sample) old answer new good fine named h all =
-        at-one-keeps IsSound IsSound (λ (service : Service T). at sample service.samples) (Releases sample) old answer new
-        (λ it sound. sound)
-        (λ one service after first found did sound. releases Good Fine Named sample one service answer after sound did) h all
-    step-sound (command.Update (port.Publisher number)) old answer new good fine named h all =
-        at-free number
-        (publishing.UpdatesFirst choices number refusal.Connection
-        (λ (one : Publisher T) (service : Service T) (answered : Reply T) (after : Service T). (answered ≡ reply.Done) × (after ≡ service)))
-        old answer new
-        (λ one service after both did. updates-first Good Fine Named choices number refusal.Connection
-        (λ (it : Publisher T) (mid : Service T) (answered : Reply T) (end : Service T). (answered ≡ reply.Done) ×
-        (end ≡ mid)) one service answer after
-        both (λ it mid on done. subst IsSound (sym done.1) on.0) did)
-        h all
-    step-sound (command.Update (port.Subscriber number)) old answer new good fine named h all =
-        at-subscriber choices buffer number refusal.Connection
-        (λ (one : Subscriber) (service : Service T) (answered : Reply T) (after : Service T). (answered ≡ reply.Done) ×
-        (after ≡ service)) old answer new
-        (λ one service after well did. subst IsSound (sym did.1) well.0) h all
-    step-sound (command.Leave (port.Publisher number)) old answer new good fine named h all =
-        at-free number
-        (λ (one : Publisher T) (service : Service T) (answered : Reply T) (after : Service T). (answered ≡ reply.Done)
-        × (after ≡ with_publisher number (record one { stands = false })
-        (record service { publisher_list = left number service.publisher_list })))
-        old answer new
-        (λ one service after both did. subst IsSound (sym did.1)
-        (publisher-changed Good Fine Named number (record one { stands = false })
-        (record service { publisher_list = left number service.publisher_list }) both.0 both.1))
-        h all
-    step-sound (command.Leave (port.Subscriber number)) old answer new good fine named h all =
-        at-one-keeps IsSound IsSound (subscriber_in number)
-        (λ (one : Subscriber) (service : Service T) (answered : Reply T) (after : Service T). (answered ≡ reply.Done)
-        × (after ≡ with_subscriber number (record one { stands = false })
-        (record service { subscriber_list = left number service.subscriber_list })))
-        old answer new (λ it sound. sound)
-        (λ one service after first found did sound. subst IsSound (sym did.1)
-        (subscriber-changed Good Fine Named number (record one { stands = false })
-        (record service { subscriber_list = left number service.subscriber_list }) sound
-        (subscriber-fits Good Fine Named number one service sound found)))
-        h all
-    step-sound (command.Has subscriber) old answer new good fine named h all =
-        at-subscriber choices buffer subscriber refusal.Connection
-        (λ (one : Subscriber) (service : Service T) (answered : Reply T) (after : Service T).
-        (answered ≡ reply.Has (has_samples subscriber one service))
-        × (after ≡ service))
-        old answer new (λ one service after well did. subst IsSound (sym did.1) well.0) h all
+        → Step types choices buffer asked old answer new → AllByRecursion IsSound old.services → Keeps IsSound old answer new
+    step-sound asked old answer new good fine named h all =
+        becomes-keeps (Walks asked old answer) IsSound (new-sound Good Fine Named) asked old answer new
+        (λ has service after first walks sound.
+        sound-walk asked old answer good fine named old.factories walks.0 service after walks.1.5 walks.2 sound)
+        (step-moves types choices buffer asked old answer new h) all

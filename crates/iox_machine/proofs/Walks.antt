@@ -1,33 +1,33 @@
--- What holds of each thing that a port does holds of all that its commands do.
-use Rattle.std.proofs.Common.{◌≡◌, ◌+◌, ℕ, Bool, true, false, cond, not, ◌&&◌, List, [], ◌∷◌, ◌++◌, Option, None, Some, refl, sym, ap}
-use Rattle.std.proofs.Common.{subst, inl, inr, ◌∙◌}
-use Rattle.std.specs.Prelude.{◌==◌, nat_lt, length, is_some, replicate, slice_get, MatchBool, drop, zip}
-use Rattle.iox_machine.proofs.Shorthands.{given_back, taken, with_subscriber, with_publisher, IsRefused, IsSkipped, LendsLonger}
+-- What each step does to the services of the hub: one of them walks on, a port of it comes or leaves, or a service begins or ends.
+use Rattle.std.proofs.Common.{◌≡◌, ◌⊎◌, ◌+◌, ℕ, Bool, true, false, cond, not, ◌&&◌, List, [], ◌∷◌, ◌++◌, Option, None, Some, refl, sym, ap}
+use Rattle.std.proofs.Common.{subst, inl, inr, true≢false}
+use Rattle.std.specs.List.{list_any}
+use Rattle.std.specs.Prelude.{filter, find, slice_get, bytes_eq}
+use Rattle.iox_machine.proofs.Delivering.{keeping, sending}
+use Rattle.iox_machine.proofs.MoveForms.{IsNumbered, Loud, Loudly, Quiet, Quietly, is_port, with_send}
+use Rattle.iox_machine.proofs.MoveForms as move
+use Rattle.iox_machine.proofs.MoveLaws.{strides-by}
+use Rattle.iox_machine.proofs.MoveSteps.{step-parts}
+use Rattle.iox_machine.proofs.Moves.{Acts, IsTold, Parts}
+use Rattle.iox_machine.proofs.Shorthands.{given_back, left, registered, taken, with_publisher, with_subscriber}
+use Rattle.iox_machine.specs.Arriving.{new_publisher, new_subscriber}
 use Rattle.iox_machine.specs.Choices.{Choices}
-use Rattle.iox_machine.proofs.Delivering.{Outcomes, by-outcome, first_of, offered, deliver, goes-on-so, keeping, at_once, by-send, sending}
-use Rattle.iox_machine.specs.Lending.{Lends, loan_refusal}
-use Rattle.iox_machine.specs.Mailbox.{Mailbox, put}
-use Rattle.iox_machine.specs.Message.{Loan, Message, Sample}
-use Rattle.iox_machine.specs.RunLaws.{is_written, sent_as}
-use Rattle.iox_machine.specs.Ports.{LendsLoan, Puts, Releases, SendsLoan, Writes}
+use Rattle.iox_machine.specs.Factories.{with_open}
+use Rattle.iox_machine.specs.Mailbox.{Mailbox}
+use Rattle.iox_machine.specs.Message.{Loan, Sample}
+use Rattle.iox_machine.specs.Phase.{Phase, same_pattern}
 use Rattle.iox_machine.specs.PublisherUpdate as publishing
-use Rattle.iox_machine.specs.Receiving.{Receives, lasting}
-use Rattle.iox_machine.specs.Sending.{Begins, GoesOn, Sends}
+use Rattle.iox_machine.specs.Run.{Step}
 use Rattle.iox_machine.specs.Service.{Publisher, Send, Service, Subscriber, mailbox, with_mailbox}
+use Rattle.iox_machine.specs.State.{Factory, Made, State, counted, is_service_of, replaced}
 use Rattle.iox_machine.specs.SubscriberUpdate as subscribing
 use Rattle.iox_machine.specs.Table.{at, changed, removed}
-use Rattle.iox_machine.proofs.Cases.{by-bool, by-option}
-use Rattle.iox_machine.proofs.Frames.{soft-follows}
-use Rattle.iox_machine.proofs.Order.{follows-publishers}
-use Rattle.iox_machine.proofs.Tables.{at-changed}
-use Rattle.iox_command.specs.DomainValues.declared.backpressure.BackpressureDecision.{BackpressureDecision}
-use Rattle.iox_command.specs.DomainValues.declared.backpressure.BackpressureDecision.TheVariants.{Retry, DiscardData, DiscardDataAndFail}
-use Rattle.iox_command.specs.DomainValues.declared.connection_failure.ConnectionFailure.{ConnectionFailure}
-use Rattle.iox_command.specs.DomainValues.declared.port_error.LoanError.{LoanError}
-use Rattle.iox_command.specs.DomainValues.declared.port_error.SendError.TheVariants as error
-use Rattle.iox_command.specs.declared.refusal.Refusal.{Refusal}
-use Rattle.iox_command.specs.declared.refusal.Refusal.TheVariants as refusal
+use Rattle.iox_command.specs.NegotiateBase.DescribeBase.declared.message_type.MessageTypeDetails.{MessageTypeDetails}
+use Rattle.iox_command.specs.declared.command.Command.{Command}
+use Rattle.iox_command.specs.declared.port.PublisherOptions.{PublisherOptions}
+use Rattle.iox_command.specs.declared.port.SubscriberOptions.{SubscriberOptions}
 use Rattle.iox_command.specs.declared.reply.Reply.{Reply}
+use Rattle.iox_command.specs.declared.reply.Reply.TheVariants as reply
 
 -- A relation between a service and what a port that stood made of it: it holds of each thing that a port does.
 pub record Walks {T : Type 0} (R : Service T → Service T → Type 0) : Type 0 where
@@ -48,231 +48,186 @@ pub record Walks {T : Type 0} (R : Service T → Service T → Type 0) : Type 0 
   pub attends : (buffer number : ℕ) (was : Subscriber) (service : Service T) (after : Subscriber) (new : Service T)
       → at number service.subscribers ≡ Some was → subscribing.Follows buffer number was service after new → R service new
 
-module _ {T : Type 0} (R : Service T → Service T → Type 0) (walks : Walks R) where
-  pub walks-refused : (why : Refusal) (old mid : Service T) (answer : Reply T) (new : Service T) → R old mid
-      → IsRefused why mid answer new → R old new
-  walks-refused why old mid answer new on refused = subst (λ (it : Service T). R old it) (sym refused.1) on
+module _ {T : Type 0} where
+  -- A publisher follows the list of subscribers, and registers at a free place.
+  abbrev pub Registers : ℕ → Publisher T → Service T → Reply T → Service T → Type 0
+  Registers number one service answer new =
+      (place : ℕ) × (slice_get service.publisher_list.places place ≡ Some None) × (after : Publisher T) × (mid : Service T)
+      × publishing.Follows number one (record service { publishers = service.publishers ++ (number, one) ∷ [] }) after mid
+      × (answer ≡ reply.PublisherMade number) × (new ≡ record mid { publisher_list = registered place number mid.publisher_list })
 
-  pub walks-same : (old new : Service T) → new ≡ old → R old new
-  walks-same old new same = subst (λ (it : Service T). R old it) (sym same) (walks.none old)
+  -- A publisher comes.
+  abbrev pub Publishes : Made → Service T → Reply T → Service T → Type 0
+  Publishes made service answer new =
+      (factory : ℕ) × (options : PublisherOptions)
+      × Registers (made.publishers + 1) (new_publisher factory options service.settings) service answer new
 
-  -- ---- a publisher
+  -- A subscriber follows the list of publishers, and registers at a free place.
+  abbrev pub Enters : ℕ → ℕ → Subscriber → Service T → Reply T → Service T → Type 0
+  Enters buffer number one service answer new =
+      (place : ℕ) × (slice_get service.subscriber_list.places place ≡ Some None) × (after : Subscriber) × (mid : Service T)
+      × subscribing.Follows buffer number one (record service { subscribers = service.subscribers ++ (number, one) ∷ [] }) after mid
+      × (answer ≡ reply.SubscriberMade number) × (new ≡ record mid { subscriber_list = registered place number mid.subscriber_list })
 
-  pub walks-updates : (choices : Choices T) (Q : Type 0) (number : ℕ) (told : ConnectionFailure → Refusal)
-      (Does : Publisher T → Service T → Reply T → Service T → Type 0) (publisher : Publisher T) (old : Service T) (answer : Reply T)
-      (new : Service T) → at number old.publishers ≡ Some publisher
-      → ((after : Publisher T) (mid : Service T) → R old mid → at number mid.publishers ≡ Some after → Does after mid answer new → Q)
-      → ((why : Refusal) (mid : Service T) → R old mid → IsRefused why mid answer new → Q)
-      → publishing.UpdatesFirst choices number told Does publisher old answer new → Q
-  walks-updates choices Q number told Does publisher old answer new found does refused h =
-      elim (by-bool (publisher.seen == old.subscriber_list.changes) (Does publisher old answer new)
-      ((after : Publisher T) × (mid : Service T) × publishing.Follows number publisher old after mid
-      × Outcomes (choices.publisher_acts number publisher.degradation) (zip old.subscriber_list.places after.connected)
-      (λ done. Does after mid answer new) (λ failure. IsRefused (told failure) mid answer new)) h) [
-        | inl w ↦ does publisher old (walks.none old) found w.1
-        | inr w ↦ followed w.1.0 w.1.1 w.1.2 w.1.3
-      ]
-    where
-      followed : (after : Publisher T) (mid : Service T) → publishing.Follows number publisher old after mid
-          → Outcomes (choices.publisher_acts number publisher.degradation) (zip old.subscriber_list.places after.connected)
-          (λ done. Does after mid answer new) (λ failure. IsRefused (told failure) mid answer new) → Q
-      followed after mid came told_so =
-          let on : R old mid = walks.follows number publisher old after mid found came in
-          elim (by-outcome (choices.publisher_acts number publisher.degradation) (zip old.subscriber_list.places after.connected)
-          (λ done. Does after mid answer new) (λ failure. IsRefused (told failure) mid answer new) told_so) [
-            | inl r ↦ does after mid on (follows-publishers number 0 publisher old after mid found came) r.2
-            | inr r ↦ refused (told r.0) mid on r.2
-          ]
+  -- A subscriber comes.
+  abbrev pub Subscribes : Made → Service T → Reply T → Service T → Type 0
+  Subscribes made service answer new =
+      (buffer : ℕ) × (factory : ℕ) × (options : SubscriberOptions)
+      × Enters buffer (made.subscribers + 1) (new_subscriber factory options service.settings) service answer new
 
-  -- what is delivered changes mailboxes alone
-  abbrev Delivered : Service T → Service T → Type 0
-  Delivered old new = R old new × (new.publishers ≡ old.publishers)
+  -- A publisher leaves.
+  abbrev pub Unpublishes : Service T → Service T → Type 0
+  Unpublishes service new =
+      (number : ℕ) × (one : Publisher T) × (at number service.publishers ≡ Some one)
+      × (new ≡ with_publisher number (record one { stands = false })
+      (record service { publisher_list = left number service.publisher_list }))
 
-  walks-offered : (number : ℕ) (met : Option (Mailbox T)) (decision : BackpressureDecision) (subscriber : ℕ) (more : List ℕ)
-      (goes_on : Send T → Service T → Send T × Service T) (send : Send T) (service : Service T)
-      → ((next : Send T) (mid : Service T) → Delivered mid (goes_on next mid).1)
-      → Delivered service (offered number met decision subscriber more goes_on send service).1
-  walks-offered number (Some box) decision subscriber more goes_on send service on =
-      let next : Send T = record send { retries = 0; elapsed = 0; delivered = send.delivered + 1 } in
-      let mid : Service T = with_mailbox number subscriber box service in
-      let rest : Delivered mid (goes_on next mid).1 = on next mid in
-      (walks.both service mid (goes_on next mid).1 (walks.boxed number subscriber box service) rest.0, rest.1)
-  walks-offered number None Retry subscriber more goes_on send service on = (walks.none service, refl)
-  walks-offered number None DiscardData subscriber more goes_on send service on = on (record send { retries = 0; elapsed = 0 }) service
-  walks-offered number None DiscardDataAndFail subscriber more goes_on send service on =
-      on (record send { retries = 0; elapsed = 0; fails = true }) service
+  -- A subscriber leaves.
+  abbrev pub Unsubscribes : Service T → Service T → Type 0
+  Unsubscribes service new =
+      (number : ℕ) × (one : Subscriber) × (at number service.subscribers ≡ Some one)
+      × (new ≡ with_subscriber number (record one { stands = false })
+      (record service { subscriber_list = left number service.subscriber_list }))
 
-  walks-deliver : (number : ℕ) (decisions : List BackpressureDecision) (left : List ℕ) (send : Send T) (service : Service T)
-      → Delivered service (deliver number decisions left send service).1
-  walks-deliver number decisions [] send service = (walks.none service, refl)
-  walks-deliver number decisions (subscriber ∷ more) send service =
-      walks-offered number (put service.settings.enable_safe_overflow send.message (mailbox number subscriber service))
-      (first_of decisions) subscriber more (deliver number (drop 1 decisions) more) send service
-      (λ next mid. walks-deliver number (drop 1 decisions) more next mid)
+  module _ (R : Service T → Service T → Type 0) (walks : Walks R) where
+    -- A port that stands does something, or one comes or leaves.
+    abbrev pub Moved : Made → Service T → Reply T → Service T → Type 0
+    Moved made service answer after =
+        R service after
+        ⊎ (Publishes made service answer after
+        ⊎ (Subscribes made service answer after ⊎ (Unpublishes service after ⊎ Unsubscribes service after)))
 
-  pub walks-goes-on : (choices : Choices T) (number : ℕ) (was publisher : Publisher T) (send : Send T) (old : Service T)
-      (answer : Reply T) (new : Service T)
-      → at number old.publishers ≡ Some was → publisher.stands ≡ was.stands → publisher.connected ≡ was.connected
-      → publisher.seen ≡ was.seen → GoesOn choices number publisher send old answer new → R old new
-  walks-goes-on choices number was publisher send old answer new found stands connected seen h =
-      let so = goes-on-so choices number publisher send old answer new h in
-      let after : Send T × Service T = deliver number so.0 send.left send old in
-      let now : Publisher T = record publisher { blocked = cond (is_some (slice_get after.0.left 0)) (Some after.0) None } in
-      let on : Delivered old after.1 = walks-deliver number so.0 send.left send old in
-      subst (λ (it : Service T). R old it) (sym so.1.1)
-      (walks.both old after.1 (with_publisher number now after.1) on.0
-      (walks.turned number was now after.1 (ap (at number) on.1 ∙ found) stands connected seen))
+    -- One service moves, and all others stay.
+    abbrev pub OneMoves : State T → Reply T → State T → Type 0
+    OneMoves old answer new =
+        (has : Service T → Bool) × (service : Service T) × (after : Service T) × (find has old.services ≡ Some service)
+        × Moved old.made service answer after
+        × (new ≡ record old { made = counted answer old.made; services = replaced has after old.services })
 
-  pub walks-sends : (choices : Choices T) (number : ℕ) (message : Message T) (publisher : Publisher T) (old : Service T)
-      (answer : Reply T) (new : Service T)
-      → at number old.publishers ≡ Some publisher → Sends choices number message publisher old answer new → R old new
-  walks-sends choices number message publisher old answer new found h =
-      elim (by-send choices number message publisher old answer new h) [
-        | inl w ↦ walks-updates choices (R old new) number (λ failure. refusal.Send (error.ConnectionError failure))
-            (Begins choices number message)
-            publisher old answer new found
-            (λ after mid on there begun. walks.both old mid new on (begins after mid there begun))
-            (λ why mid on refused. walks-refused why old mid answer new on refused) w
-        | inr w ↦ walks-refused (refusal.Send (at_once w.0)) old old answer new (walks.none old) w.1
-      ]
-    where
-      begins : (after : Publisher T) (mid : Service T) → at number mid.publishers ≡ Some after
-          → Begins choices number message after mid answer new → R mid new
-      begins after mid there begun =
-          walks-goes-on choices number after (keeping message after mid)
-          (sending message after)
-          mid answer new there refl refl refl begun
+    -- What any step comes to: no service changes, or one moves, or one begins, or some end.
+    abbrev pub Comes : State T → Reply T → State T → Type 0
+    Comes old answer new =
+        (new.made ≡ counted answer old.made)
+        × ((new.services ≡ old.services)
+        ⊎ (OneMoves old answer new
+        ⊎ (((name : List ℕ) × (phase : Phase) × (new.services ≡ with_open name phase old.services))
+        ⊎ ((test : Service T → Bool) × (new.services ≡ filter test old.services)))))
 
-  -- who lends stands as before, is connected so, and has seen as much
-  abbrev Lent : Publisher T → Publisher T → Type 0
-  Lent one after = (after.stands ≡ one.stands) × (after.connected ≡ one.connected) × (after.seen ≡ one.seen)
+    -- ---- each move
 
-  lends-turned : (number count : ℕ) (one : Publisher T) (service : Service T) (refused : Option LoanError) (after : Publisher T)
-      → Lends number count one service refused after → Lent one after
-  lends-turned number count one service refused after h =
-      elim (by-option (loan_refusal number count one service)
-      (MatchBool (nat_lt one.room count) (LendsLonger number count one refused after)
-      ((refused ≡ None) × (after ≡ record one { next = one.next + 1 })))
-      (λ why. (refused ≡ Some why) × (after ≡ one)) h) [
-        | inl w ↦ elim (by-bool (nat_lt one.room count) (LendsLonger number count one refused after)
-            ((refused ≡ None) × (after ≡ record one { next = one.next + 1 })) w.1) [
-              | inl k ↦ longer k.1
-              | inr k ↦ subst (Lent one) (sym k.1.1) (refl, refl, refl)
-            ]
-        | inr w ↦ subst (Lent one) (sym w.2.1) (refl, refl, refl)
-      ]
-    where
-      longer : LendsLonger number count one refused after → Lent one after
-      longer (inl (told, same)) = subst (Lent one) (sym same) (refl, refl, refl)
-      longer (inr (room, allowed, few, told, same)) = subst (Lent one) (sym same) (refl, refl, refl)
+    sends-so : (number : ℕ) (one : Publisher T) (blocked : Option (Send T)) (old : Service T) → at number old.publishers ≡ Some one
+        → R old (with_send number one blocked old)
+    sends-so number one blocked old found = walks.turned number one (record one { blocked = blocked }) old found refl refl refl
 
-  pub walks-lends : (loan number count : ℕ) (value : Option T) (publisher : Publisher T) (old : Service T) (answer : Reply T)
-      (new : Service T) → at number old.publishers ≡ Some publisher → LendsLoan loan number count value publisher old answer new
-      → R old new
-  walks-lends loan number count value publisher old answer new found (Some why, after, lent, refused) =
-      walks-refused (refusal.Loan why) old old answer new (walks.none old) refused
-  walks-lends loan number count value publisher old answer new found (None, after, lent, (told, came)) =
-      let kept : Lent publisher after = lends-turned number count publisher old None after lent in
-      let loans : List (ℕ × Loan T) = old.loans
-      ++ (loan, record { publisher = number; number = publisher.next; values = replicate count value }) ∷ [] in
-      subst (λ (it : Service T). R old it) (sym came)
-      (walks.both old (with_publisher number after old) (record (with_publisher number after old) { loans = loans })
-      (walks.turned number publisher after old found kept.0 kept.1 kept.2) (walks.lent loans (with_publisher number after old)))
+    walks-quiet : (one : Quiet T) (old new : Service T) → Quietly one old new → R old new
+    walks-quiet (move.Retries number one send elapsed) old new (on, came) =
+        subst (λ (s : Service T). R old s) (sym came) (sends-so number one _ old on.0)
+    walks-quiet (move.Puts number one send subscriber more box) old new (on, waits, took, came) =
+        subst (λ (s : Service T). R old s) (sym came)
+        (walks.both old (with_send number one _ old) _ (sends-so number one _ old on.0)
+        (walks.boxed number subscriber box (with_send number one _ old)))
+    walks-quiet (move.Passes number one send subscriber more fails) old new (on, waits, full, came) =
+        subst (λ (s : Service T). R old s) (sym came) (sends-so number one _ old on.0)
+    walks-quiet (move.Concludes number one) old new (found, came) =
+        subst (λ (s : Service T). R old s) (sym came) (sends-so number one None old found)
+    walks-quiet (move.Follows number was after) old new ((found, free), did, is, came) = walks.follows number was old after new found did
+    walks-quiet (move.Attends buffer number was after) old new (found, did, is, came) =
+        walks.attends buffer number was old after new found did
+    walks-quiet (move.Sweeps number was expired) old new (found, came) =
+        subst (λ (s : Service T). R old s) (sym came)
+        (walks.swept number was (record was { expired = expired }) old found refl refl refl refl)
 
-  pub walks-puts : (choices : Choices T) (number : ℕ) (values : List T) (publisher : Publisher T) (old : Service T) (answer : Reply T)
-      (new : Service T)
-      → at number old.publishers ≡ Some publisher → Puts choices number values publisher old answer new → R old new
-  walks-puts choices number values publisher old answer new found (Some why, after, lent, refused) =
-      walks-refused (refusal.Send (error.LoanError why)) old old answer new (walks.none old) refused
-  walks-puts choices number values publisher old answer new found (None, after, lent, sent) =
-      let kept : Lent publisher after = lends-turned number (length values) publisher old None after lent in
-      let mid : Service T = with_publisher number after old in
-      walks.both old mid new (walks.turned number publisher after old found kept.0 kept.1 kept.2)
-      (walks-sends choices number (record { number = publisher.next; sequence = None; values = values }) after mid answer new
-      (at-changed number after publisher old.publishers found) sent)
+    numbers-so : (number : ℕ) (was after : Publisher T) (old : Service T) → at number old.publishers ≡ Some was → IsNumbered was after
+        → R old (with_publisher number after old)
+    numbers-so number was after old found (room, segments, first, grown, is) =
+        walks.turned number was after old found (ap (λ (it : Publisher T). it.stands) is)
+        (ap (λ (it : Publisher T). it.connected) is) (ap (λ (it : Publisher T). it.seen) is)
 
-  pub walks-sends-loan : (choices : Choices T) (number : ℕ) (loan : Loan T) (old : Service T) (answer : Reply T) (new : Service T)
-      → SendsLoan choices number loan old answer new → R old new
-  walks-sends-loan choices number loan old answer new h =
-      elim (by-option (at loan.publisher old.publishers) (IsSkipped old answer new)
-      (λ publisher. MatchBool (is_written loan && not (is_some publisher.blocked))
-      (Sends choices loan.publisher (sent_as loan) publisher (record old { loans = removed number old.loans }) answer new)
-      (IsSkipped old answer new)) h) [
-        | inl w ↦ walks-same old new w.1.1
-        | inr w ↦ elim (by-bool (is_written loan && not (is_some w.0.blocked))
-            (Sends choices loan.publisher (sent_as loan) w.0 (record old { loans = removed number old.loans }) answer new)
-            (IsSkipped old answer new) w.2) [
-              | inl k ↦ walks.both old (record old { loans = removed number old.loans }) new (walks.lent (removed number old.loans) old)
-                  (walks-sends choices loan.publisher (sent_as loan) w.0 (record old { loans = removed number old.loans }) answer new w.1
-                  k.1)
-              | inr k ↦ walks-same old new k.1.1
-            ]
-      ]
+    walks-loud : (factories : List (ℕ × Factory)) (one : Loud T) (old new : Service T) → is_port one ≡ false
+        → Loudly factories one old new → R old new
+    walks-loud factories (move.Lends number was after loan one) old new beside (found, up, (numbers, lent), by, next, came) =
+        subst (λ (s : Service T). R old s) (sym came)
+        (walks.both old (with_publisher number after old) _ (numbers-so number was after old found numbers)
+        (walks.lent (old.loans ++ (loan, one) ∷ []) (with_publisher number after old)))
+    walks-loud factories (move.Numbers number was after) old new beside (found, numbers, came) =
+        subst (λ (s : Service T). R old s) (sym came) (numbers-so number was after old found numbers)
+    walks-loud factories (move.Writes loan one values) old new beside (found, came) =
+        subst (λ (s : Service T). R old s) (sym came) (walks.lent (changed loan (record one { values = values }) old.loans) old)
+    walks-loud factories (move.Spends loan one) old new beside (found, came) =
+        subst (λ (s : Service T). R old s) (sym came) (walks.lent (removed loan old.loans) old)
+    walks-loud factories (move.Begins number one message) old new beside (found, free, came) =
+        subst (λ (s : Service T). R old s) (sym came)
+        (walks.turned number one (record (keeping message one old) { blocked = Some (sending message one) }) old found refl refl refl)
+    walks-loud factories (move.Takes number sample) old new beside (holder, first, came) =
+        let more : Service T = record old { samples = old.samples ++ (number, sample) ∷ [] } in
+        subst (λ (s : Service T). R old s) (sym came)
+        (walks.both old more _ (walks.held more.samples old)
+        (walks.boxed sample.publisher sample.subscriber (taken (mailbox sample.publisher sample.subscriber old)) more))
+    walks-loud factories (move.Releases number sample) old new beside (found, came) =
+        let fewer : Service T = record old { samples = removed number old.samples } in
+        subst (λ (s : Service T). R old s) (sym came)
+        (walks.both old fewer _ (walks.held fewer.samples old)
+        (walks.boxed sample.publisher sample.subscriber
+        (given_back sample.message.number (mailbox sample.publisher sample.subscriber old)) fewer))
+    walks-loud factories other old new beside h = absurd (true≢false beside)
 
-  pub walks-writes : (number : ℕ) (one : Loan T) (fit : Bool) (values : List (Option T)) (old : Service T) (answer : Reply T)
-      (new : Service T) → Writes number one fit values old answer new → R old new
-  walks-writes number one true values old answer new h =
-      subst (λ (it : Service T). R old it) (sym h.1) (walks.lent (changed number (record one { values = values }) old.loans) old)
-  walks-writes number one false values old answer new h = walks-same old new h.1
+    port-moves : (asked : Command T) (old : State T) (answer : Reply T) (one : Loud T) (service after : Service T) → is_port one ≡ true
+        → IsTold asked old answer one → Loudly old.factories one service after → Moved old.made service answer after
+    port-moves asked old answer (move.Publishes place number options one then) service after is (asks, next, told)
+        (open_one, (made, free, mid, did, listed), follows, came) =
+        inr (inl (
+          one.factory,
+          options,
+          subst (λ (n : ℕ). Registers n (new_publisher one.factory options service.settings) service answer
+              after) next (subst (λ (it : Publisher T). Registers number it service answer after) made
+              (place, free, then, mid, did, told, listed)),
+        ))
+    port-moves asked old answer (move.Subscribes buffer place number options one then) service after is (asks, next, told)
+        (open_one, (made, small, free, mid, did, listed), follows, came) =
+        inr (inr (inl (
+          buffer,
+          one.factory,
+          options,
+          subst (λ (n : ℕ). Enters buffer n
+              (new_subscriber one.factory options service.settings) service answer after) next
+              (subst (λ (it : Subscriber). Enters buffer number it service answer after) made
+              (place, free, then, mid, did, told, listed)),
+        )))
+    port-moves asked old answer (move.Unpublishes number one) service after is told (found, came) =
+        inr (inr (inr (inl (number, one, found, came))))
+    port-moves asked old answer (move.Unsubscribes number one) service after is told (found, came) =
+        inr (inr (inr (inr (number, one, found, came))))
+    port-moves asked old answer other service after is told did = absurd (true≢false (sym is))
 
-  -- ---- a subscriber
+    acts-move : (asked : Command T) (old : State T) (answer : Reply T) (service after : Service T) → Acts asked old answer service after
+        → Moved old.made service answer after
+    acts-move asked old answer service after (inl (loud, beside, told, walk)) =
+        inl (strides-by R walks.none walks.both walks-quiet old.factories (walks-loud old.factories) loud service after beside walk)
+    acts-move asked old answer service after (inr (one, is, told, did)) =
+        port-moves asked old answer one service after is told.5.0 did
 
-  pub walks-attends : (choices : Choices T) (Q : Type 0) (buffer number : ℕ) (told : ConnectionFailure → Refusal)
-      (Does : Subscriber → Service T → Reply T → Service T → Type 0) (subscriber : Subscriber) (old : Service T) (answer : Reply T)
-      (new : Service T) → at number old.subscribers ≡ Some subscriber
-      → ((after : Subscriber) (mid : Service T) → R old mid → at number mid.subscribers ≡ Some after → Does after mid answer new → Q)
-      → ((why : Refusal) (mid : Service T) → R old mid → IsRefused why mid answer new → Q)
-      → subscribing.UpdatesFirst choices buffer number told Does subscriber old answer new → Q
-  walks-attends choices Q buffer number told Does subscriber old answer new found does refused h =
-      elim (by-bool ((subscriber.seen == old.publisher_list.changes) && not subscriber.again) (Does subscriber old answer new)
-      ((after : Subscriber) × (mid : Service T) × subscribing.Follows buffer number subscriber old after mid
-      × Outcomes (choices.subscriber_acts number subscriber.degradation) (zip old.publisher_list.places after.connected)
-      (λ done. Does after mid answer new) (λ failure. IsRefused (told failure) mid answer new)) h) [
-        | inl w ↦ does subscriber old (walks.none old) found w.1
-        | inr w ↦ followed w.1.0 w.1.1 w.1.2 w.1.3
-      ]
-    where
-      followed : (after : Subscriber) (mid : Service T) → subscribing.Follows buffer number subscriber old after mid
-          → Outcomes (choices.subscriber_acts number subscriber.degradation) (zip old.publisher_list.places after.connected)
-          (λ done. Does after mid answer new) (λ failure. IsRefused (told failure) mid answer new) → Q
-      followed after mid came told_so =
-          let on : R old mid = walks.attends buffer number subscriber old after mid found came in
-          elim (by-outcome (choices.subscriber_acts number subscriber.degradation) (zip old.publisher_list.places after.connected)
-          (λ done. Does after mid answer new) (λ failure. IsRefused (told failure) mid answer new) told_so) [
-            | inl r ↦ does after mid on (soft-follows buffer number subscriber old after mid found came).1 r.2
-            | inr r ↦ refused (told r.0) mid on r.2
-          ]
+    module _ (types : MessageTypeDetails) (choices : Choices T) (buffer : ℕ) where
+      pub step-comes : (asked : Command T) (old : State T) (answer : Reply T) (new : State T)
+          → Step types choices buffer asked old answer new → Comes old answer new
+      step-comes asked old answer new h = comes (step-parts types choices buffer asked old answer new h)
+        where
+          fewer : (b : Bool) (test : Service T → Bool) → new.services ≡ cond b old.services (filter test old.services)
+              → (new.services ≡ old.services)
+              ⊎ (OneMoves old answer new
+              ⊎ (((name : List ℕ) × (phase : Phase) × (new.services ≡ with_open name phase old.services))
+              ⊎ ((test : Service T → Bool) × (new.services ≡ filter test old.services))))
+          fewer true test same = inl same
+          fewer false test same = inr (inr (inr (test, same)))
 
-  pub walks-receives : (number sample : ℕ) (subscriber : Subscriber) (old : Service T) (answer : Reply T) (new : Service T)
-      → at number old.subscribers ≡ Some subscriber → Receives number sample subscriber old answer new → R old new
-  walks-receives number sample subscriber old answer new found h = received h
-    where
-      later : Subscriber
-      later = record subscriber { expired = lasting number old subscriber.expired }
-
-      swept : Service T
-      swept = with_subscriber number later old
-
-      sweeps : R old swept
-      sweeps = walks.swept number subscriber later old found refl refl refl refl
-
-      received : Receives number sample subscriber old answer new → R old new
-      received (None, is, (told, came)) = subst (λ (it : Service T). R old it) (sym came) sweeps
-      received (Some publisher, is, (message, values, first, same, told, came)) =
-          let box : Mailbox T = taken (mailbox publisher number swept) in
-          let samples : List (ℕ × Sample T) = swept.samples
-          ++ (sample, record { publisher = publisher; subscriber = number; message = message }) ∷ [] in
-          let mid : Service T = record swept { samples = samples } in
-          subst (λ (it : Service T). R old it) (sym came)
-          (walks.both old swept (with_mailbox publisher number box mid) sweeps
-          (walks.both swept mid (with_mailbox publisher number box mid) (walks.held samples swept)
-          (walks.boxed publisher number box mid)))
-
-  pub walks-releases : (number : ℕ) (sample : Sample T) (old : Service T) (answer : Reply T) (new : Service T)
-      → Releases number sample old answer new → R old new
-  walks-releases number sample old answer new h =
-      let mid : Service T = record old { samples = removed number old.samples } in
-      let box : Mailbox T = given_back sample.message.number (mailbox sample.publisher sample.subscriber old) in
-      subst (λ (it : Service T). R old it) (sym h.1)
-      (walks.both old mid (with_mailbox sample.publisher sample.subscriber box mid) (walks.held (removed number old.samples) old)
-      (walks.boxed sample.publisher sample.subscriber box mid))
+          comes : Parts asked old answer new → Comes old answer new
+          comes (made, inl (told, inl (services, factories))) = (made, inl services)
+          comes (made, inl (told, inr (inl (factory, phase, factories, services)))) =
+              (made, inr (inr (inl (factory.name, phase, services))))
+          comes (made, inl (told, inr (inr (number, factory, found, unused, factories, services)))) = (
+            made,
+            fewer (list_any (λ (entry : ℕ × Factory). same_pattern entry.1.pattern factory.pattern
+                && bytes_eq entry.1.name factory.name) (removed number old.factories))
+                (λ (service : Service T). not (is_service_of factory service)) services,
+          )
+          comes (made, inr (has, service, after, first, acts, came)) =
+              (made, inr (inl (has, service, after, first, acts-move asked old answer service after acts, came)))

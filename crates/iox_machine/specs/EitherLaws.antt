@@ -42,20 +42,20 @@ in_flux (options.RequestResponse named) = refusal.RequestResponseOpenOrCreate re
 
 module _ {T : Type 0} (told : Reply T) (number : ℕ) (named : ServiceOptions) (types : MessageTypeDetails) (required : Required)
     (node : ℕ) where
-  -- What is told by the phase that the lock finds: the number of the factory if it is absent. Otherwise another node was first, and `Next`
-  -- says what the next round tells.
+  -- The answer, by the phase that the lock finds. If the service is absent, the answer is the number of the new factory. Otherwise another
+  -- node came first, and `Next` says what the next round answers.
   abbrev pub LockTells : Type 0 → Phase → Type 0
   LockTells Next (Absent lives) = told ≡ reply.FactoryMade number
   LockTells Next found = Next
 
-  -- What a round tells, by the phase that its lookup finds, and the phase `later` that it finds at its second access: where there is no
-  -- service, why its settings are impossible, or what its lock tells; otherwise what a round of an opening tells.
+  -- The answer of a round, by the phase that its lookup finds and the phase `later` that its second access finds. If the lookup finds no
+  -- service, it says why the settings are impossible, or what the lock leads to. Otherwise it is the answer of a round of an opening.
   abbrev pub EitherRoundTells : Phase → Type 0 → Phase → Type 0
   EitherRoundTells later Next (Absent lives) =
       MatchOption (unfit (settings_of types named)) (LockTells Next later) (λ failure. told ≡ reply.Refused (unfit_told named failure))
   EitherRoundTells later Next looked = RoundAnswers told number named types required node later Next looked
 
-  -- What at most this many rounds tell, from a phase and so many accesses on.
+  -- The answer of at most this many rounds that begin in this phase, after this many accesses.
   abbrev pub EitherRoundsTell : List StepBefore → ℕ → Phase → ℕ → Type 0
   EitherRoundsTell steps zero phase accesses = told ≡ reply.Refused (in_flux named)
   EitherRoundsTell steps (suc rounds) phase accesses =
@@ -64,8 +64,8 @@ module _ {T : Type 0} (told : Reply T) (number : ℕ) (named : ServiceOptions) (
       EitherRoundTells later (EitherRoundsTell steps rounds later (accesses + 1 + 1)) looked
 
 module _ {T : Type 0} (choices : Choices T) where
-  -- What `open_or_create` answers that isn't skipped, whatever other nodes do before its accesses: that memory ran out, or what the phases
-  -- say that it finds in at most five rounds. A refusal of an opening or a creation is within the error of the pattern for both.
+  -- What an `open_or_create` that isn't skipped answers, whatever other nodes do before its accesses: that memory ran out, or what follows
+  -- from the phases that it finds in at most five rounds. It wraps a refusal of an opening or a creation in its own error.
   abbrev pub EitherAnswersMeanwhile : Type 0
   EitherAnswersMeanwhile = (types : MessageTypeDetails) (buffer node : ℕ) (name : List ℕ) (named : ServiceOptions) (required : Required)
       (steps : List StepBefore) (old : State T) (answer : Reply T) (new : State T)

@@ -1,5 +1,5 @@
 use Rattle.iox_machine.specs.Choices.{chosen_by}
-use Rattle.iox_machine.proofs.Skips.{skipped-changes-nothing}
+use Rattle.iox_machine.proofs.Skipped.{skipped-changes-nothing}
 use Rattle.iox_machine.proofs.skipped_changes_nothing.Goals as goal
 
 pub returns : goal.returns
