@@ -1,11 +1,14 @@
 pub mod Arrived
 mod Refused
 mod Reserved
+mod GrowingFor
 pub mod Misfit
 pub mod Answering
 pub mod Written
 mod Put
 mod Skipping
+mod Released
+mod Loaned
 mod Uncreated
 pub mod Ruled
 pub mod FirstLook

@@ -1,14 +1,12 @@
 -- A call at a number that stands for nothing is skipped, whatever memory there is.
-use Rattle.std.proofs.Common.{arith, ◌≡◌, ℕ, Option, None, Some, Result, Ok, Err, refl}
-use Rattle.std.specs.Prelude.{IsSome, OnErr}
-use Rattle.iox_delivery.specs.DomainValues.declared.degradation.DegradationAction.{DegradationAction}
-use Rattle.iox_delivery.specs.DomainValues.declared.degradation.DegradationInfo.{DegradationInfo}
+use Rattle.std.proofs.Common.{arith, ◌≡◌, ℕ, Option, None, Some, Ok, Err, refl}
+use Rattle.std.specs.Prelude.{IsSome}
 use Rattle.iox_delivery.specs.Domain.declared.ports.service_ports.ServicePorts.{ServicePorts}
 use Rattle.iox_delivery.specs.Domain.declared.domain_id.DomainId.{DomainId}
 use Rattle.iox_delivery.specs.declared.port_id.PortId.{PortId}
 use Rattle.iox_container.specs.NumberTable.{NumberTable}
 use Rattle.iox_hub_commands.specs.Growing.{GrowsFirst}
-use Rattle.iox_hub_commands.specs.Numbering.{LendsNumbered, LendsWrittenNumbered, ReceivesNumbered}
+use Rattle.iox_hub_commands.specs.Numbering.{LendsNumbered, LendsWrittenNumbered}
 use Rattle.iox_hub_commands.specs.Tables.{SameNumbers, IsRoomier}
 use Rattle.iox_hub_commands.specs.declared.ports.made.Made.{Made}
 
@@ -29,23 +27,8 @@ module _ {T U H : Type 0} (ports_of : DomainId → H → Option (ServicePorts T 
       → GrowsFirst is_full (LendsWrittenNumbered ports_of with_ports elements value port) made home (Ok None) made home
   skips_loan elements value port none = (made, same_room made, (None, rw none (refl, refl), (refl, refl)))
 
-  -- nothing is received
-  pub skips_receive : (degrades : DomainId → ℕ → H → DegradationInfo → DegradationAction → Type 0) (port : Option PortId) → port ≡ None
-      → GrowsFirst is_full (ReceivesNumbered ports_of with_ports degrades port) made home (Ok None) made home
-  skips_receive degrades port none = (made, same_room made, (None, rw none (refl, refl), (refl, refl)))
-
 -- where a call isn't skipped that is where nothing is found, something is
 pub found_else_skipped : {A B E : Type 0} (found : Option A) (error : E) (skipped : B) → (found ≡ None → Err error ≡ Ok skipped)
     → IsSome found
 found_else_skipped None error skipped skips = cc (skips refl)
 found_else_skipped (Some value) error skipped skips = refl
-
-pub found_else_none : {A B E : Type 0} (found : Option A) (result : Result (Option B) E) (some : B) → (found ≡ None → result ≡ Ok None)
-    → result ≡ Ok (Some some) → IsSome found
-found_else_none None result some skips is = cc (skips refl, is)
-found_else_none (Some value) result some skips is = refl
-
--- what holds holds where a call fails
-pub where_it_fails : {A E : Type 0} {P : Type 0} (result : Result A E) → P → OnErr result P
-where_it_fails (Ok value) holds = tt
-where_it_fails (Err error) holds = holds

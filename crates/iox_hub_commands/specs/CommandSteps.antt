@@ -1,5 +1,5 @@
 -- What each command does to a hub, and what the reply is.
-use Rattle.std.specs.Prelude.{ℕ, ◌≡◌, Result, Ok, Err}
+use Rattle.std.specs.Prelude.{ℕ, ◌≡◌, Result, Ok, Err, OnErr}
 use Rattle.std.specs.declared.alloc.AllocError.{AllocError}
 use Rattle.iox_command.specs.declared.command.Command.{Command}
 use Rattle.iox_command.specs.declared.command.Command.TheVariants as command
@@ -20,6 +20,7 @@ use Rattle.iox_hub_commands.specs.Following.{UpdateStep, HasStep, LeaveStep}
 use Rattle.iox_hub_commands.specs.Lending.{LoanStep, LoanUninitStep, PutStep}
 use Rattle.iox_hub_commands.specs.Messages.{SetStep, FillStep, DropStep, SendStep, RetryStep, GiveUpStep, ReadStep, SequenceStep}
 use Rattle.iox_hub_commands.specs.Messages.{ReleaseStep}
+use Rattle.iox_hub_commands.specs.PortRoom.{GrowsAs, HasRoom, KeepsRoom, LacksInRoom}
 use Rattle.iox_hub_commands.specs.Receiving.{ReceiveStep}
 use Rattle.iox_hub_commands.specs.Services.{NodeMakes, Creates, Opens, OpensOrCreates, Acts, Closes, MakesPublisher, MakesSubscriber}
 use Rattle.iox_hub_commands.specs.declared.numbered_hub.NumberedHub.{NumberedHub}
@@ -119,3 +120,12 @@ module _ {T U B D : Type 0} where
   Step terms (command.Has subscriber) old answer new =
       IsReplied (λ reply. HasStep hub_ports with_hub_ports (subscriber_may_degrade terms.reader_degrades) subscriber old.made old.hub
       reply new.hub × (new ≡ record old { hub = new.hub })) answer
+
+  -- What each command does, as `Step` says, how far the capacity for numbers grows where it creates a port, and, if the ports have the
+  -- capacity that they need, that they keep it, and for which values memory ran out where there is no reply.
+  pub record StepInRoom (terms : Terms T U B D) (asked : Command T) (old : NumberedHub T U B D) (answer : Result (Reply T) AllocError)
+      (new : NumberedHub T U B D) : Type 0 where
+    pub step : Step terms asked old answer new
+    pub capacity : GrowsAs asked old new
+    pub room : KeepsRoom old new
+    pub lacks : HasRoom old → OnErr answer (LacksInRoom asked old new)

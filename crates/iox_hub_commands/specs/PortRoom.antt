@@ -9,10 +9,14 @@ use Rattle.iox_delivery.specs.Domain.declared.ports.service_ports.ServicePorts.{
 use Rattle.iox_hub_commands.specs.Reading.{values_under}
 use Rattle.iox_hub_commands.specs.Messages.{SomeValues}
 use Rattle.iox_hub_base.specs.AsHome.{hub_ports}
-use Rattle.iox_hub_base.specs.Room.{loans_left_in, samples_left_in}
+use Rattle.iox_hub_base.specs.Opening.{Made as Opened}
+use Rattle.iox_hub_base.specs.Room.{loans_left_in, samples_left_in, samples_at_most_in}
 use Rattle.iox_delivery.specs.Container.NumberTable.{NumberTable, value_at}
 use Rattle.iox_hub_commands.specs.Calls.{ready}
 use Rattle.iox_hub_commands.specs.Grown.{HaveGrown}
+use Rattle.iox_hub_commands.specs.Naming.{most_loans}
+use Rattle.iox_hub_commands.specs.Services.{domain_of_factory}
+use Rattle.iox_hub_commands.specs.ServicesTables.{publish_subscribe_in}
 use Rattle.iox_hub_commands.specs.Tables.{lender}
 use Rattle.iox_hub_commands.specs.declared.numbered_hub.NumberedHub.{NumberedHub}
 
@@ -83,6 +87,33 @@ module _ {T U B D : Type 0} where
   -- ports.
   abbrev pub KeepsRoom : NumberedHub T U B D → NumberedHub T U B D → Type 0
   KeepsRoom old new = (HasLoanRoom old → HasLoanRoom new) × (HaveGrown old.hub.services.domains → HasSampleRoom old → HasSampleRoom new)
+
+  -- The capacity for numbers has grown at most to twice as many as are in use, as the existing ports may still need, and as `loans` and
+  -- `samples` say, plus one for each factory, and one more.
+  abbrev pub GrowsFor : ℕ → ℕ → NumberedHub T U B D → NumberedHub T U B D → Type 0
+  GrowsFor loans samples old new =
+      GrowsTwice (length old.made.loans.entries + loans_left_in old.hub.services.domains + loans)
+      (length old.factories.made.entries + 1) old.made.loans new.made.loans
+      × GrowsTwice (length old.made.samples.entries + samples_at_most_in old.hub.services.domains + samples)
+      (length old.factories.made.entries + 1) old.made.samples new.made.samples
+
+  -- How many samples of a new publisher of this factory's service may be held at once; 0 if there is no factory.
+  abbrev pub samples_from : Option Opened → NumberedHub T U B D → ℕ
+  samples_from None hub = 0
+  samples_from (Some opened) hub = most_samples_from (domain_of_factory opened) hub
+
+  -- How many samples a new subscriber of this factory's service may hold at once; 0 if there is no factory.
+  abbrev pub samples_at : Option Opened → NumberedHub T U B D → ℕ
+  samples_at None hub = 0
+  samples_at (Some opened) hub = most_samples_at (domain_of_factory opened) hub
+
+  -- The capacity for numbers has grown as far as the port may need that a command creates. Nothing is stated of other commands.
+  abbrev pub GrowsAs : Command T → NumberedHub T U B D → NumberedHub T U B D → Type 0
+  GrowsAs (command.Publisher factory options) old new =
+      GrowsFor (most_loans options) (samples_from (publish_subscribe_in (value_at old.factories.made factory)) old) old new
+  GrowsAs (command.Subscriber factory options) old new =
+      GrowsFor 0 (samples_at (publish_subscribe_in (value_at old.factories.made factory)) old) old new
+  GrowsAs other old new = Unit {0}
 
   -- A sample with values was received, and is held under the number that was next before.
   abbrev pub CameUnread : NumberedHub T U B D → NumberedHub T U B D → Type 0

@@ -1,5 +1,5 @@
 -- What the command that receives does.
-use Rattle.std.specs.Prelude.{ℕ, ◌≡◌, List, Option, None, Some, Result, Ok, Err}
+use Rattle.std.specs.Prelude.{ℕ, ◌≡◌, List, Option, None, Some, IsSome, Result, Ok, Err, option_map}
 use Rattle.std.specs.Vec.{vec_items}
 use Rattle.std.specs.Global.{Vec}
 use Rattle.std.specs.declared.alloc.AllocError.{AllocError}
@@ -11,12 +11,17 @@ use Rattle.iox_delivery.specs.Domain.declared.ports.service_ports.ServicePorts.{
 use Rattle.iox_command.specs.DomainValues.declared.degradation.DegradationAction.{DegradationAction}
 use Rattle.iox_command.specs.DomainValues.declared.degradation.DegradationInfo.{DegradationInfo}
 use Rattle.iox_command.specs.DomainValues.declared.port_error.ReceiveError.{ReceiveError}
+use Rattle.iox_delivery.specs.DomainPorts.declared.attached.Taken.{Taken}
+use Rattle.iox_delivery.specs.Holding.{message_found}
+use Rattle.iox_delivery.specs.declared.port_id.PortId.{PortId}
+use Rattle.iox_hub_commands.specs.Calls.{Receives}
 use Rattle.iox_hub_commands.specs.Growing.{GrowsFirst}
 use Rattle.iox_hub_commands.specs.Numbering.{ReceivesNumbered}
 use Rattle.iox_hub_commands.specs.Reading.{values_under}
 use Rattle.iox_hub_commands.specs.Tables.{IsFull}
 use Rattle.iox_hub_commands.specs.declared.ports.made.Made.{Made}
-use Rattle.iox_delivery.specs.Container.NumberTable.{value_at}
+use Rattle.iox_hub_commands.specs.declared.ports.made.MadeSample.{MadeSample}
+use Rattle.iox_delivery.specs.Container.NumberTable.{NumberTable, inserted, value_at}
 use Rattle.iox_hub_commands.specs.Messages.{SomeValues}
 
 module _ {T : Type 0} where
@@ -59,3 +64,28 @@ ReceiveStep ports_of with_ports degrades subscriber made old answer made_after n
     × GrowsFirst (IsFull made.samples) (ReceivesNumbered ports_of with_ports degrades (value_at made.subscribers subscriber)) made old
     received made_after new
     × IsTold (λ sample. values_under ports_of (value_at made_after.samples sample) new) received answer
+
+-- The values of a held sample. `ports` are those of its domain, if the home contains it.
+abbrev pub values_held : {T U : Type 0} → Taken → Option (ServicePorts T U) → Option (List T)
+values_held taken ports = option_map (λ message. message.values) (message_found taken ports)
+
+-- A received sample is held.
+abbrev pub IsHeldIn : {T U : Type 0} → Option (ServicePorts T U) → Option (Result (Option Taken) ReceiveError) → Type 0
+IsHeldIn ports received = (taken : Taken) → received ≡ Some (Ok (Some taken)) → IsSome (values_held taken ports)
+
+-- The reply to what a port received, and the table of samples after it: a received sample gets the next number, and is found under it.
+abbrev pub RepliesTo : {T U : Type 0} → PortId → Option (ServicePorts T U) → Option (Result (Option Taken) ReceiveError)
+    → NumberTable MadeSample → Result (Reply T) AllocError → NumberTable MadeSample → Type 0
+RepliesTo port ports None samples answer after = (answer ≡ Ok reply.Skipped) × (after ≡ samples)
+RepliesTo port ports (Some (Err error)) samples answer after = (answer ≡ Ok (reply.Refused (refusal.Receive error))) × (after ≡ samples)
+RepliesTo port ports (Some (Ok None)) samples answer after = (answer ≡ Ok reply.NothingWaits) × (after ≡ samples)
+RepliesTo port ports (Some (Ok (Some taken))) samples answer after = IsShown samples.next (values_held taken ports) answer
+    × (after ≡ inserted samples (record { port = port; taken = taken }))
+    × (value_at after samples.next ≡ Some (record { port = port; taken = taken }))
+
+-- A port receives, and what it received is replied.
+abbrev pub ReceivesAt : {T U H : Type 0} → (DomainId → H → Option (ServicePorts T U)) → (DomainId → ServicePorts T U → H → H)
+    → (DomainId → ℕ → H → DegradationInfo → DegradationAction → Type 0) → PortId → NumberTable MadeSample → H → Result (Reply T) AllocError
+    → NumberTable MadeSample → H → Type 0
+ReceivesAt ports_of with_ports degrades port samples old answer after new = (received : Option (Result (Option Taken) ReceiveError))
+    × Receives ports_of with_ports degrades port old received new × RepliesTo port (ports_of port.domain new) received samples answer after

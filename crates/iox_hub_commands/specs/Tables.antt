@@ -22,6 +22,10 @@ abbrev pub IsRoomier : Made → Made → Type 0
 IsRoomier old new = SameNumbers old.publishers new.publishers × SameNumbers old.subscribers new.subscribers
     × SameNumbers old.loans new.loans × SameNumbers old.samples new.samples
 
+-- The tables of loans and of samples are as they were, with the capacity that they had.
+abbrev pub SameMessages : Made → Made → Type 0
+SameMessages old new = (new.loans ≡ old.loans) × (new.samples ≡ old.samples)
+
 -- The table has no capacity for one more value.
 abbrev pub IsFull : {V : Type 0} → NumberTable V → Type 0
 IsFull table = table.room ≤ length table.entries

@@ -4,6 +4,7 @@ ghost use Rattle.std.specs.Prelude.{◌≡◌, ◌+◌, ◌<◌, ◌^◌};
 ghost use Rattle.iox_hub_commands.specs.declared.ports.made.Made.{Made};
 ghost use Rattle.iox_hub_commands.specs.Arriving.{PublisherStep, SubscriberStep, no_publisher_comes, no_subscriber_comes};
 ghost use Rattle.iox_hub_commands.specs.Naming.{publisher_config, subscriber_config};
+ghost use Rattle.iox_hub_commands.specs.Tables.{SameMessages};
 
 use crate::naming;
 use crate::ports::making::{why_no_publisher, why_no_subscriber};
@@ -26,9 +27,10 @@ pub fn publisher<T: Copy, U: Copy + Default, H: Home<T, U>>(
     handlers: H::ForPublishers,
 ) -> Reply<T>
     requires { made.old.publishers.next + 1 < 2 ^ 64 }
-    ensures { PublisherStep (homes.ports_of H.domain_of) (homes.with_ports H.changed) (homes.with_publisher H.changed)
+    ensures step { PublisherStep (homes.ports_of H.domain_of) (homes.with_ports H.changed) (homes.with_publisher H.changed)
         (λ handlers. H.ForPublishers.degrades handlers) U.is_default domain (publisher_config owner options.now)
         options.now.preallocated_samples handlers made.old home.old result made.new home.new }
+    ensures messages { SameMessages made.old made.new }
 {
     let slots = naming::named_slots(options);
     let parts = PublisherParts {
@@ -88,9 +90,10 @@ pub fn subscriber<T: Copy, U: Copy, H: Home<T, U>>(
     handler: H::ForSubscribers,
 ) -> Reply<T>
     requires { made.old.subscribers.next + 1 < 2 ^ 64 }
-    ensures { SubscriberStep (homes.ports_of H.domain_of) (homes.with_ports H.changed) (homes.with_subscriber H.changed)
+    ensures step { SubscriberStep (homes.ports_of H.domain_of) (homes.with_ports H.changed) (homes.with_subscriber H.changed)
         (λ handler. H.ForSubscribers.degrades handler) domain (subscriber_config owner options.now) handler made.old home.old result
         made.new home.new }
+    ensures messages { SameMessages made.old made.new }
 {
     let config = naming::subscriber_config(owner, options);
     subscriber_reply(made.make_subscriber(alloc, home, domain, config, handler))

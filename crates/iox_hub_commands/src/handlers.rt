@@ -8,6 +8,7 @@ ghost use Rattle.iox_command.specs.DomainValues.declared.backpressure_strategy.B
 ghost use Rattle.iox_command.specs.DomainValues.declared.degradation.DegradationAction.{DegradationAction};
 ghost use Rattle.iox_command.specs.DomainValues.declared.degradation_handler.DegradationHandler.TheVariants as degradation;
 
+use iox_domain::Nobody;
 use iox_domain_values::backpressure::decision;
 use iox_domain_values::{
     BackpressureAction, BackpressureDecision, BackpressureHandler, BackpressureInfo,
@@ -144,6 +145,27 @@ impl SubscriberHandler for FixedDegradation {
         FixedDegradation {
             action: degradation,
         }
+    }
+}
+
+// `Nobody` has no actions: it waits and warns, whatever a command names.
+impl PublisherHandlers for Nobody {
+    ghost fixed = { λ strategy action degrading. record {} };
+
+    fn with_actions(
+        _strategy: BackpressureStrategy,
+        _backpressure: Option<BackpressureAction>,
+        _degradation: DegradationAction,
+    ) -> Self {
+        Nobody
+    }
+}
+
+impl SubscriberHandler for Nobody {
+    ghost fixed = { λ action. record {} };
+
+    fn with_action(_degradation: DegradationAction) -> Self {
+        Nobody
     }
 }
 

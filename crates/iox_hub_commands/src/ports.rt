@@ -8,7 +8,7 @@
 //! | `loans` | how loans are written, dropped and sent |
 //! | `subscribing` | how subscribers update, receive, and are closed |
 //! | `samples` | how samples are read and released |
-//! | `growing` | loans and receives that first make capacity for one more |
+//! | `growing` | loans that first make capacity for one more |
 //! | `laws` | theorems about the calls |
 //!
 //! First calls, with nothing made yet. `arriving`, `lending`, `messages`, `receiving` and `following` make the others.

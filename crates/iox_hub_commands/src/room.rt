@@ -3,7 +3,7 @@ ghost use Rattle.std.specs.Prelude.{◌≡◌, ◌+◌, ◌-◌, ◌^◌, ◌≤
 ghost use Rattle.iox_hub_commands.specs.Tables.{SameNumbers};
 ghost use Rattle.iox_hub_base.specs.Room.{loans_left_in, samples_left_in, samples_at_most_in};
 ghost use Rattle.iox_hub_commands.specs.PortRoom.{FitsBeside, GrowsTwice, Pledges, HasLoanRoom, HasSampleRoom, KeepsRoom, most_samples_at};
-ghost use Rattle.iox_hub_commands.specs.PortRoom.{most_samples_from};
+ghost use Rattle.iox_hub_commands.specs.PortRoom.{most_samples_from, GrowsFor};
 ghost use Rattle.iox_hub_commands.specs.Room.{FitsMore, OnlyRoomier};
 
 use crate::numbered_hub::NumberedHub;
@@ -145,6 +145,7 @@ impl<T: Copy, U: Copy, B: Drop, D: Drop> NumberedHub<T, U, B, D> {
     pub fn pledge_loans(&mut self, more: u64) -> Result<(), AllocError>
         ensures same { OnlyRoomier self.old self.new }
         ensures samples { self.new.pledged.samples ≡ self.old.pledged.samples }
+        ensures samples_stay { self.new.made.samples ≡ self.old.made.samples }
         ensures room { HasLoanRoom self.old → OnOk result
             (Pledges (loans_left_in self.old.hub.services.domains + more) self.new.pledged.loans self.new.made.loans) }
         ensures stays { OnErr result (self.new.pledged ≡ self.old.pledged) }
@@ -179,6 +180,7 @@ impl<T: Copy, U: Copy, B: Drop, D: Drop> NumberedHub<T, U, B, D> {
     pub fn pledge_samples(&mut self, more: u64) -> Result<(), AllocError>
         ensures same { OnlyRoomier self.old self.new }
         ensures loans { self.new.pledged.loans ≡ self.old.pledged.loans }
+        ensures loans_stay { self.new.made.loans ≡ self.old.made.loans }
         ensures room { HasSampleRoom self.old → OnOk result
             (Pledges (samples_left_in self.old.hub.services.domains + more) self.new.pledged.samples self.new.made.samples) }
         ensures small { OnOk result (more + 1 < 2 ^ 64) }
@@ -229,7 +231,7 @@ impl<T: Copy, U: Copy, B: Decides + Degrades, D: Degrades> NumberedHub<T, U, B, 
     }
 
     /// Reserves the numbers that a new publisher of a domain may need: one for each of its loans, and one for each sample of its messages
-    /// that may be held at once.
+    /// that may be held at once. The capacity grows as they say.
     /// Fails as `pledge_loans` and `pledge_samples` do.
     /// Example: `hub.pledge_for_publisher(domain, 2)?;`
     pub fn pledge_for_publisher(&mut self, domain: DomainId, loans: u64) -> Result<(), AllocError>
@@ -240,6 +242,7 @@ impl<T: Copy, U: Copy, B: Decides + Degrades, D: Degrades> NumberedHub<T, U, B, 
         ensures samples { HasSampleRoom self.old → OnOk result
             (Pledges (samples_left_in self.old.hub.services.domains + most_samples_from domain self.old) self.new.pledged.samples
             self.new.made.samples) }
+        ensures grows { GrowsFor loans (most_samples_from domain self.old) self.old self.new }
     {
         self.pledge_loans(loans)?;
         self.pledge_samples(self.most_samples_of(domain))

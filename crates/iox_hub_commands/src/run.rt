@@ -7,7 +7,7 @@ ghost use Rattle.iox_hub_commands.specs.Numbers.{numbers_used};
 ghost use Rattle.iox_hub_commands.specs.PortRoom.{HasRoom, KeepsRoom};
 ghost use Rattle.iox_hub_commands.specs.Room.{StopsInTime};
 ghost use Rattle.iox_hub_commands.specs.Runs.{IsRun};
-ghost use Rattle.iox_hub_commands.specs.CommandSteps.{Step};
+ghost use Rattle.iox_hub_commands.specs.CommandSteps.{Step, StepInRoom};
 ghost use Rattle.iox_hub_commands.specs.Terms.{terms_of};
 
 use crate::numbered_hub::NumberedHub;
@@ -38,11 +38,14 @@ impl<
     ///
     /// It stops before the first command if an allocation fails for that capacity, and then nothing has changed; or at a command that
     /// receives or reads, if an allocation fails for the values of its reply, and then those before it have their replies. It makes no
-    /// capacity for numbers: each port made that when it was created.
+    /// capacity for numbers: each port made that when it was created, as `step` says.
     /// Example: `let report = hub.run(alloc, commands);`
     pub fn run(&mut self, alloc: Global, commands: Vec<Command<T>>) -> RunReport<T>
         requires { numbers_used self.old + length commands.items < 2 ^ 64 }
         ensures ran { IsRun (Step (terms_of T.name T.size T.alignment T.is_default U.name U.size U.alignment U.is_default B.fixed
+            (λ handlers. B.degrades handlers) (λ handlers. B.decides handlers) D.fixed (λ handler. D.degrades handler)))
+            commands.entry.items self.old result.replies.items result.stopped self.new }
+        ensures each { IsRun (StepInRoom (terms_of T.name T.size T.alignment T.is_default U.name U.size U.alignment U.is_default B.fixed
             (λ handlers. B.degrades handlers) (λ handlers. B.decides handlers) D.fixed (λ handler. D.degrades handler)))
             commands.entry.items self.old result.replies.items result.stopped self.new }
         ensures stops { HasRoom self.old → HaveGrown self.old.hub.services.domains → result.stopped ≡ true
@@ -62,6 +65,9 @@ impl<
     fn carry_out_all(&mut self, alloc: Global, commands: Vec<Command<T>>) -> RunReport<T>
         requires { numbers_used self.old + length commands.items < 2 ^ 64 }
         ensures ran { IsRun (Step (terms_of T.name T.size T.alignment T.is_default U.name U.size U.alignment U.is_default B.fixed
+            (λ handlers. B.degrades handlers) (λ handlers. B.decides handlers) D.fixed (λ handler. D.degrades handler)))
+            commands.entry.items self.old result.replies.items result.stopped self.new }
+        ensures each { IsRun (StepInRoom (terms_of T.name T.size T.alignment T.is_default U.name U.size U.alignment U.is_default B.fixed
             (λ handlers. B.degrades handlers) (λ handlers. B.decides handlers) D.fixed (λ handler. D.degrades handler)))
             commands.entry.items self.old result.replies.items result.stopped self.new }
         ensures stops { HasRoom self.old → HaveGrown self.old.hub.services.domains → result.stopped ≡ true

@@ -3,7 +3,8 @@ ghost use Rattle.std.specs.Prelude.{◌≡◌, ◌+◌, ◌<◌, ◌^◌, option
 ghost use Rattle.iox_delivery.specs.DescribeBase.Detail.{detail};
 ghost use Rattle.iox_delivery.specs.DescribeBase.declared.type_detail.TypeVariant.TheVariants.{FixedSize};
 ghost use Rattle.iox_hub_commands.specs.Asked.{types_of};
-ghost use Rattle.iox_hub_commands.specs.PortRoom.{KeepsRoom};
+ghost use Rattle.iox_hub_commands.specs.Naming.{most_loans};
+ghost use Rattle.iox_hub_commands.specs.PortRoom.{GrowsFor, KeepsRoom, samples_at, samples_from};
 ghost use Rattle.iox_hub_commands.specs.Services.{NodeMakes, Creates, Opens, OpensOrCreates, Acts, Closes, MakesPublisher};
 ghost use Rattle.iox_hub_commands.specs.Services.{MakesSubscriber, domain_of_factory, owner_of_factory};
 ghost use Rattle.iox_hub_commands.specs.ServicesTables.{publish_subscribe_in};
@@ -147,6 +148,8 @@ impl<T: Copy, U: Copy + Default, B: PublisherHandlers, D: Degrades> NumberedHub<
         requires { self.old.made.publishers.next + 1 < 2 ^ 64 }
         ensures room { KeepsRoom self.old self.new }
         ensures comes { MakesPublisher U.is_default B.fixed (λ handlers. B.degrades handlers) factory options.now self.old result self.new }
+        ensures grows { GrowsFor (most_loans options.now)
+            (samples_from (publish_subscribe_in (value_at self.old.factories.made factory)) self.old) self.old self.new }
     {
         let Some((domain, owner)) = self.place(factory) else {
             return Reply::Skipped;
@@ -166,6 +169,8 @@ impl<T: Copy, U: Copy, B: Decides + Degrades, D: SubscriberHandler> NumberedHub<
         requires { self.old.made.subscribers.next + 1 < 2 ^ 64 }
         ensures room { KeepsRoom self.old self.new }
         ensures comes { MakesSubscriber D.fixed (λ handler. D.degrades handler) factory options.now self.old result self.new }
+        ensures grows { GrowsFor 0 (samples_at (publish_subscribe_in (value_at self.old.factories.made factory)) self.old) self.old
+            self.new }
     {
         let Some((domain, owner)) = self.place(factory) else {
             return Reply::Skipped;

@@ -4,7 +4,7 @@ ghost use Rattle.iox_hub_commands.specs.Agreements.{AreOfOneAgreement};
 ghost use Rattle.iox_hub_commands.specs.Grown.{GrowsOn, HaveGrown, AreAsAgreed, OneDomainMoves};
 ghost use Rattle.iox_hub_commands.specs.Lives.{ChangesOneThing};
 ghost use Rattle.iox_hub_commands.specs.Numbers.{numbers_used};
-ghost use Rattle.iox_hub_commands.specs.PortRoom.{FindsPort, HasRoom, KeepsRoom, LacksInRoom, OfOthers, OfPorts};
+ghost use Rattle.iox_hub_commands.specs.PortRoom.{FindsPort, GrowsAs, HasRoom, KeepsRoom, LacksInRoom, OfOthers, OfPorts};
 ghost use Rattle.iox_hub_commands.specs.CommandSteps.{Step, StepsUnlessOfPort};
 ghost use Rattle.iox_hub_commands.specs.Terms.{terms_of};
 
@@ -31,7 +31,8 @@ impl<
     ///
     /// A publisher is created after capacity was made for the numbers of all loans that it may make, and of its samples that may be held. A
     /// subscriber is created after capacity was made for the numbers of all samples that it may hold. So memory never runs out for the
-    /// number of a loan or a sample. If an allocation fails for that capacity, the port is refused.
+    /// number of a loan or a sample. If an allocation fails for that capacity, the port is refused. The capacity grows at most to twice as
+    /// many as are in use and as the existing ports and the new one may need, plus one for each factory, and one more.
     ///
     /// Fails only if an allocation fails for the values of the reply. Then nothing has changed, except that a received sample is held. A
     /// command that is skipped allocates nothing.
@@ -49,6 +50,7 @@ impl<
             → AreOfOneAgreement self.new.factories.made self.new.hub }
         ensures apart { OneDomainMoves self.old.hub self.new.hub }
         ensures room { KeepsRoom self.old self.new }
+        ensures capacity { GrowsAs command.entry self.old self.new }
         ensures finds { OnErr result (FindsPort command.entry self.old) }
         ensures lacks { HasRoom self.old → OnErr result (LacksInRoom command.entry self.old self.new) }
     {
@@ -59,6 +61,7 @@ impl<
     fn carry_out(&mut self, alloc: Global, command: Command<T>) -> Result<Reply<T>, AllocError>
         requires { numbers_used self.old + 1 < 2 ^ 64 }
         ensures comes { OfPorts (KeepsRoom self.old self.new) command.entry }
+        ensures capacity { GrowsAs command.entry self.old self.new }
         ensures pledged { OfOthers (self.new.pledged ≡ self.old.pledged) command.entry }
         ensures finds { OnErr result (FindsPort command.entry self.old) }
         ensures steps { Step (terms_of T.name T.size T.alignment T.is_default U.name U.size U.alignment U.is_default B.fixed
@@ -80,6 +83,7 @@ impl<
     ) -> Result<Reply<T>, PortCommand<'a, T>>
         requires { numbers_used self.old + 1 < 2 ^ 64 }
         ensures comes { OnOk result (OfPorts (KeepsRoom self.old self.new) command.entry) }
+        ensures capacity { OnOk result (GrowsAs command.entry self.old self.new) }
         ensures pledged { OnOk result (OfOthers (self.new.pledged ≡ self.old.pledged) command.entry) }
         ensures steps { StepsUnlessOfPort (Step (terms_of T.name T.size T.alignment T.is_default U.name U.size U.alignment U.is_default
             B.fixed (λ handlers. B.degrades handlers) (λ handlers. B.decides handlers) D.fixed (λ handler. D.degrades handler)))

@@ -1,16 +1,16 @@
-//! Loans and receives that first make capacity for one more number.
+//! Loans that first make capacity for one more number.
 ghost use Rattle.iox_domain.specs.Homes as homes;
 ghost use Rattle.std.specs.Prelude.{◌≡◌, ◌<◌, ◌+◌, ◌^◌, length, OnOk, OnErr, None, Ok};
 ghost use Rattle.iox_container.specs.NumberTable.{value_at};
 ghost use Rattle.iox_hub_commands.specs.Calls.{ready};
 ghost use Rattle.iox_hub_commands.specs.Growing.{GrowsFirst};
-ghost use Rattle.iox_hub_commands.specs.Numbering.{LendsNumbered, LendsWrittenNumbered, ReceivesNumbered};
+ghost use Rattle.iox_hub_commands.specs.Numbering.{LendsNumbered, LendsWrittenNumbered};
 ghost use Rattle.iox_hub_commands.specs.Tables.{SameNumbers, IsFull, lender};
 
 use crate::ports::made::Made;
 use iox_container::by_number::Numbered;
 use iox_domain::Home;
-use iox_domain_values::{LoanError, ReceiveError};
+use iox_domain_values::LoanError;
 use std::alloc::{AllocError, Global};
 
 impl Made {
@@ -33,11 +33,11 @@ impl Made {
             (lender elements (value_at self.old.publishers publisher))) self.old home.old result self.new home.new }
         ensures skips { lender elements (value_at self.old.publishers publisher) ≡ None → result ≡ Ok None }
     {
-        if self.lender(publisher, elements).is_none() {
+        let Some(port) = self.lender(publisher, elements) else {
             return Ok(None);
-        }
+        };
         room_for_one(&mut self.loans)?;
-        Ok(self.loan_uninit(alloc, home, publisher, elements))
+        Ok(self.loan_uninit_at(alloc, home, port, elements))
     }
 
     /// Like `loan`, but first makes capacity for one more loan, if there is none. Fails only if an allocation fails for that; then nothing
@@ -61,36 +61,11 @@ impl Made {
         ensures skips { ready (homes.ports_of H.domain_of) (lender elements (value_at self.old.publishers publisher)) home.old ≡ None
             → result ≡ Ok None }
     {
-        if self.ready_lender(home, publisher, elements).is_none() {
+        let Some(port) = self.ready_lender(home, publisher, elements) else {
             return Ok(None);
-        }
+        };
         room_for_one(&mut self.loans)?;
-        Ok(self.loan(alloc, home, publisher, elements, value))
-    }
-
-    /// Like `receive`, but first makes capacity for one more sample, if there is none. Fails only if an allocation fails for that; then
-    /// nothing has changed, and what waited still waits. Whatever memory there is, the answer is None if the number has no subscriber.
-    ///
-    /// Example: `let received = made.receive_growing(alloc, &mut home, subscriber)?;`
-    #[tactic(auto, using(crate::proofs::Skipping::skips_receive))]
-    pub fn receive_growing<T: Copy, U: Copy, H: Home<T, U>>(
-        &mut self,
-        alloc: Global,
-        home: &mut H,
-        subscriber: u64,
-    ) -> Result<Option<Result<Option<u64>, ReceiveError>>, AllocError>
-        requires number { self.old.samples.next + 1 < 2 ^ 64 }
-        ensures grows { GrowsFirst (IsFull self.old.samples)
-            (ReceivesNumbered (homes.ports_of H.domain_of) (homes.with_ports H.changed)
-            (homes.subscriber_degrades (λ kept. H.ForSubscribers.degrades kept) H.domain_of) (value_at self.old.subscribers subscriber))
-            self.old home.old result self.new home.new }
-        ensures skips { value_at self.old.subscribers subscriber ≡ None → result ≡ Ok None }
-    {
-        if self.subscriber(subscriber).is_none() {
-            return Ok(None);
-        }
-        room_for_one(&mut self.samples)?;
-        Ok(self.receive(alloc, home, subscriber))
+        Ok(Some(self.loan_at(alloc, home, port, elements, value)))
     }
 }
 

@@ -1,7 +1,8 @@
 //! How loans are written, dropped and sent.
 ghost use Rattle.iox_domain.specs.Homes as homes;
-ghost use Rattle.std.specs.Prelude.{◌≡◌, is_some, if◌then◌else◌};
+ghost use Rattle.std.specs.Prelude.{◌≡◌, is_some, if◌then◌else◌, Some};
 ghost use Rattle.iox_delivery.specs.Domain.Lending.{gave_up_in};
+ghost use Rattle.iox_delivery.specs.Holding.{loan_found};
 ghost use Rattle.iox_container.specs.NumberTable.{value_at};
 ghost use Rattle.iox_hub_commands.specs.Loans.{loan_under, changed_under, is_set, set_in, is_filled, filled_in, SendsUnder};
 ghost use Rattle.iox_hub_commands.specs.Numbering.{removed_if};
@@ -9,7 +10,7 @@ ghost use Rattle.iox_hub_commands.specs.Tables.{without_loan};
 
 use crate::ports::made::Made;
 use iox_delivery::lending;
-use iox_domain::{Home, calls};
+use iox_domain::{Home, ServicePorts, calls};
 use iox_domain_ports::Sent;
 use iox_domain_values::SendError;
 use std::alloc::Global;
@@ -31,18 +32,10 @@ impl Made {
         let Some(made) = self.loans.get(loan).copied() else {
             return false;
         };
-        let Some(ports) = calls::ports(home, made.port.domain) else {
-            return false;
-        };
-        if !ports.is_written(made.port.number, made.slot)
-            || ports.value(made.port.number, made.slot, place).is_none()
-        {
-            return false;
+        match calls::ports_mut(home, made.port.domain) {
+            Some(ports) => set_in(ports, made.port.number, made.slot, place, value),
+            None => false,
         }
-        if let Some(ports) = calls::ports_mut(home, made.port.domain) {
-            let _ = ports.write(made.port.number, made.slot, place, value);
-        }
-        true
     }
 
     /// Writes all values of a loan. Answers false, and nothing happens, if the number has no loan, if the loan has another number of
@@ -105,4 +98,22 @@ impl Made {
         self.loans.remove(loan);
         Some(sent)
     }
+}
+
+// Writes one value of the written loan in a slot, if the loan has this place.
+fn set_in<T: Copy, U: Copy>(
+    ports: &mut ServicePorts<T, U>,
+    number: u64,
+    slot: usize,
+    place: usize,
+    value: T,
+) -> bool
+    ensures answer { result ≡ is_set place (loan_found number slot (Some ports.old)) }
+    ensures ports { ports.new ≡ (if result then set_in place value number slot ports.old else ports.old) }
+{
+    if !ports.is_written(number, slot) || ports.value(number, slot, place).is_none() {
+        return false;
+    }
+    let _ = ports.write(number, slot, place, value);
+    true
 }

@@ -3,12 +3,12 @@ ghost use Rattle.iox_domain.specs.Homes as homes;
 ghost use Rattle.std.specs.Prelude.{◌≡◌, true, false, IfSome};
 ghost use Rattle.iox_delivery.specs.Holding.{publisher_stands, publisher_blocked};
 ghost use Rattle.iox_container.specs.NumberTable.{value_at};
-ghost use Rattle.iox_hub_commands.specs.Calls.{ready};
+ghost use Rattle.iox_hub_commands.specs.Calls.{may_lend, ready};
 ghost use Rattle.iox_hub_commands.specs.Tables.{IsEmpty, port_under, lender};
 
 use iox_container::by_number::Numbered;
-use iox_delivery::{PortId, publishing};
-use iox_domain::Home;
+use iox_delivery::PortId;
+use iox_domain::{Home, calls};
 use iox_domain_ports::Taken;
 use std::alloc::Global;
 
@@ -114,10 +114,25 @@ impl Made {
         ensures free { IfSome result (λ port. publisher_blocked port.number (homes.ports_of H.domain_of port.domain home.now) ≡ false) }
     {
         let port = self.lender(publisher, elements)?;
-        if publishing::holds(port, home) && !publishing::is_blocked(port, home) {
+        if may_lend(port, home) {
             Some(port)
         } else {
             None
         }
+    }
+}
+
+// Whether a publisher may loan: its domain is in the home, it is open, and no send of it is blocked.
+fn may_lend<T: Copy, U: Copy, H: Home<T, U>>(port: PortId, home: &H) -> bool
+    ensures both { result ≡ may_lend (homes.ports_of H.domain_of) port home.now }
+    ensures stands { result ≡ true → publisher_stands port.number (homes.ports_of H.domain_of port.domain home.now) ≡ true }
+    ensures free { result ≡ true → publisher_blocked port.number (homes.ports_of H.domain_of port.domain home.now) ≡ false }
+{
+    let Some(ports) = calls::ports(home, port.domain) else {
+        return false;
+    };
+    match ports.publishers.get(port.number) {
+        Some(publisher) => publisher.stands && !publisher.sender.is_sending(),
+        None => false,
     }
 }

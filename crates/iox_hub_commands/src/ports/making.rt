@@ -5,6 +5,7 @@ ghost use Rattle.iox_delivery.specs.Domain.AtHomes.{MakesAt};
 ghost use Rattle.iox_delivery.specs.Domain.Steps.{PublisherComes, SubscriberComes, why_no_publisher, why_no_subscriber};
 ghost use Rattle.iox_delivery.specs.DomainValues.declared.degradation.DegradationCause.TheVariants.{FailedToEstablishConnection};
 ghost use Rattle.iox_hub_commands.specs.Making.{MakesNumbered, MakesRoomFirst, with_publisher, with_subscriber};
+ghost use Rattle.iox_hub_commands.specs.Tables.{SameMessages};
 
 use crate::ports::growing::room_for_one;
 use crate::ports::made::{Made, MadePublisher};
@@ -115,12 +116,13 @@ impl Made {
         parts: PublisherParts<'_, U, H::ForPublishers, O>,
     ) -> Option<Result<u64, PublisherCreateError>>
         requires number { self.old.publishers.next + 1 < 2 ^ 64 }
-        ensures { MakesRoomFirst (MakesAt (λ after. homes.with_ports H.changed domain after home.old)
+        ensures makes { MakesRoomFirst (MakesAt (λ after. homes.with_ports H.changed domain after home.old)
             (λ number. homes.with_publisher H.changed domain number parts.entry.handlers)
             (PublisherComes (O.overrides parts.entry.overriding.now)
             (H.ForPublishers.degrades parts.entry.handlers FailedToEstablishConnection) parts.entry.config parts.entry.user_header)
             (why_no_publisher parts.entry.config) (homes.ports_of H.domain_of domain home.old))
             (with_publisher domain parts.entry.holds_slices) self.old.publishers.next self.old home.old result self.new home.new }
+        ensures messages { SameMessages self.old self.new }
     {
         if room_for_one(&mut self.publishers).is_err() {
             return why_no_publisher(home, domain, &parts.config);
@@ -143,11 +145,12 @@ impl Made {
         handler: H::ForSubscribers,
     ) -> Option<Result<u64, SubscriberCreateError>>
         requires number { self.old.subscribers.next + 1 < 2 ^ 64 }
-        ensures { MakesRoomFirst (MakesAt (λ after. homes.with_ports H.changed domain after home.old)
+        ensures makes { MakesRoomFirst (MakesAt (λ after. homes.with_ports H.changed domain after home.old)
             (λ number. homes.with_subscriber H.changed domain number handler)
             (SubscriberComes (H.ForSubscribers.degrades handler FailedToEstablishConnection) config) (why_no_subscriber config)
             (homes.ports_of H.domain_of domain home.old)) (with_subscriber domain) self.old.subscribers.next self.old home.old result
             self.new home.new }
+        ensures messages { SameMessages self.old self.new }
     {
         if room_for_one(&mut self.subscribers).is_err() {
             return why_no_subscriber(home, domain, &config);

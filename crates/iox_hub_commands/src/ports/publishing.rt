@@ -1,12 +1,14 @@
 //! How publishers loan, put, retry, and are closed.
 ghost use Rattle.iox_domain.specs.Homes as homes;
-ghost use Rattle.std.specs.Prelude.{◌≡◌, ◌<◌, ◌+◌, ◌^◌, length};
+ghost use Rattle.std.specs.Prelude.{◌≡◌, ◌<◌, ◌+◌, ◌^◌, length, true, false, Some};
+ghost use Rattle.iox_delivery.specs.Holding.{publisher_stands, publisher_blocked};
 ghost use Rattle.iox_container.specs.NumberTable.{value_at};
 ghost use Rattle.iox_hub_commands.specs.Calls.{AtPort, AtPortIf, ready, Lends, Puts, Follows, Retries, GivesUp, PublisherGoes};
 ghost use Rattle.iox_hub_commands.specs.Numbering.{LendsNumbered, LendsWrittenNumbered, removed_if};
 ghost use Rattle.iox_hub_commands.specs.Tables.{port_under, lender, without_publisher};
 
 use crate::ports::made::{Made, MadeLoan};
+use iox_delivery::PortId;
 use iox_delivery::slices::filling;
 use iox_domain::{Home, calls};
 use iox_domain_ports::Sent;
@@ -32,6 +34,22 @@ impl Made {
             (lender elements (value_at self.old.publishers publisher)) self.old home.old result self.new home.new }
     {
         let port = self.lender(publisher, elements)?;
+        self.loan_uninit_at(alloc, home, port, elements)
+    }
+
+    // Loans a slot of the publisher with this id for this many elements, none of which is written.
+    pub(crate) fn loan_uninit_at<T: Copy, U: Copy, H: Home<T, U>>(
+        &mut self,
+        alloc: Global,
+        home: &mut H,
+        port: PortId,
+        elements: u64,
+    ) -> Option<Result<u64, LoanError>>
+        requires room { length self.old.loans.entries < self.old.loans.room }
+        requires number { self.old.loans.next + 1 < 2 ^ 64 }
+        ensures { LendsNumbered (homes.ports_of H.domain_of) (homes.with_ports H.changed) elements (Some port) self.old home.old result
+            self.new home.new }
+    {
         let lent = calls::loan(
             home,
             alloc,
@@ -66,9 +84,28 @@ impl Made {
             result self.new home.new }
     {
         let port = self.ready_lender(home, publisher, elements)?;
+        Some(self.loan_at(alloc, home, port, elements, value))
+    }
+
+    // Loans a slot of the publisher with this id, which may loan, for this many elements, each written with this value.
+    pub(crate) fn loan_at<T: Copy, U: Copy, H: Home<T, U>>(
+        &mut self,
+        alloc: Global,
+        home: &mut H,
+        port: PortId,
+        elements: u64,
+        value: T,
+    ) -> Result<u64, LoanError>
+        requires room { length self.old.loans.entries < self.old.loans.room }
+        requires number { self.old.loans.next + 1 < 2 ^ 64 }
+        requires stands { publisher_stands port.number (homes.ports_of H.domain_of port.domain home.old) ≡ true }
+        requires free { publisher_blocked port.number (homes.ports_of H.domain_of port.domain home.old) ≡ false }
+        ensures { LendsWrittenNumbered (homes.ports_of H.domain_of) (homes.with_ports H.changed) elements value (Some port) self.old
+            home.old (Some result) self.new home.new }
+    {
         match filling::loan_filled(port, alloc, home, elements as usize, value) {
-            Ok(slot) => Some(Ok(self.loans.insert_next(MadeLoan { port, slot }))),
-            Err(error) => Some(Err(error)),
+            Ok(slot) => Ok(self.loans.insert_next(MadeLoan { port, slot })),
+            Err(error) => Err(error),
         }
     }
 

@@ -52,10 +52,9 @@ impl Made {
         let Some(held) = self.samples.get(sample).copied() else {
             return false;
         };
-        if !subscribing::holds_message(held.port, held.taken, home) {
+        if !subscribing::drop_sample(held.port, held.taken, home) {
             return false;
         }
-        subscribing::release(held.port, held.taken, home);
         self.samples.remove(sample);
         true
     }

@@ -243,7 +243,7 @@ fn builder_in<P: CommandPattern, T: ZeroCopySend, U: ZeroCopySend>(
     options: &P::Options,
 ) -> ServiceBuilder<P>
     ensures { result ≡ record {
-      hub = hub;
+      hub = Some hub;
       node = asked.now.node;
       name = asked.now.name;
       requirement = P.asks options.now (types_of T.name T.size T.alignment U.name U.size U.alignment);

@@ -4,7 +4,7 @@ use Rattle.iox_hub_commands.specs.Grown.{GrowsOn}
 use Rattle.iox_hub_commands.specs.Numbers.{numbers_used}
 use Rattle.iox_hub_commands.specs.PortRoom.{KeepsRoom}
 use Rattle.iox_hub_commands.specs.Runs.{Runs}
-use Rattle.iox_hub_commands.specs.CommandSteps.{Step}
+use Rattle.iox_hub_commands.specs.CommandSteps.{Step, StepInRoom}
 use Rattle.iox_hub_commands.specs.Terms.{terms_of}
 use Rattle.iox_hub_commands.proofs.numbered_hub.NumberedHub.carry_out_all.Given as goal
 
@@ -14,6 +14,11 @@ invariant-loop-command g l = record {
   all : l.yielded ++ into_iter_items l.command-iterator ≡ into_iter_items l.initial.command-iterator;
   left : into_iter_len l.command-iterator ≡ length (into_iter_items l.command-iterator);
   ran : Runs (Step (terms_of g.T.ZeroCopySend.name g.T.ZeroCopySend.size g.T.ZeroCopySend.alignment
+      (λ value. g.T.Default.is_default value) g.U.ZeroCopySend.name g.U.ZeroCopySend.size g.U.ZeroCopySend.alignment
+      (λ value. g.U.Default.is_default value) g.B.PublisherHandlers.fixed (λ handlers. g.B.Degrades.degrades handlers)
+      (λ handlers. g.B.Decides.decides handlers) g.D.SubscriberHandler.fixed (λ handler. g.D.Degrades.degrades handler))) l.yielded
+      l.initial.self l.replies.items l.self;
+  each : Runs (StepInRoom (terms_of g.T.ZeroCopySend.name g.T.ZeroCopySend.size g.T.ZeroCopySend.alignment
       (λ value. g.T.Default.is_default value) g.U.ZeroCopySend.name g.U.ZeroCopySend.size g.U.ZeroCopySend.alignment
       (λ value. g.U.Default.is_default value) g.B.PublisherHandlers.fixed (λ handlers. g.B.Degrades.degrades handlers)
       (λ handlers. g.B.Decides.decides handlers) g.D.SubscriberHandler.fixed (λ handler. g.D.Degrades.degrades handler))) l.yielded

@@ -4,6 +4,7 @@ use Rattle.iox_hub_commands.specs.PortRoom.{most_samples_from}
 use Rattle.iox_hub_commands.proofs.PortRooms.{keeps_on, roomier_grows_on, roomier_samples, loans_pledged, samples_pledged, pledges_still}
 use Rattle.iox_hub_commands.proofs.PortRooms.{pledges_brought, where_it_works}
 use Rattle.iox_hub_commands.proofs.Rooms.{roomier_and_roomier}
+use Rattle.iox_hub_commands.proofs.GrowingFor.{grows_loans, grows_both, least}
 use Rattle.iox_hub_commands.proofs.numbered_hub.NumberedHub.pledge_for_publisher.Goals as goal
 
 pub returns-in_err-pledge_loans-clause-keeps : goal.returns-in_err-pledge_loans-clause-keeps
@@ -44,3 +45,18 @@ returns-clause-samples g c = λ room.
     (ap (λ hub. samples_left_in hub.hub.services.domains) is)
     (c.most_samples_of.ensures ∙ ap (λ hub. min (most_samples_from c.args.domain hub) (2 ^ 64 - 1)) is)
     (c.pledge_samples.ensures.room kept) c.pledge_samples.ensures.small
+
+pub returns-in_err-pledge_loans-clause-grows : goal.returns-in_err-pledge_loans-clause-grows
+returns-in_err-pledge_loans-clause-grows g c =
+    grows_loans c.args.loans (most_samples_from c.args.domain c.args.self.now) c.args.self.now c.pledge_loans.new.self
+    c.pledge_loans.ensures.grows c.pledge_loans.ensures.samples_stay
+
+pub returns-clause-grows : goal.returns-clause-grows
+returns-clause-grows g c =
+    let mid = c.pledge_loans.new.self in
+    grows_both c.args.loans (most_samples_from c.args.domain c.args.self.now) c.most_samples_of.result c.args.self.now mid
+    c.pledge_samples.new.self c.pledge_loans.ensures.same c.pledge_loans.ensures.grows c.pledge_loans.ensures.samples_stay
+    (least (most_samples_from c.args.domain c.args.self.now) (2 ^ 64 - 1) c.most_samples_of.result
+    (c.most_samples_of.ensures
+    ∙ ap (λ hub. min (most_samples_from c.args.domain hub) (2 ^ 64 - 1)) c.pledge_loans.ensures.same.1))
+    c.pledge_samples.ensures.grows c.pledge_samples.ensures.loans_stay
