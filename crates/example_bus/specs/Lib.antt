@@ -1,1 +1,3 @@
+pub mod Steps
 pub mod Heard
+pub mod Joined

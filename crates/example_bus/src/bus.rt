@@ -1,14 +1,23 @@
 //! What a node of the bus does: it advertises or listens in a service, publishes and hears.
 ghost use Rattle.iox_hub.specs.Domain.Homes as homes;
-ghost use Rattle.std.specs.Prelude.{◌≡◌, ℕ, Option, true, Some, Ok, IfOk, option_map};
+ghost use Rattle.std.specs.Prelude.{◌≡◌, ℕ, Option, true, Some, Ok, IfOk, codes, option_map};
 ghost use Rattle.iox_hub.specs.Delivery.Holding.{holds_message, message_found};
 ghost use Rattle.iox_hub.specs.Delivery.Subscribing.{ReceivesSample};
 ghost use Rattle.iox_hub.specs.Delivery.declared.kind.Slice.{Slice as OfSlices};
 ghost use Rattle.iox_hub.specs.Delivery.declared.sample.Sample.{Sample as Received};
-ghost use Rattle.example_bus.specs.Heard.{as_heard, as_sent, as_received, LetsGo};
+ghost use Rattle.iox_hub_commands.specs.Command.declared.command.Command.TheVariants as command;
+ghost use Rattle.iox_hub_commands.specs.Command.declared.port.PortNumber.TheVariants as port_number;
+ghost use Rattle.iox_hub_commands.specs.Command.declared.reply.Reply.TheVariants as reply;
+ghost use Rattle.iox_hub_commands.specs.Container.NumberTable.{value_at};
+ghost use Rattle.iox_hub_commands.specs.Tables.{port_under};
+ghost use Rattle.iox_hub_commands.specs.declared.numbered_hub.NumberedHub.{NumberedHub};
+ghost use Rattle.example_bus.specs.Heard.{as_heard, as_sent, HearsBySteps, IsHeard, LetsGo};
+ghost use Rattle.example_bus.specs.Steps.{IsBusStep, bus_terms};
 
 use anyhow::{Context, Result, bail, ensure};
+use iox_delivery::kind;
 use iox_hub::prelude::*;
+use iox_hub_machine::typed::{typed_publisher_calls_are_steps, typed_subscriber_calls_are_steps};
 use std::alloc::AllocError;
 
 /// All nodes and services of the robot. Messages are slices of numbers, and each has a time stamp as its user header. Ports have no
@@ -61,7 +70,7 @@ fn make_publisher<T: Copy + ZeroCopySend>(
 ) -> Result<PortId> {
     ensure!(bus.holds(service), "a service of another bus");
     let builder = bus
-        .publisher_builder(service)
+        .slice_publisher_builder(service)
         .context("other messages")?
         .initial_max_slice_len(values)
         .max_loaned_samples(1)
@@ -88,16 +97,32 @@ fn make_subscriber<T: Copy + ZeroCopySend>(
 ) -> Result<PortId> {
     ensure!(bus.holds(service), "a service of another bus");
     let builder = bus
-        .subscriber_builder(service)
+        .slice_subscriber_builder(service)
         .context("other messages")?
         .set_handler(Nobody);
     ensure!(builder.holds(bus), "no service");
     Ok(builder.create_slice(alloc, bus)?.into_port())
 }
 
-/// Updates the connections of a publisher: new subscribers get its last messages.
-pub fn follow<T: Copy>(alloc: Global, bus: &mut Bus<T>, port: PortId) -> Result<()> {
-    let publisher = slice::Publisher::of_port(port, BackpressureStrategy::DiscardData, 0);
+/// Updates the connections of a publisher: new subscribers get its last messages. In the machine's terms this is the command `Update`,
+/// by any number that the publisher has.
+pub fn follow<T: Copy + ZeroCopySend + Default>(
+    alloc: Global,
+    bus: &mut Bus<T>,
+    port: PortId,
+) -> Result<()>
+    ensures { IfOk result (λ done. (held : NumberedHub T ℕ Nobody Nobody) (number : ℕ)
+        → port_under (value_at held.made.publishers number) ≡ Some port
+        → IsBusStep (bus_terms T.name T.size T.alignment T.is_default) (command.Update (port_number.Publisher number))
+        (record held { hub = bus.old }) reply.Done (record held { hub = bus.new })) }
+{
+    typed_publisher_calls_are_steps::<T, u64, kind::Slice, Nobody, Nobody>();
+    let publisher = slice::Publisher::of_port(
+        port,
+        BackpressureStrategy::DiscardData,
+        0,
+        TypeVariant::Dynamic,
+    );
     if !publisher.holds(bus) || publisher.is_blocked(bus) {
         bail!("no publisher");
     }
@@ -116,6 +141,7 @@ fn write<T: Copy, H: Home<T, u64>>(
         port,
         BackpressureStrategy::DiscardData,
         values.len(),
+        TypeVariant::Dynamic,
     );
     if !publisher.holds(home) || publisher.is_blocked(home) {
         bail!("no publisher");
@@ -176,13 +202,23 @@ fn read<H: Home<u64, u64>>(
     })
 }
 
+/// Receives the next message of a bus, if one waits, and releases it. In the machine's terms these are the commands `Receive` and
+/// `Release`, by any number that the subscriber has.
+pub fn hear_on(alloc: Global, bus: &mut Bus, port: PortId) -> Result<Option<Heard>>
+    ensures { IfOk result (λ heard. (held : NumberedHub ℕ ℕ Nobody Nobody) (number : ℕ) → value_at held.made.subscribers number ≡ Some port
+        → HearsBySteps (bus_terms (codes "u64") 8 8 (λ value. value ≡ 0)) number (record held { hub = bus.old }) heard bus.new) }
+{
+    typed_subscriber_calls_are_steps::<u64, u64, kind::Slice, Nobody, Nobody>();
+    hear(alloc, bus, port)
+}
+
 /// Receives the next message, if one waits, and releases it. What is heard is the time stamp and the values of the message that was
 /// received.
 pub fn hear<H: Home<u64, u64>>(alloc: Global, home: &mut H, port: PortId) -> Result<Option<Heard>>
     ensures { IfOk result (λ heard. (sample : Option (Received ℕ ℕ OfSlices)) × (received : H)
         × ReceivesSample (homes.ports_of H.domain_of) (homes.with_ports H.changed)
         (homes.subscriber_degrades (λ kept. H.ForSubscribers.degrades kept) H.domain_of) port home.old (Ok sample) received
-        × (option_map as_heard heard ≡ as_received sample (homes.ports_of H.domain_of port.domain received))
+        × IsHeard heard sample (homes.ports_of H.domain_of port.domain received)
         × LetsGo (homes.ports_of H.domain_of) (homes.with_ports H.changed) sample received home.new) }
 {
     let subscriber = slice::Subscriber::of_port(port, 4);

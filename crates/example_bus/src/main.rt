@@ -2,10 +2,11 @@
 #![tactic(auto)]
 
 mod bus;
+mod joined;
 mod pose;
 
 use anyhow::Result;
-use bus::{Bus, advertise, follow, hear, listen, publish};
+use bus::{Bus, advertise, follow, hear_on, listen, publish};
 use iox_hub::prelude::*;
 use pose::{Pose, hear_pose};
 use std::fmt::Write;
@@ -13,7 +14,7 @@ use std::fmt::Write;
 /// Writes down all that waits at a port.
 fn note(out: &mut String, alloc: Global, bus: &mut Bus, who: &str, port: PortId) -> Result<()> {
     for _ in 0..8 {
-        let Some(heard) = hear(alloc, bus, port)? else {
+        let Some(heard) = hear_on(alloc, bus, port)? else {
             return Ok(());
         };
         writeln!(out, "{who}, at {}: {:?}", heard.stamp, heard.values)?;

@@ -123,7 +123,7 @@ module _ {T U B D P : Type 0} (terms : Terms T U B D)
       let plainly = map (λ (command : HandledCommand T). without_places command) commands in
       let (hub, it) = run_goes terms handled decides_so answers_so handed (on handed) (names_in plainly) own commands 0 old new new_state
       replies stopped
-      (all_among plainly) (omega (arith, few)) (record { publishers = λ number above. refl; subscribers = λ number above. refl })
+      (all_among plainly) (omega (arith, few)) (record { publishers = λ number above has. refl; subscribers = λ number above has. refl })
       (begins handed (names_in plainly) config old.0 is_new) runs in (
         (
           asked_in (turns commands replies old.1),
@@ -147,7 +147,7 @@ module _ {T U B D P : Type 0} (terms : Terms T U B D)
       let plainly = map (λ (command : HandledCommand T). without_places command) commands in
       let it = whole_goes terms handled
       decides_so answers_so handed (on handed) (names_in plainly) own commands 0 old new new_state replies (all_among plainly)
-      (omega (arith, few)) (record { publishers = λ number above. refl; subscribers = λ number above. refl })
+      (omega (arith, few)) (record { publishers = λ number above has. refl; subscribers = λ number above has. refl })
       (begins handed (names_in plainly) config old.0 is_new) runs in (
         it.stands.taken,
         it.stands.naming,

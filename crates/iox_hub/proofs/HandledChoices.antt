@@ -1,6 +1,6 @@
 -- Whatever may be decided for a port that comes may be chosen, by who was handed in.
 use Rattle.std.proofs.Common.{◌≡◌, ◌∙◌, ℕ, ◌+◌, ◌-◌, ◌^◌, ◌<◌, ◌≤◌, min, Bool, false, List, ◌∷◌, Option, None, Some}
-use Rattle.std.proofs.Common.{refl, sym, ap, subst, arith}
+use Rattle.std.proofs.Common.{refl, sym, ap, subst, arith, inl, inr}
 use Rattle.std.proofs.lemmas.Bool.{eq-eqb, eqb-true, false_from_ne_true}
 use Rattle.std.specs.Option.{option_and_then, unwrap_or}
 use Rattle.std.specs.Prelude.{MatchOption, ◌==◌, if◌then◌else◌}
@@ -33,6 +33,7 @@ use Rattle.iox_hub.specs.declared.given.GivenHandler.{GivenHandler}
 use Rattle.iox_hub.specs.declared.handled_command.HandledCommand.{HandledCommand}
 use Rattle.iox_hub.specs.declared.handled_command.HandledCommand.TheVariants as asked
 use Rattle.iox_machine.proofs.Kept.{IsNext}
+use Rattle.iox_machine.specs.AgreementLaws.{HasOne}
 use Rattle.iox_machine.specs.Choices.{Choices, Handed, chosen_by}
 use Rattle.iox_machine.specs.State.{Made, counted}
 
@@ -113,22 +114,27 @@ module _ {T B D P : Type 0}
 module _ {T B D P : Type 0}
     (handled : BackpressureStrategy → Option BackpressureAction → DegradationAction → Option P → Option D → B)
     (handed : Handed B D) where
-  -- For each port that comes after these it is known who was handed in: who was in these turns.
+  -- For each port that comes after these by one of these turns it is known who was handed in: who was in these turns.
   pub record AreKnown (all : List (Turn T P D)) (made : Made) : Type 0 where
-    pub publishers : (number : ℕ) → made.publishers < number → handed.publishers number ≡ (handed_in handled all).publishers number
-    pub subscribers : (number : ℕ) → made.subscribers < number → handed.subscribers number ≡ (handed_in handled all).subscribers number
+    pub publishers : (number : ℕ) → made.publishers < number → HasOne (λ (turn : Turn T P D). turn.answer ≡ reply.PublisherMade number) all
+        → handed.publishers number ≡ (handed_in handled all).publishers number
+    pub subscribers : (number : ℕ) → made.subscribers < number
+        → HasOne (λ (turn : Turn T P D). turn.answer ≡ reply.SubscriberMade number) all
+        → handed.subscribers number ≡ (handed_in handled all).subscribers number
 
   -- so it is after one turn
   pub known_later : (one : HandledCommand T) (given : List (Option (GivenHandler P D))) (later : List (Turn T P D)) (answer : Reply T)
       (made : Made) → IsNext made answer → AreKnown (record { command = one; answer = answer; given = given } ∷ later) made
       → AreKnown later (counted answer made)
   known_later one given later answer made next known = record {
-    publishers = λ number above.
+    publishers = λ number above has.
         let more = publishers_up made answer in
-        known.publishers number (omega (arith, more, above)) ∙ publisher_later handled one given later answer made number next above;
-    subscribers = λ number above.
+        known.publishers number (omega (arith, more, above))
+        (inr has) ∙ publisher_later handled one given later answer made number next above;
+    subscribers = λ number above has.
         let more = subscribers_up made answer in
-        known.subscribers number (omega (arith, more, above)) ∙ subscriber_later handled one given later answer made number next above;
+        known.subscribers number (omega (arith, more, above))
+        (inr has) ∙ subscriber_later handled one given later answer made number next above;
   }
 
 module _ {T B D : Type 0} (is_default : T → Type 0)
@@ -204,7 +210,7 @@ module _ {T U B D P : Type 0} (types : MessageTypeDetails) (is_default : T → T
     publisher_known is =
         let next = hub.made.publishers.next in
         let so = many.publishers in
-        known.publishers next (omega (arith, so))
+        known.publishers next (omega (arith, so)) (inl is)
         ∙ (ap (λ (it : Reply T). (handed_before handled one given later it).publishers next) is
         ∙ publisher_here handled one given later next)
 
@@ -213,7 +219,7 @@ module _ {T U B D P : Type 0} (types : MessageTypeDetails) (is_default : T → T
     subscriber_known is =
         let next = hub.made.subscribers.next in
         let so = many.subscribers in
-        known.subscribers next (omega (arith, so))
+        known.subscribers next (omega (arith, so)) (inl is)
         ∙ (ap (λ (it : Reply T). (handed_before handled one given later it).subscribers next) is
         ∙ subscriber_here handled one given later next)
 

@@ -1,6 +1,6 @@
 -- A run with handlers is a run of the machine, where those were handed in who were.
-use Rattle.std.proofs.Common.{◌≡◌, ◌∙◌, ℕ, ◌+◌, ◌^◌, ◌<◌, ◌≤◌, ◌++◌, Bool, true, false, cond, List, [], ◌∷◌, map}
-use Rattle.std.proofs.Common.{Option, None, Some, Result, Ok, refl, sym, ap, subst, inl, inr, arith}
+use Rattle.std.proofs.Common.{◌≡◌, ◌∙◌, ℕ, ◌+◌, ◌^◌, ◌<◌, ◌≤◌, ◌++◌, Bool, true, false, cond, List, [], ◌∷◌, length, map}
+use Rattle.std.proofs.Common.{◌⊎◌, Option, None, Some, Result, Ok, Err, refl, sym, ap, subst, inl, inr, arith}
 use Rattle.std.proofs.Math.Logic.{⊎_elim}
 use Rattle.std.proofs.lemmas.List.{append-nil}
 use Rattle.std.specs.List.{AllByRecursion}
@@ -8,6 +8,7 @@ use Rattle.std.specs.Prelude.{is_some, filter}
 use Rattle.std.specs.declared.alloc.AllocError.{AllocError}
 use Rattle.iox_hub_commands.proofs.OneAgreement.{agreement_is_one}
 use Rattle.iox_hub_commands.specs.Command.declared.command.Command.{Command}
+use Rattle.iox_hub_commands.specs.Command.declared.command.Command.TheVariants as command
 use Rattle.iox_hub_commands.specs.Command.declared.reply.Reply.{Reply}
 use Rattle.iox_hub_commands.specs.Command.declared.reply.Reply.TheVariants as reply
 use Rattle.iox_hub_commands.specs.CommandSteps.{Step}
@@ -34,17 +35,19 @@ use Rattle.iox_hub_commands.specs.Terms.{Terms}
 use Rattle.iox_hub_machine.proofs.ComesServed.{domain_there}
 use Rattle.iox_hub_machine.proofs.RunsOn.{step_takes}
 use Rattle.iox_hub_machine.specs.ArrivalLaws.{AnswersAsFixed, DecidesAsFixed}
-use Rattle.iox_hub_machine.specs.GoingOnLaws.{ComesAsChosen, Decided, DecidedRunsGoOn, DecidedStep, IsOneOn}
+use Rattle.iox_hub_machine.specs.GoingOnLaws.{ComesAsChosen, Decided, DecidedRunsGoOn, DecidedStep, IsOneOn, NewestFits}
 use Rattle.iox_hub_machine.specs.Ran.{StandsAfter}
 use Rattle.iox_hub_machine.specs.RunLaws.{AsksAmong, all_asked, steps_named}
 use Rattle.iox_hub_machine.specs.Standing.{AreAsMany}
 use Rattle.iox_hub.proofs.HandledChoices.{AreKnown, comes_chosen, known_later}
 use Rattle.iox_hub.proofs.HandledTurns.{PortsAreHere, fixed_by, handled_did, left_by_skipped, left_by_turn, never_some, never_true}
 use Rattle.iox_hub.proofs.HandledTurns.{reader_by, same_some}
+use Rattle.iox_hub.specs.HandledGoing.{StandsStopped}
 use Rattle.iox_hub.specs.Steps.{HandledStep}
 use Rattle.iox_hub.specs.Turns.{Turn, answered_in, asked_in, finds_handlers, turns, without_places}
 use Rattle.iox_hub.specs.declared.given.GivenHandler.{GivenHandler}
 use Rattle.iox_hub.specs.declared.handled_command.HandledCommand.{HandledCommand}
+use Rattle.iox_hub.specs.declared.handled_command.HandledCommand.TheVariants as asked
 use Rattle.iox_machine.proofs.Counted.{Passes, step-passes}
 use Rattle.iox_machine.specs.Choices.{Choices, Handed, chosen_by}
 use Rattle.iox_machine.specs.Run as machine
@@ -120,6 +123,7 @@ module _ {T U B D P : Type 0} (terms : Terms T U B D)
     pub few : later ≤ most
     pub runs : machine.Runs terms.types choices buffer asked state answers after
     pub stands : Stands names later hub after
+    pub kept : hub.hub.expired_connection_buffer ≡ buffer
     pub skips : AllByRecursion (λ turn. finds_handlers turn.command turn.given ≡ false → turn.answer ≡ reply.Skipped) all
 
   module _ (on : DecidedRunsGoOn terms.types choices terms.degrades terms.decides terms.reader_degrades terms.payload terms.user_header
@@ -192,6 +196,7 @@ module _ {T U B D P : Type 0} (terms : Terms T U B D)
           few = rests.few;
           runs = (turn.answer, mid, answered_in all, step, rests.runs, refl);
           stands = rests.stands;
+          kept = rests.kept;
           skips = (λ lacks. never_true (sym lacks ∙ finds), rests.skips);
         })
 
@@ -207,6 +212,7 @@ module _ {T U B D P : Type 0} (terms : Terms T U B D)
           few = omega (arith, few, less);
           runs = rests.runs;
           stands = rests.stands;
+          kept = rests.kept;
           skips = (λ so. told, rests.skips);
         })
 
@@ -235,12 +241,12 @@ module _ {T U B D P : Type 0} (terms : Terms T U B D)
         → most + all_asked (asked_plainly (first ++ more)) < 2 ^ 56
         → Known (turns (first ++ more) replies old.1) state → Stands names most old.0 state
         → Runs Handles first old replies new
-        → Gone (most + all_asked (asked_plainly (first ++ more))) old.0.hub.expired_connection_buffer (turns (first ++ more) replies old.1)
-        state new.0
+        → Gone (most + all_asked (asked_plainly first)) old.0.hub.expired_connection_buffer (turns (first ++ more) replies old.1) state
+        new.0
     goes [] more most old new state replies asks few known it (none, same) =
         let is : turns more replies old.1 ≡ [] =
         ap (λ (these : List (Reply T)). turns more these old.1) none ∙ none_turned more old.1 in
-        subst (λ (all : List (Turn T P D)). Gone (most + all_asked (asked_plainly more)) old.0.hub.expired_connection_buffer all state
+        subst (λ (all : List (Turn T P D)). Gone (most + all_asked (asked_plainly [])) old.0.hub.expired_connection_buffer all state
         new.0) (sym is) (record {
           after = state;
           later = most;
@@ -248,10 +254,12 @@ module _ {T U B D P : Type 0} (terms : Terms T U B D)
           runs = (refl, refl);
           stands = subst (λ (state_then : NumberedHub T U B D × List (Option (GivenHandler P D))). Stands names most state_then.0 state)
               (sym same) it;
+          kept = ap (λ (state_then : NumberedHub T U B D × List (Option (GivenHandler P D))).
+              state_then.0.hub.expired_connection_buffer) same;
           skips = tt;
         })
     goes (one ∷ first) more most old new state replies asks few known it (answer, mid, rest, step, runs, is) =
-        subst (λ (these : List (Reply T)). Gone (most + all_asked (asked_plainly (one ∷ (first ++ more))))
+        subst (λ (these : List (Reply T)). Gone (most + all_asked (asked_plainly (one ∷ first)))
         old.0.hub.expired_connection_buffer (turns (one ∷ (first ++ more)) these old.1) state new.0) (sym is)
         (⊎_elim
         (λ did.
@@ -266,13 +274,13 @@ module _ {T U B D P : Type 0} (terms : Terms T U B D)
         (subst (λ (given : List (Option (GivenHandler P D))). Known (behind given) on_one.after) (sym did.left)
         (known_then turn (behind (left_by_turn one answer old.1)) (without_places one) old.0.hub.expired_connection_buffer state
         on_one.after on_one.step known_now)) on_one.stands runs in
-        let even : most + (1 + steps_named (without_places one)) + all_asked (asked_plainly (first ++ more))
-        ≡ most + all_asked (asked_plainly (one ∷ (first ++ more))) = omega arith in
-        taken_turn turn (behind (left_by_turn one answer old.1)) (most + all_asked (asked_plainly (one ∷ (first ++ more))))
+        let even : most + (1 + steps_named (without_places one)) + all_asked (asked_plainly first)
+        ≡ most + all_asked (asked_plainly (one ∷ first)) = omega arith in
+        taken_turn turn (behind (left_by_turn one answer old.1)) (most + all_asked (asked_plainly (one ∷ first)))
         old.0.hub.expired_connection_buffer state on_one.after new.0 did.finds on_one.step
-        (subst (λ (given : List (Option (GivenHandler P D))). Gone (most + all_asked (asked_plainly (one ∷ (first ++ more))))
+        (subst (λ (given : List (Option (GivenHandler P D))). Gone (most + all_asked (asked_plainly (one ∷ first)))
         old.0.hub.expired_connection_buffer (behind given) on_one.after new.0) did.left
-        (subst (λ (n : ℕ). Gone (most + all_asked (asked_plainly (one ∷ (first ++ more)))) n (behind mid.1) on_one.after new.0)
+        (subst (λ (n : ℕ). Gone (most + all_asked (asked_plainly (one ∷ first))) n (behind mid.1) on_one.after new.0)
         takes.buffer
         (subst (λ (n : ℕ). Gone n mid.0.hub.expired_connection_buffer (behind mid.1) on_one.after new.0) even rests))))
         (λ nothing.
@@ -282,10 +290,10 @@ module _ {T U B D P : Type 0} (terms : Terms T U B D)
         (known_still one answer old.1 (behind (left_by_turn one answer old.1)) state.made nothing.told known_now)) it
         (subst (λ (from : NumberedHub T U B D × List (Option (GivenHandler P D))). Runs Handles first from rest new) nothing.same
         runs) in
-        skipped_turn turn (behind (left_by_turn one answer old.1)) (most + all_asked (asked_plainly (first ++ more)))
-        (most + all_asked (asked_plainly (one ∷ (first ++ more)))) old.0.hub.expired_connection_buffer state new.0 nothing.lacks
+        skipped_turn turn (behind (left_by_turn one answer old.1)) (most + all_asked (asked_plainly first))
+        (most + all_asked (asked_plainly (one ∷ first))) old.0.hub.expired_connection_buffer state new.0 nothing.lacks
         nothing.told (omega arith)
-        (subst (λ (given : List (Option (GivenHandler P D))). Gone (most + all_asked (asked_plainly (first ++ more)))
+        (subst (λ (given : List (Option (GivenHandler P D))). Gone (most + all_asked (asked_plainly first))
         old.0.hub.expired_connection_buffer (behind given) state new.0) (sym left) rests))
         (handled_did terms handled one old mid answer
         (all_here terms.types choices terms.degrades terms.decides terms.reader_degrades names most old.0 state it) step))
@@ -313,8 +321,133 @@ module _ {T U B D P : Type 0} (terms : Terms T U B D)
             new.0
         whole same = subst (λ (all : List (HandledCommand T)). AllByRecursion (AsksAmong names) (asked_plainly all)
             → most + all_asked (asked_plainly all) < 2 ^ 56 → Known (turns all replies old.1) state
-            → Gone (most + all_asked (asked_plainly all)) old.0.hub.expired_connection_buffer (turns all replies old.1) state new.0) same
+            → Gone (most + all_asked (asked_plainly commands)) old.0.hub.expired_connection_buffer (turns all replies old.1) state new.0)
+            same
             (λ asks few known. goes commands [] most old new state replies asks few known it runs)
+
+    -- ---- a run that stopped
+
+    -- the commands before one are fewer than all
+    before_one : (first : List (HandledCommand T)) (one : HandledCommand T) (rest : List (HandledCommand T))
+        → all_asked (asked_plainly first) + (1 + steps_named (without_places one)) ≤ all_asked (asked_plainly (first ++ one ∷ rest))
+    before_one [] one rest = omega arith
+    before_one (other ∷ first) one rest = let it = before_one first one rest in omega (arith, it)
+
+    -- it asks among the names
+    asks_one : (first : List (HandledCommand T)) (one : HandledCommand T) (rest : List (HandledCommand T))
+        → AllByRecursion (AsksAmong names) (asked_plainly (first ++ one ∷ rest)) → AsksAmong names (without_places one)
+    asks_one [] one rest asks = asks.0
+    asks_one (other ∷ first) one rest asks = asks_one first one rest asks.1
+
+    -- each has a reply
+    as_many : (first : List (HandledCommand T)) (old new : NumberedHub T U B D × List (Option (GivenHandler P D)))
+        (replies : List (Reply T)) → Runs Handles first old replies new → length first ≡ length replies
+    as_many [] old new replies (none, same) = sym (ap (λ (these : List (Reply T)). length these) none)
+    as_many (one ∷ first) old new replies (answer, mid, rest, step, runs, is) =
+        let so = as_many first mid new rest runs in
+        let these = ap (λ (these : List (Reply T)). length these) is in omega (arith, so, these)
+
+    -- what the hub represents where a command has no reply
+    abbrev Lacking : ℕ → ℕ → Command T → State T → NumberedHub T U B D → Type 0
+    Lacking most buffer one state hub = Stands names most hub state
+        ⊎ ((subscriber : ℕ) × (one ≡ command.Receive subscriber)
+        × (NewestFits hub → (answer : Reply T) × IsOneOn terms.types choices terms.degrades terms.decides terms.reader_degrades names most
+        buffer one state answer hub))
+
+    same_head : (one other : Command T) (more others : List (Command T)) → one ∷ more ≡ other ∷ others → one ≡ other
+    same_head one other more others e = cc
+
+    never_two : (one other it : Command T) (more rest : List (Command T)) → one ∷ [] ≡ other ∷ (more ++ it ∷ rest) → ⊥
+    never_two one other it [] rest e = cc
+    never_two one other it (next ∷ more) rest e = cc
+
+    -- of one command, the first without a reply is this one
+    of_one : (most buffer : ℕ) (one : Command T) (first : List (Command T)) (it : Command T) (rest : List (Command T))
+        (state after : State T) (hub : NumberedHub T U B D) → one ∷ [] ≡ first ++ it ∷ rest
+        → machine.Runs terms.types choices buffer first state [] after → Lacking (most + all_asked first) buffer it after hub
+        → Lacking most buffer one state hub
+    of_one most buffer one [] it rest state after hub are (none, same) lacks =
+        let even : most + all_asked {T = T} [] ≡ most = omega arith in
+        subst (λ (n : ℕ). Lacking n buffer one state hub) even
+        (subst (λ (from : State T). Lacking (most + all_asked {T = T} []) buffer one from hub) same
+        (subst (λ (asked : Command T). Lacking (most + all_asked {T = T} []) buffer asked after hub) (sym (same_head one it [] rest are))
+        lacks))
+    of_one most buffer one (other ∷ first) it rest state after hub are runs lacks = absurd (never_two one other it first rest are)
+
+    no_reply : (lacking : AllocError) (told : Reply T) → ◌≡◌ {A = Result (Reply T) AllocError} (Err lacking) (Ok told) → ⊥
+    no_reply lacking told is = cc
+
+    -- a command without a reply
+    lacks_goes : (one : HandledCommand T) (most : ℕ) (old new : NumberedHub T U B D × List (Option (GivenHandler P D))) (state : State T)
+        (lacking : AllocError) → AsksAmong names (without_places one) → most + (1 + steps_named (without_places one)) < 2 ^ 56
+        → Stands names most old.0 state → Handles one old (Err lacking) new
+        → Lacking most old.0.hub.expired_connection_buffer (without_places one) state new.0
+    lacks_goes (asked.Plain one) most old new state lacking asks few it lacks =
+        let plainly : Decided T B D = record { asked = one; fixed = terms.fixed; fixed_reader = terms.fixed_reader } in
+        let until = on names most (plainly ∷ []) old.0 new.0 state [] true own (asks, tt) (omega (arith, few)) it
+        (inr ([], plainly, [], old.0, lacking, refl, (refl, refl), (lacks.0, λ told is. absurd (no_reply lacking told is)))) in
+        of_one most old.0.hub.expired_connection_buffer one until.first until.asked until.rest state until.after new.0 until.are until.runs
+        until.stands
+    lacks_goes (asked.Publisher factory options at_full at_failure) most old new state lacking asks few it lacks = absurd lacks
+    lacks_goes (asked.Subscriber factory options at_failure) most old new state lacking asks few it lacks = absurd lacks
+
+    -- more commands may have been asked
+    abbrev widened : (fewer most buffer : ℕ) (all : List (Turn T P D)) (state : State T) (hub : NumberedHub T U B D)
+        → (it : Gone fewer buffer all state hub) → it.later ≤ most → Gone most buffer all state hub
+    widened fewer most buffer all state hub it few = record {
+      after = it.after;
+      later = it.later;
+      few = few;
+      runs = it.runs;
+      stands = it.stands;
+      kept = it.kept;
+      skips = it.skips;
+    }
+
+    -- A run that stopped: up to the hub that it came to before, and what the hub after it represents.
+    abbrev pub Stopped : ℕ → List (HandledCommand T) → NumberedHub T U B D × List (Option (GivenHandler P D)) → State T → List (Reply T)
+        → NumberedHub T U B D → Type 0
+    Stopped most commands old state replies new = (hub : NumberedHub T U B D)
+        × (it : Gone (most + all_asked (asked_plainly commands)) old.0.hub.expired_connection_buffer (turns commands replies old.1) state
+        hub)
+        × StandsStopped terms handled handed names it.later old.0.hub.expired_connection_buffer commands replies new it.after
+
+    pub stopped_goes : (commands : List (HandledCommand T)) (most : ℕ) (old new : NumberedHub T U B D × List (Option (GivenHandler P D)))
+        (state : State T) (replies : List (Reply T)) → AllByRecursion (AsksAmong names) (asked_plainly commands)
+        → most + all_asked (asked_plainly commands) < 2 ^ 56 → Known (turns commands replies old.1) state → Stands names most old.0 state
+        → IsRun Handles commands old replies true new → Stopped most commands old state replies new.0
+    stopped_goes commands most old new state replies asks few known it (inl (some, none, same)) =
+        let gone = goes [] commands most old old state replies asks few known it (none, refl) in
+        let fewer = gone.few in (
+          old.0,
+          widened (most + all_asked (asked_plainly [])) (most + all_asked (asked_plainly commands)) old.0.hub.expired_connection_buffer
+              (turns commands replies old.1) state old.0 gone (omega (arith, fewer)),
+          inl (subst (λ (to : NumberedHub T U B D × List (Option (GivenHandler P D))). Stands names gone.later to.0 gone.after) (sym same)
+              gone.stands),
+        )
+    stopped_goes commands most old new state replies asks few known it (inr (first, one, rest, mid, lacking, is, runs, lack)) =
+        until (sym is) asks few known
+      where
+        until : first ++ one ∷ rest ≡ commands → AllByRecursion (AsksAmong names) (asked_plainly commands)
+            → most + all_asked (asked_plainly commands) < 2 ^ 56 → Known (turns commands replies old.1) state
+            → Stopped most commands old state replies new.0
+        until same = subst (λ (all : List (HandledCommand T)). AllByRecursion (AsksAmong names) (asked_plainly all)
+            → most + all_asked (asked_plainly all) < 2 ^ 56 → Known (turns all replies old.1) state
+            → Stopped most all old state replies new.0) same
+            (λ asks few known.
+            let gone = goes first (one ∷ rest) most old mid state replies asks few known it runs in
+            let fewer = gone.few in
+            let room = before_one first one rest in (
+              mid.0,
+              widened (most + all_asked (asked_plainly first)) (most + all_asked (asked_plainly (first ++ one ∷ rest)))
+                  old.0.hub.expired_connection_buffer (turns (first ++ one ∷ rest) replies old.1) state mid.0 gone
+                  (omega (arith, fewer, room)),
+              ⊎_elim (λ stands. inl stands)
+                  (λ receives. inr (first, one, rest, receives.0, refl, as_many first old mid replies runs, receives.1, receives.2))
+                  (subst (λ (n : ℕ). Lacking gone.later n (without_places one) gone.after new.0) gone.kept
+                  (lacks_goes one gone.later mid new gone.after lacking (asks_one first one rest asks) (omega (arith, few, fewer, room))
+                  gone.stands lack)),
+            ))
 
     -- a run, up to the hub that it came to before it stopped
     pub run_goes : (commands : List (HandledCommand T)) (most : ℕ) (old new : NumberedHub T U B D × List (Option (GivenHandler P D)))
@@ -325,16 +458,5 @@ module _ {T U B D P : Type 0} (terms : Terms T U B D)
         (turns commands replies old.1) state hub
     run_goes commands most old new state replies false asks few known it runs =
         (new.0, whole_goes commands most old new state replies asks few known it runs)
-    run_goes commands most old new state replies true asks few known it (inl (some, none, same)) =
-        (old.0, goes [] commands most old old state replies asks few known it (none, refl))
-    run_goes commands most old new state replies true asks few known it (inr (first, command, rest, mid, lacking, is, runs, lack)) =
-        (mid.0, until (sym is) asks few known)
-      where
-        until : first ++ command ∷ rest ≡ commands → AllByRecursion (AsksAmong names) (asked_plainly commands)
-            → most + all_asked (asked_plainly commands) < 2 ^ 56 → Known (turns commands replies old.1) state
-            → Gone (most + all_asked (asked_plainly commands)) old.0.hub.expired_connection_buffer (turns commands replies old.1) state
-            mid.0
-        until same = subst (λ (all : List (HandledCommand T)). AllByRecursion (AsksAmong names) (asked_plainly all)
-            → most + all_asked (asked_plainly all) < 2 ^ 56 → Known (turns all replies old.1) state
-            → Gone (most + all_asked (asked_plainly all)) old.0.hub.expired_connection_buffer (turns all replies old.1) state mid.0) same
-            (λ asks few known. goes first (command ∷ rest) most old mid state replies asks few known it runs)
+    run_goes commands most old new state replies true asks few known it runs =
+        let (hub, gone, stands) = stopped_goes commands most old new state replies asks few known it runs in (hub, gone)

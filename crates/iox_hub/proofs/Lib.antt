@@ -10,11 +10,13 @@ pub mod HandledTurns
 pub mod HandledChoices
 pub mod HandledRuns
 pub mod HandledAnswers
+mod HandledGoing
 pub mod GhostSteps
 pub mod Recording
 pub mod RecordedSkips
 pub mod RecordedIds
 pub mod RecordedCame
+pub mod RecordedChosen
 pub mod RecordedRuns
 pub mod RecordedFollowing
 pub mod RecordedServices

@@ -27,17 +27,19 @@ use Rattle.iox_hub.proofs.RecordedSkips.{follows_none, never_so}
 use Rattle.iox_hub.specs.Recorded.{Calls, asked_too}
 use Rattle.iox_hub.specs.Recording.{IsDoneIf, numbered}
 use Rattle.iox_hub_commands.specs.Terms.{Terms}
+use Rattle.iox_hub.specs.Turns.{choices_of}
+use Rattle.iox_machine.specs.Choices.{Handed}
 
-module _ {T U B D : Type 0} (terms : Terms T U B D) (of_slices : AreOfSlices terms) where
+module _ {T U B D : Type 0} (terms : Terms T U B D) (of_slices : AreOfSlices terms) (handed : Handed B D) where
   abbrev GoesOn : Type 0
-  GoesOn = CallsGoOn terms
+  GoesOn = CallsGoOn terms (choices_of terms handed)
 
   abbrev Kept : Bool → Calls T → Hub T U B D → Type 0
   Kept fit calls hub
-      = Recorded terms of_slices fit calls hub
+      = Recorded terms of_slices handed fit calls hub
 
   pub publisher_updated : {fit : Bool} → GoesOn
-      → PublisherUpdateIsStep Slice terms
+      → PublisherUpdateIsStep Slice terms (choices_of terms handed)
       → (old : Calls T) (hub after : Hub T U B D) (number : ℕ) (follower : PortId) (answer : Option (Result (Unit {0}) ConnectionFailure))
       → port_under (value_at old.made.publishers number) ≡ Some follower
       → IsDoneIf (may_lend hub_ports follower hub)
@@ -45,7 +47,7 @@ module _ {T U B D : Type 0} (terms : Terms T U B D) (of_slices : AreOfSlices ter
       → Kept fit old hub → Kept fit (asked_too (command.Update (port.Publisher number)) (updated_reply answer) old) after
   publisher_updated {fit} goes_on steps old hub after number follower None there (never, same) was =
       subst (λ (it : Hub T U B D). Kept fit (asked_too (command.Update (port.Publisher number)) reply.Skipped old) it) (sym same)
-      (skipped_on terms of_slices goes_on old hub hub (command.Update (port.Publisher number)) refl (λ names most state it. (
+      (skipped_on terms of_slices handed goes_on old hub hub (command.Update (port.Publisher number)) refl (λ names most state it. (
         (
           None,
           subst (λ (found : Option PortId). AtPort (Follows hub_ports with_hub_ports (publisher_may_degrade terms.degrades)) found hub None
@@ -57,51 +59,52 @@ module _ {T U B D : Type 0} (terms : Terms T U B D) (of_slices : AreOfSlices ter
         refl,
       )) was)
   publisher_updated goes_on steps old hub after number follower (Some answer) there (may, follows) was =
-      plain_on terms of_slices goes_on old hub after (command.Update (port.Publisher number)) (updated_reply (Some answer))
+      plain_on terms of_slices handed goes_on old hub after (command.Update (port.Publisher number)) (updated_reply (Some answer))
       (at_keeps follower.domain (UpdatesBy (publisher_may_degrade terms.degrades follower.domain follower.number hub) follower.number)
       (hub_ports follower.domain hub) hub after (Some answer) follows)
       (steps number follower (numbered old hub) after answer there follows) was
 
   pub subscriber_updated : {fit : Bool} → GoesOn
-      → SubscriberUpdateIsStep Slice terms
-      → HeldMayBeUsed terms
+      → SubscriberUpdateIsStep Slice terms (choices_of terms handed)
+      → HeldMayBeUsed terms (choices_of terms handed)
       → (old : Calls T) (hub after : Hub T U B D) (number : ℕ) (follower : PortId) (answer : Option (Result (Unit {0}) ConnectionFailure))
       → value_at old.made.subscribers number ≡ Some follower
       → IsDoneIf (subscriber_stands follower.number (hub_ports follower.domain hub))
       (FollowsPublishers hub_ports with_hub_ports (subscriber_may_degrade terms.reader_degrades) follower) hub answer after
       → Kept fit old hub → Kept fit (asked_too (command.Update (port.Subscriber number)) (updated_reply answer) old) after
   subscriber_updated goes_on steps may_use old hub after number follower None there (never, same) was =
-      absent_on terms of_slices goes_on may_use old hub after (command.Update (port.Subscriber number)) number follower there never same was
+      absent_on terms of_slices handed goes_on may_use old hub after (command.Update (port.Subscriber number)) number follower there never
+      same was
   subscriber_updated goes_on steps may_use old hub after number follower (Some answer) there (may, follows) was =
-      plain_on terms of_slices goes_on old hub after (command.Update (port.Subscriber number)) (updated_reply (Some answer))
+      plain_on terms of_slices handed goes_on old hub after (command.Update (port.Subscriber number)) (updated_reply (Some answer))
       (at_keeps follower.domain (FollowsBy (subscriber_may_degrade terms.reader_degrades follower.domain follower.number hub)
       follower.number) (hub_ports follower.domain hub) hub after (Some answer) follows)
       (steps number follower (numbered old hub) after answer there follows) was
 
   pub samples_told : {fit : Bool} → GoesOn
-      → HasIsStep Slice terms
-      → HeldMayBeUsed terms
+      → HasIsStep Slice terms (choices_of terms handed)
+      → HeldMayBeUsed terms (choices_of terms handed)
       → (old : Calls T) (hub after : Hub T U B D) (number : ℕ) (asker : PortId) (answer : Option (Result Bool ConnectionFailure))
       → value_at old.made.subscribers number ≡ Some asker
       → IsDoneIf (subscriber_stands asker.number (hub_ports asker.domain hub))
       (TellsSamples hub_ports with_hub_ports (subscriber_may_degrade terms.reader_degrades) asker) hub answer after
       → Kept fit old hub → Kept fit (asked_too (command.Has number) (has_reply answer) old) after
   samples_told goes_on steps may_use old hub after number asker None there (never, same) was =
-      absent_on terms of_slices goes_on may_use old hub after (command.Has number) number asker there never same was
+      absent_on terms of_slices handed goes_on may_use old hub after (command.Has number) number asker there never same was
   samples_told goes_on steps may_use old hub after number asker (Some answer) there (may, tells) was =
-      plain_on terms of_slices goes_on old hub after (command.Has number) (has_reply (Some answer))
+      plain_on terms of_slices handed goes_on old hub after (command.Has number) (has_reply (Some answer))
       (at_keeps asker.domain (TellsBy (subscriber_may_degrade terms.reader_degrades asker.domain asker.number hub) asker.number)
       (hub_ports asker.domain hub) hub after (Some answer) tells)
       (steps number asker (numbered old hub) after answer there tells) was
 
   -- what a subscriber that the program holds is asked is answered
-  pub stands_so : {fit : Bool} {A : Type 0} → HeldMayBeUsed terms
+  pub stands_so : {fit : Bool} {A : Type 0} → HeldMayBeUsed terms (choices_of terms handed)
       → (old : Calls T) (hub after : Hub T U B D) (number : ℕ) (who : PortId) (does : Hub T U B D → A → Hub T U B D → Type 0)
       (answer : Option A) → value_at old.made.subscribers number ≡ Some who
       → IsDoneIf (subscriber_stands who.number (hub_ports who.domain hub)) does hub answer after
       → Kept fit old hub
-      → Followed terms of_slices old → IsSome answer
+      → Followed terms of_slices handed old → IsSome answer
   stands_so may_use old hub after number who does None there (never, same) was followed =
       never_so (subscriber_stands who.number (hub_ports who.domain hub))
-      ((may_be_used terms of_slices may_use old hub was followed).subscribers number who there) never
+      ((may_be_used terms of_slices handed may_use old hub was followed).subscribers number who there) never
   stands_so may_use old hub after number who does (Some it) there done was followed = refl

@@ -12,7 +12,8 @@ use Rattle.iox_container.proofs.Rising.{Rises-push, Rises-removed}
 use Rattle.iox_container.proofs.Telling.{put as found_next}
 use Rattle.iox_container.specs.NumberTable.{Rises, inserted, removed, value_at}
 use Rattle.iox_delivery.specs.Holding.{loan_found, publisher_blocked, publisher_stands}
-use Rattle.iox_delivery.specs.Publishing.{GivesUpLoan, SendsSample, lent_of, written_of}
+use Rattle.iox_delivery.specs.DomainPorts.Messages.{write_value}
+use Rattle.iox_delivery.specs.Publishing.{GivesUpLoan, SendsSample, lent_of, loan_changed, written_of}
 use Rattle.iox_delivery.specs.Slices.{LendsDefaults, LendsSlice, WritesAll}
 use Rattle.iox_delivery.specs.declared.kind.Slice.{Slice}
 use Rattle.iox_delivery.specs.declared.loan.Loan.{Loan as Lent}
@@ -33,7 +34,7 @@ use Rattle.iox_hub_commands.specs.DomainValues.declared.degradation.DegradationC
 use Rattle.iox_hub_commands.specs.DomainValues.declared.degradation.DegradationInfo.{DegradationInfo}
 use Rattle.iox_hub_commands.specs.DomainValues.declared.port_error.LoanError.{LoanError}
 use Rattle.iox_hub_commands.specs.DomainValues.declared.port_error.SendError.{SendError}
-use Rattle.iox_hub_commands.specs.Loans.{SendsUnder, fits_in}
+use Rattle.iox_hub_commands.specs.Loans.{SendsUnder, fits_in, is_set, loan_under}
 use Rattle.iox_hub_commands.specs.Numbering.{removed_if}
 use Rattle.iox_hub_commands.specs.Replies.{done_reply}
 use Rattle.iox_hub_commands.specs.Tables.{lender, port_under, without_loan}
@@ -41,7 +42,7 @@ use Rattle.iox_hub_commands.specs.declared.ports.made.Made.{Made}
 use Rattle.iox_hub_commands.specs.declared.ports.made.MadeLoan.{MadeLoan}
 use Rattle.iox_hub_commands.specs.declared.ports.made.MadePublisher.{MadePublisher}
 use Rattle.iox_hub_machine.proofs.TypedSteps.{as_roomy}
-use Rattle.iox_hub_machine.specs.TypedPublishing.{DropIsStep, LoanIsStep, LoanUninitIsStep, SendIsStep, WriteIsStep}
+use Rattle.iox_hub_machine.specs.TypedPublishing.{ChangeIsStep, DropIsStep, LoanIsStep, LoanUninitIsStep, SendIsStep, WriteIsStep}
 use Rattle.iox_hub_machine.specs.TypedRuns.{CallsGoOn}
 use Rattle.iox_hub_machine.specs.TypedSteps.{having_lent, hub_after_call, told_loan, told_sent}
 use Rattle.iox_hub.proofs.KeptNumbers.{one_more_keeps}
@@ -59,6 +60,8 @@ use Rattle.iox_hub.specs.Recording.{IsDoneIf, asked_with, is_written_with, may_s
 use Rattle.iox_hub.specs.declared.recorded.named.Named.{Named}
 use Rattle.iox_hub.specs.declared.recorded.named.Number.{Number}
 use Rattle.iox_hub_commands.specs.Terms.{Terms}
+use Rattle.iox_hub.specs.Turns.{choices_of}
+use Rattle.iox_machine.specs.Choices.{Handed}
 
 module _ {T U B D : Type 0} where
   lend_none_if : (b : Bool) (elements : ℕ) (who : PortId) (hub : Hub T U B D) → may_lend hub_ports who hub ≡ false
@@ -191,17 +194,17 @@ module _ {T U B D : Type 0} (degrades : B → DegradationCause → DegradationIn
   sample_waits (Ok answer) (outcome, sends, is) = outcome_waits T U sample.it.port answer outcome is
   sample_waits (Err back) done = tt
 
-module _ {T U B D : Type 0} (terms : Terms T U B D) (of_slices : AreOfSlices terms) where
+module _ {T U B D : Type 0} (terms : Terms T U B D) (of_slices : AreOfSlices terms) (handed : Handed B D) where
   abbrev GoesOn : Type 0
-  GoesOn = CallsGoOn terms
+  GoesOn = CallsGoOn terms (choices_of terms handed)
 
   abbrev Kept : Bool → Calls T → Hub T U B D → Type 0
   Kept fit calls hub
-      = Recorded terms of_slices fit calls hub
+      = Recorded terms of_slices handed fit calls hub
 
   abbrev IsOne : Command T → Calls T → Hub T U B D → Reply T → Made → Hub T U B D → Type 0
   IsOne asked old hub answer made after =
-      Steps terms of_slices asked (numbered old hub) answer (hub_after_call (numbered old hub) made after)
+      Steps terms of_slices handed asked (numbered old hub) answer (hub_after_call (numbered old hub) made after)
 
   -- a publisher lends by a command, which is a step
   lent_on : {S : Type 0} {fit : Bool} → GoesOn → (old : Calls T) (hub after : Hub T U B D) (asked : Command T)
@@ -220,21 +223,22 @@ module _ {T U B D : Type 0} (terms : Terms T U B D) (of_slices : AreOfSlices ter
         id = kept ∙ was.id;
         all_fit = was.all_fit;
         told = told_too asked (reply.LoanMade old.made.loans.next) was.told;
-        run = run_on terms of_slices goes_on old hub after asked (reply.LoanMade old.made.loans.next) (having_lent (Ok loan) old.made)
+        run = run_on terms of_slices handed goes_on old hub after asked (reply.LoanMade old.made.loans.next) (having_lent
+            (Ok loan) old.made)
             old.factories does was.run;
       }
   lent_on goes_on old hub after asked (Err why) kept does was =
-      plain_on terms of_slices goes_on old hub after asked (reply.Refused (refusal.Loan why)) kept does was
+      plain_on terms of_slices handed goes_on old hub after asked (reply.Refused (refusal.Loan why)) kept does was
 
   pub lent_recorded : {fit : Bool} → GoesOn
-      → LoanUninitIsStep Slice terms
+      → LoanUninitIsStep Slice terms (choices_of terms handed)
       → (old : Calls T) (hub after : Hub T U B D) (number len : ℕ) (who : PortId)
       (answer : Option (Result (Lent T U Slice Uninit) LoanError)) → port_under (value_at old.made.publishers number) ≡ Some who
       → IsDoneIf (may_lend hub_ports who hub) (LendsSlice hub_ports with_hub_ports who len) hub answer after
       → Kept fit old hub → Kept fit (calls_lent (command.LoanUninit number len) answer old) after
   lent_recorded {fit} goes_on steps old hub after number len who None there (never, same) was =
       subst (λ (it : Hub T U B D). Kept fit (asked_too (command.LoanUninit number len) reply.Skipped old) it) (sym same)
-      (skipped_on terms of_slices goes_on old hub hub (command.LoanUninit number len) refl (λ names most state it. (
+      (skipped_on terms of_slices handed goes_on old hub hub (command.LoanUninit number len) refl (λ names most state it. (
         (
           Ok None,
           (old.made, as_roomy old.made, (None, lend_none len (value_at old.made.publishers number) who hub there never, (refl, refl))),
@@ -248,7 +252,7 @@ module _ {T U B D : Type 0} (terms : Terms T U B D) (of_slices : AreOfSlices ter
       (steps number len who (numbered old hub) after answer there (lent, lends, is)) was
 
   pub defaults_recorded : {fit : Bool} → GoesOn
-      → LoanIsStep Slice terms
+      → LoanIsStep Slice terms (choices_of terms handed)
       → (old : Calls T) (hub after : Hub T U B D) (number len : ℕ) (who : PortId)
       (answer : Option (Result (Lent T U Slice Written) LoanError)) → port_under (value_at old.made.publishers number) ≡ Some who
       → IsDoneIf (may_lend hub_ports who hub) (LendsDefaults hub_ports with_hub_ports terms.is_default who len) hub answer after
@@ -256,7 +260,7 @@ module _ {T U B D : Type 0} (terms : Terms T U B D) (of_slices : AreOfSlices ter
       → Kept fit old hub → Kept fit (calls_lent (command.Loan number len) answer old) after
   defaults_recorded {fit} goes_on steps old hub after number len who None there (never, same) (value, default) was =
       subst (λ (it : Hub T U B D). Kept fit (asked_too (command.Loan number len) reply.Skipped old) it) (sym same)
-      (skipped_on terms of_slices goes_on old hub hub (command.Loan number len) refl (λ names most state it. (
+      (skipped_on terms of_slices handed goes_on old hub hub (command.Loan number len) refl (λ names most state it. (
         (
           value,
           default,
@@ -283,7 +287,7 @@ module _ {T U B D : Type 0} (terms : Terms T U B D) (of_slices : AreOfSlices ter
 
   -- all values of a loan are written, if it has as many
   pub filled_recorded : {fit : Bool} → GoesOn
-      → WriteIsStep Slice terms
+      → WriteIsStep Slice terms (choices_of terms handed)
       → (old : Calls T) (hub after : Hub T U B D) (number : ℕ) (made : MadeLoan) (values : List T) (done : Bool)
       → value_at old.made.loans number ≡ Some made → WritesAll hub_ports with_hub_ports made.port made.slot values hub after
       → done ≡ is_written_with (loan_found made.port.number made.slot (hub_ports made.port.domain after)) (length values)
@@ -292,10 +296,29 @@ module _ {T U B D : Type 0} (terms : Terms T U B D) (of_slices : AreOfSlices ter
       let same : done ≡ fits_in values made.port.number made.slot (hub_ports made.port.domain hub)
       = is ∙ written_where_fits values made.port made.slot hub after writes in
       subst (λ (b : Bool). Kept fit (asked_too (command.Fill number values) (done_reply b) old) after) (sym same)
-      (plain_on terms of_slices goes_on old hub after (command.Fill number values)
+      (plain_on terms of_slices handed goes_on old hub after (command.Fill number values)
       (done_reply (fits_in values made.port.number made.slot (hub_ports made.port.domain hub)))
       (ap (λ hub. hub.table.id) writes ∙ changed_keeps made.port.domain _ (hub_ports made.port.domain hub) hub)
       (steps number made values (numbered old hub) after there writes) was)
+
+  -- one value of a loan is written, if the loan is written and has its place
+  pub set_recorded : {fit : Bool} → GoesOn
+      → ChangeIsStep Slice terms (choices_of terms handed)
+      → (old : Calls T) (hub after : Hub T U B D) (number place : ℕ) (made : MadeLoan) (value : T) (done : Bool)
+      → value_at old.made.loans number ≡ Some made
+      → done ≡ is_set place (loan_found made.port.number made.slot (hub_ports made.port.domain hub))
+      → after ≡ (if done then loan_changed hub_ports with_hub_ports made.port made.slot (write_value place value) hub else hub)
+      → Kept fit old hub → Kept fit (asked_too (command.Set number place value) (done_reply done) old) after
+  set_recorded goes_on steps old hub after number place made value true there is same was =
+      plain_on terms of_slices handed goes_on old hub after (command.Set number place value) (done_reply true)
+      (ap (λ hub. hub.table.id) same ∙ changed_keeps made.port.domain _ (hub_ports made.port.domain hub) hub)
+      (steps number place made value (numbered old hub) after there (sym is) same) was
+  set_recorded {fit} goes_on steps old hub after number place made value false there is same was =
+      subst (λ (it : Hub T U B D). Kept fit (asked_too (command.Set number place value) reply.Skipped old) it) (sym same)
+      (skipped_on terms of_slices handed goes_on old hub hub (command.Set number place value) refl (λ names most state it. (
+        (false, is ∙ sym (ap (λ (found : Option MadeLoan). is_set place (loan_under hub_ports found hub)) there), refl, refl),
+        refl,
+      )) was)
 
   -- a loan's number is spent by a command, which is a step
   spent_on : {fit : Bool} → GoesOn → (old : Calls T) (hub after : Hub T U B D) (asked : Command T) (answer : Reply T) (number : ℕ)
@@ -313,11 +336,11 @@ module _ {T U B D : Type 0} (terms : Terms T U B D) (of_slices : AreOfSlices ter
         id = kept ∙ was.id;
         all_fit = was.all_fit;
         told = told_too asked answer was.told;
-        run = run_on terms of_slices goes_on old hub after asked answer (without_loan number old.made) old.factories does was.run;
+        run = run_on terms of_slices handed goes_on old hub after asked answer (without_loan number old.made) old.factories does was.run;
       }
 
   pub dropped_recorded : {fit : Bool} → GoesOn
-      → DropIsStep Slice terms
+      → DropIsStep Slice terms (choices_of terms handed)
       → (old : Calls T) (hub after : Hub T U B D) (number : ℕ) (made : MadeLoan) → value_at old.made.loans number ≡ Some made
       → GivesUpLoan hub_ports with_hub_ports made.port made.slot hub after
       → Kept fit old hub → Kept fit (asked_with (without_loan number old.made) (command.Drop number) (done_reply true) old) after
@@ -327,7 +350,7 @@ module _ {T U B D : Type 0} (terms : Terms T U B D) (of_slices : AreOfSlices ter
       (steps number made (numbered old hub) after there gives) was
 
   pub sent_recorded : {fit : Bool} → GoesOn
-      → SendIsStep Slice terms
+      → SendIsStep Slice terms (choices_of terms handed)
       → (old : Calls T) (hub after : Hub T U B D) (number : ℕ) (sample : Lent T U Slice Written)
       (answer : Result (Result (Sent T U) SendError) (Lent T U Slice Written))
       → value_at old.made.loans number ≡ Some (record { port = sample.port; slot = sample.slot })
@@ -343,7 +366,7 @@ module _ {T U B D : Type 0} (terms : Terms T U B D) (of_slices : AreOfSlices ter
       (steps number (record { port = sample.port; slot = sample.slot }) (numbered old hub) after answer there (outcome, sends, is)) was
   sent_recorded {fit} goes_on steps old hub after number sample (Err back) there (is, same, never) was =
       subst (λ (it : Hub T U B D). Kept fit (asked_too (command.Send number) reply.Skipped old) it) (sym same)
-      (skipped_on terms of_slices goes_on old hub hub (command.Send number) refl (λ names most state it. (
+      (skipped_on terms of_slices handed goes_on old hub hub (command.Send number) refl (λ names most state it. (
         (
           None,
           subst (λ (found : Option MadeLoan). SendsUnder hub_ports with_hub_ports (publisher_may_degrade terms.degrades)

@@ -75,7 +75,7 @@ module _ {F T U B D : Type 0} (made : F → MadeFactory) (parts : F → Opened)
     (same : (factory : F) → parts_of (made factory) ≡ parts factory)
     (kind : (factory : F) → pattern_in (made factory) ≡ pattern.PublishSubscribe) (payload user_header : Detail)
     (types : MessageTypeDetails) (id node : ℕ) (name : List ℕ) (named : PublishSubscribeOptions) (builder : Builder)
-    (is : builder ≡ record { hub = id; node = node; name = name }) (old new : Hub T U B D)
+    (is : builder ≡ record { hub = Some id; node = node; name = name }) (old new : Hub T U B D)
     (there : is_node node old.nodes ≡ true) where
   abbrev its_hash : List ℕ → ServiceHash
   its_hash given = hash_of given (options.PublishSubscribe named)

@@ -1,7 +1,6 @@
 -- Each call of a recorded hub keeps it tied to what was asked of it.
 use Rattle.std.proofs.Common.{◌≡◌, ◌∙◌, ℕ, ◌+◌, ◌^◌, ◌<◌, ◌&&◌, Bool, true, false, List, [], ◌∷◌, ◌++◌, length, Option, None, Some, Result}
-use Rattle.std.proofs.Common.{Ok}
-use Rattle.std.proofs.Common.{Err}
+use Rattle.std.proofs.Common.{Ok, Err}
 use Rattle.std.proofs.Common.{IsSome, option_map, refl, sym, ap, subst, arith, append-nil}
 use Rattle.std.proofs.lemmas.Bool.Decides.{nat_tests}
 use Rattle.std.specs.Option.{unwrap_or}
@@ -82,28 +81,30 @@ use Rattle.iox_hub_commands.specs.declared.ports.made.Made.{Made}
 use Rattle.iox_hub_commands.specs.declared.ports.made.MadeSample.{MadeSample}
 use Rattle.iox_hub_machine.specs.RunLaws.{AsksAmong, all_asked, names_in, steps_named}
 use Rattle.iox_hub_machine.specs.TypedPublishing.{GiveUpIsStep, PublisherLeaveIsStep, RetryIsStep, SendSliceIsStep}
-use Rattle.iox_hub_machine.proofs.TypedSteps.{as_roomy, by_step}
+use Rattle.iox_hub_machine.proofs.TypedSteps.{IsChosen, as_roomy, by_chosen_step}
 use Rattle.iox_hub_machine.specs.Ran.{StandsAfter}
 use Rattle.iox_hub_machine.specs.TypedReading.{HeldMayBeUsed, MayBeUsed}
 use Rattle.iox_hub_machine.specs.TypedRuns.{CallsBegin, CallsGoOn}
 use Rattle.iox_hub_machine.specs.TypedSubscribing.{PayloadIsStep, ReceiveIsStep, ReleaseIsStep, SubscriberLeaveIsStep}
 use Rattle.iox_hub_machine.specs.TypedServices.{NewNodeIsStep, PublisherIsStep, SubscriberIsStep, told_node}
 use Rattle.iox_hub_machine.specs.TypedSteps.{IsStepBy, payload_there, told_sent}
-use Rattle.iox_machine.specs.Choices.{as_named}
+use Rattle.iox_machine.specs.Choices.{Handed}
 use Rattle.iox_machine.specs.Run.{Answers, Runs}
 use Rattle.iox_machine.specs.State.{State, new_state}
 use Rattle.iox_hub.proofs.AskedNames.{all_among, both_all, both_asked}
+use Rattle.iox_hub.proofs.RecordedChosen.{are_chosen}
 use Rattle.iox_hub.proofs.RecordedCame.{told_left, told_none, told_received, told_released, told_too}
 use Rattle.iox_hub.proofs.Recording.{below, calls_publisher, calls_received, calls_subscriber, vector, vector_if}
-use Rattle.iox_hub.proofs.RecordedSkips.{drops_held, never_so, none_ready, not_waiting, tries_none}
-use Rattle.iox_hub.specs.Recorded.{AreFollowed, Calls, asked_too}
+use Rattle.iox_hub.proofs.RecordedSkips.{drops_held, err_ok, never_so, none_ready, not_waiting, skipped_chosen, tries_none}
+use Rattle.iox_hub.specs.Recorded.{AreFollowed, Calls, asked_too, none_handed}
 use Rattle.iox_hub.specs.RecordedNames.{received_by}
 use Rattle.iox_hub.specs.declared.recorded.named.Number.{Number}
-use Rattle.iox_hub.specs.Recording.{IsDoneIf, IsDoneOrBack, IsRecorded, IsRun, newest_is_known, numbered}
-use Rattle.iox_hub.specs.Recording.{AllFit, asked_with, no_calls, told_sent_if, values_there}
+use Rattle.iox_hub.specs.Recording.{IsDoneIf, IsDoneOrBack, IsRecorded, IsRecordedBy, IsRun, newest_is_known, numbered}
+use Rattle.iox_hub.specs.Recording.{AllFit, AreChosen, asked_with, no_calls, told_sent_if, values_there}
 use Rattle.iox_hub.proofs.RecordedIds.{at_keeps, drops_keeps, leaves_keeps, makes_keeps, receive_keeps, retry_keeps}
 use Rattle.iox_hub.proofs.RecordedIds.{slice_keeps}
 use Rattle.iox_hub_commands.specs.Terms.{Terms}
+use Rattle.iox_hub.specs.Turns.{choices_of}
 
 -- what is below is told to be
 low : (n m : ℕ) → n < m → nat_lt n m ≡ true
@@ -211,73 +212,108 @@ abbrev pub AreOfSlices : {T U B D : Type 0} → Terms T U B D → Type 0
 AreOfSlices terms = terms.types ≡ asked_types Dynamic terms.payload terms.user_header
 
 -- what a hub does, where it stands for a state, is a step of the machine
-abbrev IsStepWhere : {T U B D : Type 0} → Terms T U B D → Command T → NumberedHub T U B D → NumberedHub T U B D → Reply T → Type 0
-IsStepWhere {T} terms asked old new answer =
+abbrev IsStepWhere : {T U B D : Type 0} → Terms T U B D → Handed B D → Command T → NumberedHub T U B D → NumberedHub T U B D → Reply T
+    → Type 0
+IsStepWhere {T} terms handed asked old new answer =
     ((names : List (List ℕ)) (most : ℕ) (state : State T)
-    → StandsAfter terms.types (as_named terms.is_default) terms.degrades terms.decides terms.reader_degrades names most old state
+    → StandsAfter terms.types (choices_of terms handed) terms.degrades terms.decides terms.reader_degrades names most old state
     → numbered_hub.Step terms asked old (Ok answer) new)
-    → IsStepBy terms asked old answer new
+    → IsStepBy terms (choices_of terms handed) asked old answer new
 
-module _ {T U B D : Type 0} (terms : Terms T U B D) (of_slices : AreOfSlices terms) where
+-- what is recorded for any handlers, and for these ones
+module _ {T U B D : Type 0} (terms : Terms T U B D) {fit : Bool} {calls : Calls T} {hub : Hub T U B D} where
+  pub for_all : ((handed : Handed B D) → IsRecordedBy terms handed fit calls hub) → IsRecorded terms fit calls hub
+  for_all was = record {
+    rise = (was none_handed).rise;
+    id = (was none_handed).id;
+    all_fit = (was none_handed).all_fit;
+    told = (was none_handed).told;
+    run = λ handed. (was handed).run;
+  }
+
+  pub for_one : IsRecorded terms fit calls hub → (handed : Handed B D) → IsRecordedBy terms handed fit calls hub
+  for_one was handed = record {
+    rise = was.rise;
+    id = was.id;
+    all_fit = was.all_fit;
+    told = was.told;
+    run = was.run handed;
+  }
+
+module _ {T U B D : Type 0} (terms : Terms T U B D) (of_slices : AreOfSlices terms) (handed : Handed B D) where
   abbrev pub Run : Bool → Calls T → Hub T U B D → Type 0
   Run fit calls hub
-      = IsRun terms fit calls hub
+      = IsRun terms handed fit calls hub
 
   abbrev pub Recorded : Bool → Calls T → Hub T U B D → Type 0
   Recorded fit calls hub
-      = IsRecorded terms fit calls hub
+      = IsRecordedBy terms handed fit calls hub
 
   abbrev pub Steps : Command T → NumberedHub T U B D → Reply T → NumberedHub T U B D → Type 0
-  Steps = IsStepBy terms
+  Steps = IsStepBy terms (choices_of terms handed)
 
   abbrev pub Followed : Calls T → Type 0
-  Followed calls = AreFollowed terms.fixed terms.degrades terms.decides terms.fixed_reader terms.reader_degrades calls
+  Followed calls = AreFollowed terms.fixed terms.degrades terms.decides terms.fixed_reader terms.reader_degrades handed calls
 
   abbrev pub Stood : List (List ℕ) → ℕ → NumberedHub T U B D → State T → Type 0
-  Stood names most hub state = StandsAfter terms.types (as_named terms.is_default) terms.degrades terms.decides terms.reader_degrades names
+  Stood names most hub state = StandsAfter terms.types (choices_of terms handed) terms.degrades terms.decides terms.reader_degrades names
       most hub state
 
   -- what a hub of slices does, where it stands for a state, is a step of the machine
-  pub by_slices : (asked : Command T) (old new : NumberedHub T U B D) (answer : Reply T) → IsStepWhere terms asked old new answer
-  by_slices asked old new answer =
-      subst (λ (types : MessageTypeDetails). IsStepWhere (record terms { types = types }) asked old new answer) (sym of_slices)
-      (by_step Dynamic terms asked old new answer)
+  pub by_slices : (asked : Command T) (old new : NumberedHub T U B D) (answer : Reply T)
+      → IsChosen Dynamic terms (choices_of terms handed) asked old answer → IsStepWhere terms handed asked old new answer
+  by_slices asked old new answer chosen =
+      subst (λ (types : MessageTypeDetails). IsStepWhere (record terms { types = types }) handed asked old new answer) (sym of_slices)
+      (by_chosen_step Dynamic terms (choices_of terms handed) asked old new answer chosen)
+
+  -- what the handlers of ports may decide may be chosen for them
+  abbrev pub ChosenSo : Type 0
+  ChosenSo = AreChosen (choices_of terms handed) terms.fixed terms.degrades terms.decides terms.fixed_reader terms.reader_degrades
 
   -- one call more, which is a step, and what is known then
-  run_to : (fit known : Bool) → CallsGoOn terms
+  run_to : (fit known : Bool) → CallsGoOn terms (choices_of terms handed)
       → (old : Calls T) (hub after : Hub T U B D) (asked : Command T) (answer : Reply T) (made : Made) (factories : FactoryTable)
       (received : List (List T)) → (AllFit received → AllFit old.received)
-      → (AllFit received → Steps asked (numbered old hub) answer (numbered (then old asked answer made factories received) after))
+      → (ChosenSo → AllFit received
+      → Steps asked (numbered old hub) answer (numbered (then old asked answer made factories received) after))
       → ((names : List (List ℕ)) (most : ℕ) (state : State T)
       → Stood names most (numbered (then old asked answer made factories received) after) state
       → AllFit received → fit ≡ true → known ≡ true)
       → Run fit old hub → Run known (then old asked answer made factories received) after
-  run_to fit known goes_on old hub after asked answer made factories received less does knows was names decides_so answers_so own all few
+  run_to fit known goes_on old hub after asked answer made factories received less does knows was names chosen_so own all few
       fits =
       let (before, (asks, nothing)) = both_all (λ it. AsksAmong names it) old.asked (asked ∷ []) all in
       let both = both_asked old.asked (asked ∷ []) in
-      let (called, same, so) = was names decides_so answers_so own before (omega (arith, few, both)) (less fits) in
+      let (called, same, so) = was names chosen_so own before (omega (arith, few, both)) (less fits) in
       let fewer : all_asked old.asked + (1 + steps_named asked) < 2 ^ 56 = omega (arith, few, both) in
-      let kept = (does fits names (all_asked old.asked) called.state decides_so answers_so own asks fewer called.stands).1 in
+      let kept = (does chosen_so fits names (all_asked old.asked) called.state own asks fewer called.stands).1 in
       let now = goes_on names
       old.asked old.answers asked answer (numbered old hub) (numbered (then old asked answer made factories received) after)
-      decides_so answers_so own asks fewer called (does fits) in
+      own asks fewer called (does chosen_so fits) in
       (now, kept ∙ same, knows names (all_asked (old.asked ++ asked ∷ [])) now.state now.stands fits so)
 
+  -- one call more, which is a step by what its port's handlers may decide, and nothing more is known then
+  run_by : {fit : Bool} → CallsGoOn terms (choices_of terms handed)
+      → (old : Calls T) (hub after : Hub T U B D) (asked : Command T) (answer : Reply T) (made : Made) (factories : FactoryTable)
+      → (ChosenSo → Steps asked (numbered old hub) answer (numbered (then old asked answer made factories old.received) after))
+      → Run fit old hub → Run fit (then old asked answer made factories old.received) after
+  run_by {fit} goes_on old hub after asked answer made factories does was =
+      run_to fit fit goes_on old hub after asked answer made factories old.received (λ fits. fits)
+      (λ chosen_so fits. does chosen_so) (λ names most state stands fits so. so) was
+
   -- one call more, which is a step, and nothing more is known then
-  pub run_on : {fit : Bool} → CallsGoOn terms
+  pub run_on : {fit : Bool} → CallsGoOn terms (choices_of terms handed)
       → (old : Calls T) (hub after : Hub T U B D) (asked : Command T) (answer : Reply T) (made : Made) (factories : FactoryTable)
       → Steps asked (numbered old hub) answer (numbered (then old asked answer made factories old.received) after)
       → Run fit old hub → Run fit (then old asked answer made factories old.received) after
   run_on {fit} goes_on old hub after asked answer made factories does was =
-      run_to fit fit goes_on old hub after asked answer made factories old.received (λ fits. fits) (λ fits. does)
-      (λ names most state stands fits so. so) was
+      run_by goes_on old hub after asked answer made factories (λ chosen_so. does) was
 
   abbrev pub Skips : Command T → Calls T → Hub T U B D → Hub T U B D → Type 0
   Skips asked old hub after = numbered_hub.Step terms asked (numbered old hub) (Ok reply.Skipped) (numbered old after)
 
   -- a call that leaves what the program holds as it was
-  pub plain_on : {fit : Bool} → CallsGoOn terms
+  pub plain_on : {fit : Bool} → CallsGoOn terms (choices_of terms handed)
       → (old : Calls T) (hub after : Hub T U B D) (asked : Command T) (answer : Reply T)
       → after.table.id ≡ hub.table.id → Steps asked (numbered old hub) answer (numbered old after)
       → Recorded fit old hub → Recorded fit (asked_too asked answer old) after
@@ -290,17 +326,18 @@ module _ {T U B D : Type 0} (terms : Terms T U B D) (of_slices : AreOfSlices ter
   }
 
   -- a call that isn't made is a command that is skipped
-  pub skipped_on : {fit : Bool} → CallsGoOn terms
+  pub skipped_on : {fit : Bool} → CallsGoOn terms (choices_of terms handed)
       → (old : Calls T) (hub after : Hub T U B D) (asked : Command T) → after.table.id ≡ hub.table.id
       → ((names : List (List ℕ)) (most : ℕ) (state : State T) → Stood names most (numbered old hub) state → Skips asked old hub after)
       → Recorded fit old hub → Recorded fit (asked_too asked reply.Skipped old) after
   skipped_on goes_on old hub after asked kept skips was =
       plain_on goes_on old hub after asked reply.Skipped kept
-      (by_slices asked (numbered old hub) (numbered old after) reply.Skipped skips) was
+      (by_slices asked (numbered old hub) (numbered old after) reply.Skipped (skipped_chosen terms (choices_of terms handed) asked
+      (numbered old hub)) skips) was
 
   -- a subscriber that the program holds stands, so that no call of it is skipped
-  pub absent_on : {fit : Bool} → CallsGoOn terms
-      → HeldMayBeUsed terms
+  pub absent_on : {fit : Bool} → CallsGoOn terms (choices_of terms handed)
+      → HeldMayBeUsed terms (choices_of terms handed)
       → (old : Calls T) (hub after : Hub T U B D) (asked : Command T) → (number : ℕ) (who : PortId)
       → value_at old.made.subscribers number ≡ Some who → subscriber_stands who.number (hub_ports who.domain hub) ≡ false → after ≡ hub
       → Recorded fit old hub → Recorded fit (asked_too asked reply.Skipped old) after
@@ -311,7 +348,7 @@ module _ {T U B D : Type 0} (terms : Terms T U B D) (of_slices : AreOfSlices ter
       ((may_use names most (numbered old hub) state it).subscribers number who there) never) was)
 
   -- nothing was asked of a new hub
-  pub new_recorded : CallsBegin terms
+  pub new_recorded : CallsBegin terms (choices_of terms handed)
       → (config : HubConfig) (hub : Hub T U B D) → IsNewHub config hub
       → Recorded true (no_calls config) hub
   new_recorded begins config hub is =
@@ -332,7 +369,7 @@ module _ {T U B D : Type 0} (terms : Terms T U B D) (of_slices : AreOfSlices ter
         id = ap (λ table. table.id) is.table;
         all_fit = λ is. tt;
         told = told_none;
-        run = λ names decides_so answers_so own all few fit. (
+        run = λ names chosen_so own all few fit. (
           begins names config (numbered (no_calls config) hub) is_new,
           is.expired_connection_buffer,
           refl,
@@ -341,31 +378,33 @@ module _ {T U B D : Type 0} (terms : Terms T U B D) (of_slices : AreOfSlices ter
 
   -- what was asked and answered is a run of the machine
   pub answers_so : {fit : Bool} (calls : Calls T) (hub : Hub T U B D) → Run fit calls hub → Followed calls
-      → Answers terms.types (as_named terms.is_default) calls.config.expired_connection_buffer calls.asked false calls.answers
-  answers_so calls hub run (decides_so, answer_so, own, few, fit) =
-      let (called, same, known) = run (names_in calls.asked) decides_so answer_so own (all_among calls.asked) few fit in (
+      → Answers terms.types (choices_of terms handed) calls.config.expired_connection_buffer calls.asked false calls.answers
+  answers_so calls hub run (decides_so, replies_so, own, few, fit) =
+      let (called, same, known) = run (names_in calls.asked) (are_chosen terms handed decides_so replies_so) own (all_among
+      calls.asked) few fit in (
         calls.asked,
         [],
         called.state,
         sym (append-nil calls.asked),
         refl,
-        subst (λ (n : ℕ). Runs terms.types (as_named terms.is_default) n calls.asked new_state calls.answers called.state) same called.run,
+        subst (λ (n : ℕ). Runs terms.types (choices_of terms handed) n calls.asked new_state calls.answers called.state) same called.run,
       )
 
   -- by the premises it is known that all that was received fits
   pub known_so : {fit : Bool} (calls : Calls T) (hub : Hub T U B D) → Run fit calls hub → Followed calls → fit ≡ true
-  known_so calls hub run (decides_so, answer_so, own, few, fit) =
-      (run (names_in calls.asked) decides_so answer_so own (all_among calls.asked) few fit).2
+  known_so calls hub run (decides_so, replies_so, own, few, fit) =
+      (run (names_in calls.asked) (are_chosen terms handed decides_so replies_so) own (all_among calls.asked) few fit).2
 
   -- what the program holds may be used
-  pub may_be_used : {fit : Bool} → HeldMayBeUsed terms
+  pub may_be_used : {fit : Bool} → HeldMayBeUsed terms (choices_of terms handed)
       → (calls : Calls T) (hub : Hub T U B D) → Recorded fit calls hub → Followed calls → MayBeUsed (numbered calls hub)
-  may_be_used may calls hub recorded (decides_so, answers_so, own, few, fit) =
-      let (called, same, known) = recorded.run (names_in calls.asked) decides_so answers_so own (all_among calls.asked) few fit in
+  may_be_used may calls hub recorded (decides_so, replies_so, own, few, fit) =
+      let (called, same, known) = recorded.run (names_in calls.asked) (are_chosen terms handed decides_so replies_so) own (all_among
+      calls.asked) few fit in
       may (names_in calls.asked) (all_asked calls.asked) (numbered calls hub) called.state called.stands
 
-  pub node_recorded : {fit : Bool} → CallsGoOn terms
-      → NewNodeIsStep terms
+  pub node_recorded : {fit : Bool} → CallsGoOn terms (choices_of terms handed)
+      → NewNodeIsStep terms (choices_of terms handed)
       → (old : Calls T) (hub after : Hub T U B D) (answer : Result NodeHandle HubError)
       → answer ≡ Ok (record { hub = hub.table.id; number = one_more hub.nodes })
       → after ≡ record hub { nodes = one_more hub.nodes }
@@ -374,8 +413,8 @@ module _ {T U B D : Type 0} (terms : Terms T U B D) (of_slices : AreOfSlices ter
       plain_on goes_on old hub after command.Node (told_node answer) (ap (λ hub. hub.table.id) same)
       (steps (numbered old hub) after answer is same) was
 
-  pub put_recorded : {fit : Bool} → CallsGoOn terms
-      → SendSliceIsStep Slice terms
+  pub put_recorded : {fit : Bool} → CallsGoOn terms (choices_of terms handed)
+      → SendSliceIsStep Slice terms (choices_of terms handed)
       → (old : Calls T) (hub after : Hub T U B D) (number : ℕ) (lender : PortId) (values : List T)
       (answer : Option (Result (Sent T U) SendError)) → port_under (value_at old.made.publishers number) ≡ Some lender
       → IsDoneIf (may_lend hub_ports lender hub)
@@ -404,8 +443,8 @@ module _ {T U B D : Type 0} (terms : Terms T U B D) (of_slices : AreOfSlices ter
 
   -- a blocked send is tried again, or what isn't blocked is handed back
   pub retry_recorded : {fit : Bool} {W : Type 0}
-      → CallsGoOn terms
-      → RetryIsStep Slice terms
+      → CallsGoOn terms (choices_of terms handed)
+      → RetryIsStep Slice terms (choices_of terms handed)
       → (old : Calls T) (hub after : Hub T U B D) (number nanoseconds : ℕ) (sender : PortId) (waits : W)
       (answer : Result (Result (Sent T U) SendError) W) → port_under (value_at old.made.publishers number) ≡ Some sender
       → IsDoneOrBack (publisher_blocked sender.number (hub_ports sender.domain hub)) waits
@@ -430,8 +469,8 @@ module _ {T U B D : Type 0} (terms : Terms T U B D) (of_slices : AreOfSlices ter
       (retry_keeps terms.decides sender nanoseconds hub after answer tries)
       (steps number nanoseconds sender (numbered old hub) after answer there tries) was
 
-  pub give_up_recorded : {fit : Bool} → CallsGoOn terms
-      → GiveUpIsStep Slice terms
+  pub give_up_recorded : {fit : Bool} → CallsGoOn terms (choices_of terms handed)
+      → GiveUpIsStep Slice terms (choices_of terms handed)
       → (old : Calls T) (hub after : Hub T U B D) (number : ℕ) (sender : PortId) (answer : Option ℕ)
       → port_under (value_at old.made.publishers number) ≡ Some sender
       → EndsSend hub_ports with_hub_ports sender hub answer after
@@ -442,9 +481,9 @@ module _ {T U B D : Type 0} (terms : Terms T U B D) (of_slices : AreOfSlices ter
       (steps number sender (numbered old hub) after answer there ends) was
 
   -- a sample that came is told with its values; a subscriber that the program holds stands
-  pub receive_recorded : {fit : Bool} → CallsGoOn terms
-      → ReceiveIsStep Slice terms
-      → HeldMayBeUsed terms
+  pub receive_recorded : {fit : Bool} → CallsGoOn terms (choices_of terms handed)
+      → ReceiveIsStep Slice terms (choices_of terms handed)
+      → HeldMayBeUsed terms (choices_of terms handed)
       → (old : Calls T) (hub after : Hub T U B D) (number : ℕ) (receiver : PortId)
       (answer : Option (Result (Option (Sample T U Slice)) ReceiveError)) → value_at old.made.subscribers number ≡ Some receiver
       → IsDoneIf (subscriber_stands receiver.number (hub_ports receiver.domain hub))
@@ -468,7 +507,7 @@ module _ {T U B D : Type 0} (terms : Terms T U B D) (of_slices : AreOfSlices ter
             (reply.Received old.made.samples.next (vector values))
             (with_sample sample.port sample.taken old.made) old.factories (old.received ++ values ∷ [])
             (λ fits. (both_fit old.received (values ∷ []) fits).0)
-            (λ fits. steps number receiver (numbered old hub) after (Ok (Some sample))
+            (λ chosen_so fits. steps number receiver (numbered old hub) after (Ok (Some sample))
             (reply.Received old.made.samples.next (vector values)) there receives (
               vector values,
               there_is (payload_there sample after) (came_there terms.reader_degrades receiver hub after sample receives)
@@ -494,7 +533,7 @@ module _ {T U B D : Type 0} (terms : Terms T U B D) (of_slices : AreOfSlices ter
       (steps number receiver (numbered old hub) after (Err why) (reply.Refused (refusal.Receive why)) there receives refl) was)
 
   -- a subscriber that the program holds receives
-  pub receives_some : {fit : Bool} → HeldMayBeUsed terms
+  pub receives_some : {fit : Bool} → HeldMayBeUsed terms (choices_of terms handed)
       → (old : Calls T) (hub after : Hub T U B D) (number : ℕ) (receiver : PortId)
       (answer : Option (Result (Option (Sample T U Slice)) ReceiveError)) (named : Number)
       → value_at old.made.subscribers number ≡ Some receiver
@@ -509,13 +548,13 @@ module _ {T U B D : Type 0} (terms : Terms T U B D) (of_slices : AreOfSlices ter
   receives_some may_use old hub after number receiver (Some (Err why)) named there done was followed = refl
 
   -- what a sample that goes by a number is read as, the machine may answer
-  pub read_so : {fit : Bool} → CallsGoOn terms
-      → PayloadIsStep Slice terms
+  pub read_so : {fit : Bool} → CallsGoOn terms (choices_of terms handed)
+      → PayloadIsStep Slice terms (choices_of terms handed)
       → (calls : Calls T) (hub : Hub T U B D) (number : ℕ) (made : MadeSample) (values : List T)
       → value_at calls.made.samples number ≡ Some made → values_under hub_ports (Some made) hub ≡ Some values → Recorded fit calls hub
       → Followed (record calls { asked = calls.asked ++ command.Read number ∷ [] }) → length values < 2 ^ 63
       → (told : Vec T) × (vec_items told ≡ values)
-      × Answers terms.types (as_named terms.is_default) calls.config.expired_connection_buffer (calls.asked ++ command.Read number ∷ [])
+      × Answers terms.types (choices_of terms handed) calls.config.expired_connection_buffer (calls.asked ++ command.Read number ∷ [])
       false (calls.answers ++ reply.Values told ∷ [])
   read_so goes_on steps calls hub number made values there read was followed small = (
     vector values,
@@ -527,24 +566,24 @@ module _ {T U B D : Type 0} (terms : Terms T U B D) (of_slices : AreOfSlices ter
   )
 
   -- what the header of a sample that goes by a number tells as its sequence number, the machine may answer
-  pub sequence_so : {fit : Bool} → CallsGoOn terms
+  pub sequence_so : {fit : Bool} → CallsGoOn terms (choices_of terms handed)
       → (calls : Calls T) (hub : Hub T U B D) (number : ℕ) (made : MadeSample) (header : Header)
       → value_at calls.made.samples number ≡ Some made → Some header ≡ header_found made.taken (hub_ports made.port.domain hub)
       → Recorded fit calls hub → Followed (record calls { asked = calls.asked ++ command.Sequence number ∷ [] })
-      → Answers terms.types (as_named terms.is_default) calls.config.expired_connection_buffer (calls.asked ++ command.Sequence number ∷ [])
+      → Answers terms.types (choices_of terms handed) calls.config.expired_connection_buffer (calls.asked ++ command.Sequence number ∷ [])
       false (calls.answers ++ reply.Sequence header.sequence ∷ [])
   sequence_so goes_on calls hub number made header there is was followed =
       answers_so (then calls (command.Sequence number) (reply.Sequence header.sequence) calls.made calls.factories calls.received) hub
       (run_on goes_on calls hub hub (command.Sequence number) (reply.Sequence header.sequence) calls.made calls.factories
-      (by_slices (command.Sequence number) (numbered calls hub) (numbered calls hub) (reply.Sequence header.sequence)
+      (by_slices (command.Sequence number) (numbered calls hub) (numbered calls hub) (reply.Sequence header.sequence) tt
       (λ names most state it. (
         ap sequence_reply (sequence_told made.taken header (hub_ports made.port.domain hub) is
             ∙ sym (ap (λ (found : Option MadeSample). sequence_under hub_ports found hub) there)),
         refl,
       ))) was.run) followed
 
-  pub release_recorded : {fit : Bool} → CallsGoOn terms
-      → ReleaseIsStep Slice terms
+  pub release_recorded : {fit : Bool} → CallsGoOn terms (choices_of terms handed)
+      → ReleaseIsStep Slice terms (choices_of terms handed)
       → (old : Calls T) (hub after : Hub T U B D) (number : ℕ) (made : MadeSample) (released : Bool)
       → value_at old.made.samples number ≡ Some made
       → DropsSample hub_ports with_hub_ports made.port made.taken hub released after
@@ -567,7 +606,7 @@ module _ {T U B D : Type 0} (terms : Terms T U B D) (of_slices : AreOfSlices ter
       }
 
   -- a sample that goes by a number was held
-  pub release_held : {fit : Bool} → HeldMayBeUsed terms
+  pub release_held : {fit : Bool} → HeldMayBeUsed terms (choices_of terms handed)
       → (old : Calls T) (hub after : Hub T U B D) (number : ℕ) (made : MadeSample) (released : Bool)
       → value_at old.made.samples number ≡ Some made
       → DropsSample hub_ports with_hub_ports made.port made.taken hub released after
@@ -578,8 +617,8 @@ module _ {T U B D : Type 0} (terms : Terms T U B D) (of_slices : AreOfSlices ter
 
   -- ---- ports that come and leave
 
-  pub subscriber_ended : {fit : Bool} → CallsGoOn terms
-      → SubscriberLeaveIsStep Slice terms
+  pub subscriber_ended : {fit : Bool} → CallsGoOn terms (choices_of terms handed)
+      → SubscriberLeaveIsStep Slice terms (choices_of terms handed)
       → (old : Calls T) (hub after : Hub T U B D) (number : ℕ) (leaver : PortId) (left : Bool)
       → value_at old.made.subscribers number ≡ Some leaver
       → EndsSubscriber hub_ports with_hub_ports without_hub_subscriber leaver hub left after
@@ -610,8 +649,8 @@ module _ {T U B D : Type 0} (terms : Terms T U B D) (of_slices : AreOfSlices ter
       )
       rises false = was.rise
 
-  pub publisher_ended : {fit : Bool} → CallsGoOn terms
-      → PublisherLeaveIsStep Slice terms
+  pub publisher_ended : {fit : Bool} → CallsGoOn terms (choices_of terms handed)
+      → PublisherLeaveIsStep Slice terms (choices_of terms handed)
       → (old : Calls T) (hub after : Hub T U B D) (number : ℕ) (leaver : PortId) (left : Bool)
       → port_under (value_at old.made.publishers number) ≡ Some leaver
       → EndsPublisher hub_ports with_hub_ports without_hub_publisher leaver hub left after
@@ -660,9 +699,9 @@ module _ {T U B D : Type 0} (terms : Terms T U B D) (of_slices : AreOfSlices ter
         (publisher_config (owner_of_factory parts) named) header) (why_no_publisher (publisher_config (owner_of_factory parts) named))
         (hub_ports (domain_of_factory parts) hub) hub after answer makes
 
-    pub publisher_recorded : {fit : Bool} → CallsGoOn terms
+    pub publisher_recorded : {fit : Bool} → CallsGoOn terms (choices_of terms handed)
         → (named : PublisherOptions)
-        → PublisherIsStep terms (λ worst_case slots. slots ≡ unwrap_or named.preallocated_samples worst_case)
+        → PublisherIsStep terms (choices_of terms handed) (λ worst_case slots. slots ≡ unwrap_or named.preallocated_samples worst_case)
         → (header : U) (answer : Option (Result ℕ PublisherCreateError))
         → terms.is_default_header header
         → MakesAt (λ after. with_hub_ports (domain_of_factory parts) after hub)
@@ -692,14 +731,16 @@ module _ {T U B D : Type 0} (terms : Terms T U B D) (of_slices : AreOfSlices ter
           id = publisher_keeps named header (Some (Ok number)) makes ∙ was.id;
           all_fit = was.all_fit;
           told = told_too (command.Publisher factory named) (reply.PublisherMade old.made.publishers.next) was.told;
-          run = run_on goes_on old hub after (command.Publisher factory named) (reply.PublisherMade old.made.publishers.next)
-              (with_publisher (domain_of_factory parts) true number old.made) old.factories (steps factory parts named header
-              (numbered old hub) after (Ok number) there (λ worst_case slots is. is) default makes) was.run;
+          run = run_by goes_on old hub after (command.Publisher factory named) (reply.PublisherMade old.made.publishers.next)
+              (with_publisher (domain_of_factory parts) true number old.made) old.factories
+              (λ chosen_so. steps factory parts named header (numbered old hub) after (Ok number) there
+              (λ worst_case slots is. is) default makes (λ given is. chosen_so.publishers old.made.publishers.next named)) was.run;
         }
     publisher_recorded goes_on named steps header (Some (Err why)) default makes was =
         plain_on goes_on old hub after (command.Publisher factory named) (reply.Refused (refusal.Publisher why))
         (publisher_keeps named header (Some (Err why)) makes)
-        (steps factory parts named header (numbered old hub) after (Err why) there (λ worst_case slots is. is) default makes) was
+        (steps factory parts named header (numbered old hub) after (Err why) there (λ worst_case slots is. is) default makes
+        (λ given is. absurd (err_ok why given is))) was
 
     subscriber_keeps : (named : SubscriberOptions) (answer : Option (Result ℕ SubscriberCreateError))
         → MakesAt (λ after. with_hub_ports (domain_of_factory parts) after hub)
@@ -715,8 +756,8 @@ module _ {T U B D : Type 0} (terms : Terms T U B D) (of_slices : AreOfSlices ter
         (subscriber_config (owner_of_factory parts) named)) (why_no_subscriber (subscriber_config (owner_of_factory parts) named))
         (hub_ports (domain_of_factory parts) hub) hub after answer makes
 
-    pub subscriber_recorded : {fit : Bool} → CallsGoOn terms
-        → SubscriberIsStep terms
+    pub subscriber_recorded : {fit : Bool} → CallsGoOn terms (choices_of terms handed)
+        → SubscriberIsStep terms (choices_of terms handed)
         → (named : SubscriberOptions) (answer : Option (Result ℕ SubscriberCreateError))
         → MakesAt (λ after. with_hub_ports (domain_of_factory parts) after hub)
         (λ number. with_hub_subscriber (domain_of_factory parts) number (subscriber_handler terms.fixed_reader named))
@@ -744,11 +785,12 @@ module _ {T U B D : Type 0} (terms : Terms T U B D) (of_slices : AreOfSlices ter
           id = subscriber_keeps named (Some (Ok number)) makes ∙ was.id;
           all_fit = was.all_fit;
           told = told_too (command.Subscriber factory named) (reply.SubscriberMade old.made.subscribers.next) was.told;
-          run = run_on goes_on old hub after (command.Subscriber factory named) (reply.SubscriberMade old.made.subscribers.next)
+          run = run_by goes_on old hub after (command.Subscriber factory named) (reply.SubscriberMade old.made.subscribers.next)
               (with_subscriber (domain_of_factory parts) number old.made) old.factories
-              (steps factory parts named (numbered old hub) after (Ok number) there makes) was.run;
+              (λ chosen_so. steps factory parts named (numbered old hub) after (Ok number) there makes
+              (λ given is. chosen_so.subscribers old.made.subscribers.next named)) was.run;
         }
     subscriber_recorded goes_on steps named (Some (Err why)) makes was =
         plain_on goes_on old hub after (command.Subscriber factory named) (reply.Refused (refusal.Subscriber why))
         (subscriber_keeps named (Some (Err why)) makes)
-        (steps factory parts named (numbered old hub) after (Err why) there makes) was
+        (steps factory parts named (numbered old hub) after (Err why) there makes (λ given is. absurd (err_ok why given is))) was

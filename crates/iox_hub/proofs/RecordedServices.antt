@@ -37,14 +37,16 @@ use Rattle.iox_hub.proofs.RecordedRuns.{AreOfSlices, Recorded, Skips, Steps, by_
 use Rattle.iox_hub.specs.Recorded.{Calls, asked_too}
 use Rattle.iox_hub.specs.Recording.{OpensIf, calls_closed, calls_opened, numbered}
 use Rattle.iox_hub_commands.specs.Terms.{Terms}
+use Rattle.iox_hub.specs.Turns.{choices_of}
+use Rattle.iox_machine.specs.Choices.{Handed}
 
-module _ {T U B D : Type 0} (terms : Terms T U B D) (of_slices : AreOfSlices terms) where
+module _ {T U B D : Type 0} (terms : Terms T U B D) (of_slices : AreOfSlices terms) (handed : Handed B D) where
   abbrev GoesOn : Type 0
-  GoesOn = CallsGoOn terms
+  GoesOn = CallsGoOn terms (choices_of terms handed)
 
   abbrev Kept : Bool → Calls T → Hub T U B D → Type 0
   Kept fit calls hub
-      = Recorded terms of_slices fit calls hub
+      = Recorded terms of_slices handed fit calls hub
 
   -- a node asks for a service by a command, which is a step
   module _ {E : Type 0} (asked : Command T) (refused : E → Refusal) (node : ℕ)
@@ -54,16 +56,16 @@ module _ {T U B D : Type 0} (terms : Terms T U B D) (of_slices : AreOfSlices ter
       → after.table.id ≡ hub.table.id)
       (steps : (answer : Result ℕ Refusal) (table : FactoryTable) → is_node node hub.nodes ≡ true
       → asks old.factories hub answer table after
-      → Steps terms of_slices asked (numbered old hub) (factory_reply (Some answer)) (opened_then (numbered old hub) table after))
+      → Steps terms of_slices handed asked (numbered old hub) (factory_reply (Some answer)) (opened_then (numbered old hub) table after))
       (skips : is_node node hub.nodes ≡ false
-      → Skips terms of_slices asked old hub hub)
+      → Skips terms of_slices handed asked old hub hub)
     where
       asked_recorded : {fit : Bool} → GoesOn → (answer : Option (Result MadeFactory E))
           → OpensIf refused node asks old.factories hub answer after → Kept fit old hub
           → Kept fit (calls_opened asked refused answer old) after
       asked_recorded {fit} goes_on None (never, same) was =
           subst (λ (it : Hub T U B D). Kept fit (asked_too asked reply.Skipped old) it) (sym same)
-          (skipped_on terms of_slices goes_on old hub hub asked refl (λ names most state it. skips never) was)
+          (skipped_on terms of_slices handed goes_on old hub hub asked refl (λ names most state it. skips never) was)
       asked_recorded goes_on (Some (Ok factory)) (there, opens) was =
           let (factories, publishers, subscribers, loans, samples) = was.rise in record {
             rise = (
@@ -76,16 +78,17 @@ module _ {T U B D : Type 0} (terms : Terms T U B D) (of_slices : AreOfSlices ter
             id = keeps (Ok old.factories.next) (inserted old.factories factory) opens ∙ was.id;
             all_fit = was.all_fit;
             told = told_too asked (reply.FactoryMade old.factories.next) was.told;
-            run = run_on terms of_slices goes_on old hub after asked (reply.FactoryMade old.factories.next) old.made
+            run = run_on terms of_slices handed goes_on old hub after asked (reply.FactoryMade old.factories.next) old.made
                 (inserted old.factories factory) (steps (Ok old.factories.next) (inserted old.factories factory) there opens) was.run;
           }
       asked_recorded goes_on (Some (Err why)) (there, opens) was =
-          plain_on terms of_slices goes_on old hub after asked (reply.Refused (refused why)) (keeps (Err (refused why)) old.factories opens)
+          plain_on terms of_slices handed goes_on old hub after asked (reply.Refused (refused why)) (keeps (Err
+          (refused why)) old.factories opens)
           (steps (Err (refused why)) old.factories there opens) was
 
   module _ (old : Calls T) (hub after : Hub T U B D) (node : ℕ) (name : List ℕ) (named : PublishSubscribeOptions) where
     pub created_recorded : {fit : Bool} → GoesOn
-        → CreateIsStep terms
+        → CreateIsStep terms (choices_of terms handed)
         → (attributes : List Attribute) (answer : Option (Result MadeFactory PublishSubscribeCreateError))
         → OpensIf refusal.PublishSubscribeCreate node
         (CreatesAs (options.PublishSubscribe named) terms.payload terms.user_header terms.types node name attributes []) old.factories hub
@@ -110,7 +113,7 @@ module _ {T U B D : Type 0} (terms : Terms T U B D) (of_slices : AreOfSlices ter
         )) goes_on answer opens was
 
     pub opened_recorded : {fit : Bool} → GoesOn
-        → OpenIsStep terms
+        → OpenIsStep terms (choices_of terms handed)
         → (required : Required) (answer : Option (Result MadeFactory PublishSubscribeOpenError))
         → OpensIf refusal.PublishSubscribeOpen node
         (OpensAs (options.PublishSubscribe named) terms.payload terms.user_header terms.types node name required []) old.factories hub
@@ -135,7 +138,7 @@ module _ {T U B D : Type 0} (terms : Terms T U B D) (of_slices : AreOfSlices ter
         )) goes_on answer opens was
 
     pub either_recorded : {fit : Bool} → GoesOn
-        → OpenOrCreateIsStep terms
+        → OpenOrCreateIsStep terms (choices_of terms handed)
         → (required : Required) (answer : Option (Result MadeFactory PublishSubscribeOpenOrCreateError))
         → OpensIf refusal.PublishSubscribeOpenOrCreate node
         (EitherAs (options.PublishSubscribe named) terms.payload terms.user_header terms.types node name required []) old.factories hub
@@ -164,9 +167,9 @@ module _ {T U B D : Type 0} (terms : Terms T U B D) (of_slices : AreOfSlices ter
       (steps : List ForeignStep) (answer : Result (Unit {0}) HubError) → ActsNamed kind name terms.types steps hub answer after
       → Kept fit old hub → Kept fit (asked_too (command.Foreign kind name steps) (foreign_reply answer) old) after
   foreign_recorded goes_on old hub after kind name steps answer acts was =
-      plain_on terms of_slices goes_on old hub after (command.Foreign kind name steps) (foreign_reply answer)
+      plain_on terms of_slices handed goes_on old hub after (command.Foreign kind name steps) (foreign_reply answer)
       (foreign_keeps kind name terms.types steps hub after answer acts)
-      (by_slices terms of_slices (command.Foreign kind name steps) (numbered old hub) (numbered old after) (foreign_reply answer)
+      (by_slices terms of_slices handed (command.Foreign kind name steps) (numbered old hub) (numbered old after) (foreign_reply answer) tt
       (λ names most state it. (answer, acts, refl, refl))) was
 
   -- ---- a factory that is closed
@@ -178,7 +181,7 @@ module _ {T U B D : Type 0} (terms : Terms T U B D) (of_slices : AreOfSlices ter
   closed_rises (Err (why, Some factory)) number table rises = rises
 
   pub closed_recorded : {fit : Bool} {F : Type 0} → GoesOn
-      → CloseIsStep terms F
+      → CloseIsStep terms (choices_of terms handed) F
       → (old : Calls T) (hub after : Hub T U B D) (number : ℕ) (made : MadeFactory) (factory : F)
       (answer : Result (Unit {0}) (CloseError × Option F)) → value_at old.factories number ≡ Some made
       → Closes (parts_of made).0 (parts_of made).1 factory hub answer after
@@ -190,6 +193,6 @@ module _ {T U B D : Type 0} (terms : Terms T U B D) (of_slices : AreOfSlices ter
             ∙ was.id;
         all_fit = was.all_fit;
         told = told_too (command.Close number) (told_closed answer) was.told;
-        run = run_on terms of_slices goes_on old hub after (command.Close number) (told_closed answer) old.made
+        run = run_on terms of_slices handed goes_on old hub after (command.Close number) (told_closed answer) old.made
             (factories_then answer number old.factories) (steps number made factory (numbered old hub) after answer there closes) was.run;
       }

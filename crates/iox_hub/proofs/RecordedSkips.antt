@@ -1,6 +1,6 @@
 -- What a hub does where a call can't be made: nothing, as for a command that is skipped.
 use Rattle.std.proofs.Common.{◌≡◌, ◌∙◌, ◌==◌, ◌&&◌, ◌||◌, ℕ, Bool, true, false, not, Option, None, Some, refl, sym, ap, subst}
-use Rattle.std.proofs.Common.{if◌then◌else◌}
+use Rattle.std.proofs.Common.{if◌then◌else◌, Result, Ok, Err}
 use Rattle.std.specs.Option.{unwrap_or}
 use Rattle.iox_delivery.proofs.Ready.{sample_releases}
 use Rattle.iox_delivery.specs.Holding.{holds_message, publisher_blocked, publisher_stands}
@@ -25,7 +25,16 @@ use Rattle.iox_hub_commands.specs.DomainValues.declared.degradation.DegradationA
 use Rattle.iox_hub_commands.specs.DomainValues.declared.degradation.DegradationInfo.{DegradationInfo}
 use Rattle.iox_hub_commands.specs.Tables.{lender, port_under}
 use Rattle.iox_hub_commands.specs.declared.ports.made.MadePublisher.{MadePublisher}
+use Rattle.iox_hub_commands.specs.Terms.{Terms}
+use Rattle.iox_hub_commands.specs.declared.numbered_hub.NumberedHub.{NumberedHub}
 use Rattle.iox_hub_machine.proofs.Housed.{put_again}
+use Rattle.iox_hub_machine.proofs.TypedSteps.{IsChosen}
+use Rattle.iox_machine.specs.Choices.{Choices}
+use Rattle.iox_command.specs.declared.command.Command.{Command}
+use Rattle.iox_command.specs.declared.command.Command.TheVariants as command
+use Rattle.iox_command.specs.declared.reply.Reply.{Reply}
+use Rattle.iox_command.specs.declared.reply.Reply.TheVariants as reply
+use Rattle.iox_hub_commands.specs.DescribeBase.declared.type_detail.TypeVariant.TheVariants.{Dynamic}
 
 -- what is so isn't not so
 pub never_so : {X : Type 0} (b : Bool) → b ≡ true → b ≡ false → X
@@ -100,3 +109,20 @@ module _ {T U B D : Type 0} where
   drops_held number taken domain old hub (Some ports) true held drops = refl
   drops_held number taken domain old hub (Some ports) false held (after, releases, is) =
       absurd (sample_releases number taken ports after held releases)
+
+-- what is refused isn't done
+pub err_ok : {X E : Type 0} (why : E) (given : X) → ◌≡◌ {A = Result X E} (Err why) (Ok given) → ⊥
+err_ok why given e = cc
+
+module _ {T U B D : Type 0} (terms : Terms T U B D) (choices : Choices T) where
+  -- no port comes by a command that is skipped
+  pub skipped_chosen : (asked : Command T) (old : NumberedHub T U B D) → IsChosen Dynamic terms choices asked old reply.Skipped
+  skipped_chosen (command.Publisher factory options) old = λ told. absurd (differ told)
+    where
+      differ : ◌≡◌ {A = Reply T} reply.Skipped (reply.PublisherMade old.made.publishers.next) → ⊥
+      differ e = cc
+  skipped_chosen (command.Subscriber factory options) old = λ told. absurd (differ told)
+    where
+      differ : ◌≡◌ {A = Reply T} reply.Skipped (reply.SubscriberMade old.made.subscribers.next) → ⊥
+      differ e = cc
+  skipped_chosen other old = tt

@@ -7,6 +7,7 @@ pub mod RunLaws
 pub mod Turns
 pub mod HandledAnswers
 pub mod HandledLaws
+pub mod HandledGoing
 pub mod Recorded
 pub mod RecordedCalls
 pub mod RecordedNames

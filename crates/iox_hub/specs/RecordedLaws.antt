@@ -23,13 +23,13 @@ use Rattle.iox_hub_commands.specs.DomainValues.declared.degradation.DegradationA
 use Rattle.iox_hub_commands.specs.DomainValues.declared.degradation.DegradationCause.{DegradationCause}
 use Rattle.iox_hub_commands.specs.DomainValues.declared.degradation.DegradationInfo.{DegradationInfo}
 use Rattle.iox_hub_commands.specs.DomainValues.declared.port_error.SendError.TheVariants.{UnableToDeliver}
-use Rattle.iox_hub.specs.Recorded.{AreFollowed, Calls}
+use Rattle.iox_hub.specs.Recorded.{AreFollowed, Calls, all_handed, none_handed}
 use Rattle.iox_hub.specs.RecordedCalls.{IsAsAsked}
 use Rattle.iox_hub_machine.specs.RunLaws.{all_asked, names_in}
 use Rattle.iox_negotiate.specs.Laws.{IsMet}
 use Rattle.iox_negotiate_base.specs.declared.request.Opened.{Opened}
 use Rattle.iox_negotiate_machine.specs.Laws.{HaveOwnHashes}
-use Rattle.iox_machine.specs.Choices.{Choices}
+use Rattle.iox_machine.specs.Choices.{Choices, Handed}
 use Rattle.iox_machine.specs.Message.{Loan}
 use Rattle.iox_machine.specs.Ports.{subscriber_in}
 use Rattle.iox_machine.specs.Run.{Answers, Runs}
@@ -53,9 +53,11 @@ ReadsAsReceived {T} choices = (types : MessageTypeDetails) (buffer : ℕ) (befor
 abbrev pub ReadsAreFollowed : (T : Type 0) → {B D : Type 0} → (BackpressureStrategy → Option BackpressureAction → DegradationAction → B)
     → (B → DegradationCause → DegradationInfo → DegradationAction → Type 0) → (B → BackpressureInfo → BackpressureDecision → Type 0)
     → (DegradationAction → D) → (D → DegradationCause → DegradationInfo → DegradationAction → Type 0) → Type 0
-ReadsAreFollowed T fixed degrades decides fixed_reader reader_degrades = (calls : Calls T) (sample : ℕ)
-    → AreFollowed fixed degrades decides fixed_reader reader_degrades calls → all_asked calls.asked + 1 < 2 ^ 56
-    → AreFollowed fixed degrades decides fixed_reader reader_degrades (record calls { asked = calls.asked ++ command.Read sample ∷ [] })
+ReadsAreFollowed T {B} {D} fixed degrades decides fixed_reader reader_degrades =
+    (handed : Handed B D) (calls : Calls T) (sample : ℕ)
+    → AreFollowed fixed degrades decides fixed_reader reader_degrades handed calls → all_asked calls.asked + 1 < 2 ^ 56
+    → AreFollowed fixed degrades decides fixed_reader reader_degrades handed
+    (record calls { asked = calls.asked ++ command.Read sample ∷ [] })
 
 -- The premises without the one about handlers: no two services of the names that are asked for share a hash, the calls and the actions of
 -- other nodes that they name are fewer than 2 ^ 56, and each received message fits in a vector.
@@ -63,13 +65,24 @@ abbrev pub StandUndecided : {T : Type 0} → Calls T → Type 0
 StandUndecided calls = HaveOwnHashes (names_in calls.asked) × (all_asked calls.asked < 2 ^ 56)
     × AllByRecursion (λ values. length values < 2 ^ 63) calls.received
 
--- If the premises without the one about handlers hold, all premises hold: handlers of these types decide by the fixed actions of which they
--- are made.
+-- If the premises without the one about handlers hold, all premises hold of a machine whose ports do what their options name: handlers of
+-- these types decide by the fixed actions of which they are made.
 abbrev pub DecidesForCalls : (T : Type 0) → {B D : Type 0} → (BackpressureStrategy → Option BackpressureAction → DegradationAction → B)
     → (B → DegradationCause → DegradationInfo → DegradationAction → Type 0) → (B → BackpressureInfo → BackpressureDecision → Type 0)
     → (DegradationAction → D) → (D → DegradationCause → DegradationInfo → DegradationAction → Type 0) → Type 0
 DecidesForCalls T fixed degrades decides fixed_reader reader_degrades = (calls : Calls T) → StandUndecided calls
-    → AreFollowed fixed degrades decides fixed_reader reader_degrades calls
+    → AreFollowed fixed degrades decides fixed_reader reader_degrades none_handed calls
+
+-- If all handlers of a type are one value, whatever actions they are made of, the premises without the one about handlers are all premises
+-- of a machine whose ports have this value.
+abbrev pub OneDecidesForCalls : (T : Type 0) → {B D : Type 0} → (BackpressureStrategy → Option BackpressureAction → DegradationAction → B)
+    → (B → DegradationCause → DegradationInfo → DegradationAction → Type 0) → (B → BackpressureInfo → BackpressureDecision → Type 0)
+    → (DegradationAction → D) → (D → DegradationCause → DegradationInfo → DegradationAction → Type 0) → Type 0
+OneDecidesForCalls T {B} {D} fixed degrades decides fixed_reader reader_degrades = (who : B) (reader : D) (calls : Calls T)
+    → ((strategy : BackpressureStrategy) (action : Option BackpressureAction) (degrading : DegradationAction)
+    → fixed strategy action degrading ≡ who)
+    → ((degrading : DegradationAction) → fixed_reader degrading ≡ reader) → StandUndecided calls
+    → AreFollowed fixed degrades decides fixed_reader reader_degrades (all_handed who reader) calls
 
 -- The description that was read under the hash of this name meets each clause of these options and attributes, and is within the limits of
 -- a description; or it is exactly what is required.

@@ -3,6 +3,7 @@ use Rattle.std.specs.Prelude.{ℕ, max, Option, None, Some, option_map, Result, 
 use Rattle.std.specs.Option.{unwrap_or}
 use Rattle.iox_command.specs.declared.port.PublisherOptions.{PublisherOptions}
 use Rattle.iox_command.specs.declared.port.SubscriberOptions.{SubscriberOptions}
+use Rattle.iox_delivery.specs.DescribeBase.declared.type_detail.TypeVariant.TheVariants.{Dynamic}
 use Rattle.iox_delivery.specs.Domain.PortSettings.{publisher_defaults}
 use Rattle.iox_delivery.specs.declared.port.Port.{Port}
 use Rattle.iox_delivery.specs.declared.publisher.PublisherSide.{PublisherSide}
@@ -42,11 +43,13 @@ closed_by number (Ok done) = Ok done
 closed_by number (Err (why, None)) = Err (why, None)
 closed_by number (Err (why, Some it)) = Err (why, Some (record { it = it; number = number }))
 
--- A publisher's strategy, and how many values a loan may have at first: as the options name them, or else the defaults.
+-- A publisher's strategy, and how many values a loan may have at first: as the options name them, or else the defaults. Its payloads are
+-- slices.
 abbrev pub publisher_side : PublisherOptions → PublisherSide
 publisher_side options = record {
   strategy = unwrap_or options.backpressure_strategy publisher_defaults.strategy;
   initial_max_slice_len = unwrap_or options.initial_max_slice_len publisher_defaults.initial_max_slice_len;
+  payload = Dynamic;
 }
 
 -- The buffer size of a subscriber: the one that the options name, at least 1, or else the maximum of the service.

@@ -29,13 +29,23 @@ use Rattle.iox_hub_commands.specs.DescribeBase.declared.attribute.Attribute.{Att
 use Rattle.iox_hub_commands.specs.DescribeBase.declared.message_type.MessageTypeDetails.{MessageTypeDetails}
 use Rattle.iox_hub_base.specs.declared.hub.Hub.{Hub}
 use Rattle.iox_hub_base.specs.declared.hub.HubConfig.{HubConfig}
+use Rattle.iox_hub_commands.specs.DomainValues.declared.backpressure.BackpressureAction.{BackpressureAction}
+use Rattle.iox_hub_commands.specs.DomainValues.declared.backpressure.BackpressureDecision.{BackpressureDecision}
+use Rattle.iox_hub_commands.specs.DomainValues.declared.backpressure.BackpressureInfo.{BackpressureInfo}
+use Rattle.iox_hub_commands.specs.DomainValues.declared.backpressure_strategy.BackpressureStrategy.{BackpressureStrategy}
+use Rattle.iox_hub_commands.specs.DomainValues.declared.degradation.DegradationAction.{DegradationAction}
+use Rattle.iox_hub_commands.specs.DomainValues.declared.degradation.DegradationCause.{DegradationCause}
+use Rattle.iox_hub_commands.specs.DomainValues.declared.degradation.DegradationInfo.{DegradationInfo}
 use Rattle.iox_hub_commands.specs.Lives.{NumbersRise}
+use Rattle.iox_hub_commands.specs.Naming.{publisher_handlers, subscriber_handler}
 use Rattle.iox_hub_commands.specs.declared.numbered_hub.NumberedHub.{NumberedHub}
-use Rattle.iox_hub_machine.specs.ArrivalLaws.{AnswersAsFixed, DecidesAsFixed}
+use Rattle.iox_hub_machine.specs.ArrivalLaws.{AnswersAsChosen, DecidesAsChosen}
 use Rattle.iox_hub_machine.specs.RunLaws.{AsksAmong, all_asked}
 use Rattle.iox_hub_machine.specs.TypedRuns.{HasCalled}
 use Rattle.iox_negotiate_machine.specs.Laws.{HaveOwnHashes}
 use Rattle.iox_command.specs.declared.command.Command.TheVariants as command
+use Rattle.iox_command.specs.declared.port.PublisherOptions.{PublisherOptions}
+use Rattle.iox_command.specs.declared.port.SubscriberOptions.{SubscriberOptions}
 use Rattle.iox_command.specs.declared.refusal.Refusal.{Refusal}
 use Rattle.iox_command.specs.declared.refusal.Refusal.TheVariants as refusal
 use Rattle.iox_command.specs.declared.command.Command.{Command}
@@ -52,7 +62,9 @@ use Rattle.iox_hub_commands.specs.declared.ports.made.Made.{Made}
 use Rattle.iox_hub_commands.specs.declared.ports.made.MadeSample.{MadeSample}
 use Rattle.iox_hub_commands.specs.declared.services.made.MadeFactory.{MadeFactory}
 use Rattle.iox_hub.specs.Recorded.{Calls, asked_too}
+use Rattle.iox_hub.specs.Turns.{choices_of}
 use Rattle.iox_hub_commands.specs.Terms.{Terms}
+use Rattle.iox_machine.specs.Choices.{Choices, Handed}
 
 -- The record of a hub that wasn't asked anything yet.
 abbrev pub no_calls : {T : Type 0} → HubConfig → Calls T
@@ -198,23 +210,43 @@ module _ {T U B D : Type 0} where
     pledged = record { loans = 0; samples = 0 };
   }
 
+-- Whatever the handlers that are made of a port's options may decide and answer may be chosen for the port, whichever number it has.
+pub record AreChosen {T B D : Type 0} (choices : Choices T)
+    (fixed : BackpressureStrategy → Option BackpressureAction → DegradationAction → B)
+    (degrades : B → DegradationCause → DegradationInfo → DegradationAction → Type 0)
+    (decides : B → BackpressureInfo → BackpressureDecision → Type 0) (fixed_reader : DegradationAction → D)
+    (reader_degrades : D → DegradationCause → DegradationInfo → DegradationAction → Type 0) : Type 0 where
+  pub publishers : (number : ℕ) (named : PublisherOptions)
+      → DecidesAsChosen choices degrades decides (publisher_handlers fixed named) number named
+  pub subscribers : (number : ℕ) (named : SubscriberOptions)
+      → AnswersAsChosen choices reader_degrades (subscriber_handler fixed_reader named) number named
+
 -- The parameters: the terms of the hub.
 module _ {T U B D : Type 0} (terms : Terms T U B D) where
-  -- The calls were a run of the machine, and the hub represents the state that the run reached; the hub has its configuration, and `fit` is
-  -- true. This holds for any names that include those that were asked for, and of which no two services share a hash.
-  abbrev pub IsRun : Bool → Calls T → Hub T U B D → Type 0
-  IsRun fit calls hub = (names : List (List ℕ)) → DecidesAsFixed terms.fixed terms.degrades terms.decides
-      → AnswersAsFixed terms.fixed_reader terms.reader_degrades
+  -- The calls were a run of the machine that has these handlers, and the hub represents the state that the run reached; the hub has its
+  -- configuration, and `fit` is true. This holds for any names that include those that were asked for, and of which no two services share a
+  -- hash, if whatever the handlers of ports may decide may be chosen for them.
+  abbrev pub IsRun : Handed B D → Bool → Calls T → Hub T U B D → Type 0
+  IsRun handed fit calls hub = (names : List (List ℕ))
+      → AreChosen (choices_of terms handed) terms.fixed terms.degrades terms.decides terms.fixed_reader terms.reader_degrades
       → HaveOwnHashes names → AllByRecursion (AsksAmong names) calls.asked → all_asked calls.asked < 2 ^ 56 → AllFit calls.received
-      → HasCalled terms names calls.asked calls.answers (numbered calls hub)
+      → HasCalled terms (choices_of terms handed) names calls.asked calls.answers (numbered calls hub)
       × (hub.expired_connection_buffer ≡ calls.config.expired_connection_buffer)
       × (fit ≡ true)
 
   -- `IsRun` holds; the numbers of what the program holds rise; the hub has the id of its configuration; if `fit` is true, each received
   -- message fits in a vector; and each sample that the program holds was received.
+  pub record IsRecordedBy (handed : Handed B D) (fit : Bool) (calls : Calls T) (hub : Hub T U B D) : Type 0 where
+    pub rise : NumbersRise (numbered calls hub)
+    pub id : hub.table.id ≡ calls.config.id
+    pub all_fit : fit ≡ true → AllFit calls.received
+    pub told : HaveTold calls.made.samples calls.asked calls.answers
+    pub run : IsRun handed fit calls hub
+
+  -- This holds for any handlers that the machine may have.
   pub record IsRecorded (fit : Bool) (calls : Calls T) (hub : Hub T U B D) : Type 0 where
     pub rise : NumbersRise (numbered calls hub)
     pub id : hub.table.id ≡ calls.config.id
     pub all_fit : fit ≡ true → AllFit calls.received
     pub told : HaveTold calls.made.samples calls.asked calls.answers
-    pub run : IsRun fit calls hub
+    pub run : (handed : Handed B D) → IsRun handed fit calls hub

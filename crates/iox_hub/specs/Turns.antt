@@ -16,7 +16,12 @@ use Rattle.iox_hub.specs.Taking.{places_of}
 use Rattle.iox_hub.specs.declared.given.GivenHandler.{GivenHandler}
 use Rattle.iox_hub.specs.declared.handled_command.HandledCommand.{HandledCommand}
 use Rattle.iox_hub.specs.declared.handled_command.HandledCommand.TheVariants as asked
-use Rattle.iox_machine.specs.Choices.{Handed}
+use Rattle.iox_hub_commands.specs.Terms.{Terms}
+use Rattle.iox_machine.specs.Choices.{Choices, Handed, chosen_by}
+
+-- The choices by which ports that were handed handlers do what these may answer, and every other port what was named for it.
+abbrev pub choices_of : {T U B D : Type 0} → Terms T U B D → Handed B D → Choices T
+choices_of terms handed = chosen_by terms.is_default terms.decides terms.degrades terms.reader_degrades handed
 
 -- The command without the places that it names.
 abbrev pub without_places : {T : Type 0} → HandledCommand T → Command T

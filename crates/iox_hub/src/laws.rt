@@ -1,6 +1,7 @@
 //! Theorems about runs: consequences of their contracts. Each is the contract of a function that does nothing.
 ghost use Rattle.iox_hub_commands.specs.CommandSteps.{Step};
 ghost use Rattle.iox_hub_commands.specs.Terms.{terms_of};
+ghost use Rattle.iox_hub.specs.HandledGoing.{HandledRunsGoOn, TwoRunsAreOne};
 ghost use Rattle.iox_hub.specs.HandledLaws.{HandledRunsAnswer, HandledRunsStand};
 ghost use Rattle.iox_hub.specs.RunLaws.{PlainRunsArePlain};
 ghost use Rattle.iox_hub.specs.Steps.{HandledStep};
@@ -64,3 +65,34 @@ pub fn runs_with_handlers_stand<
     new_hub_begins::<T, U, B, D>();
     decided_runs_go_on::<T, U, B, D>();
 }
+
+/// From any state that a hub represents, a run with handlers goes on as the machine does from there, under the same premises as
+/// [`runs_with_handlers_answer`]. The machine may have further handlers for other ports, so any number of runs, one after the other, are
+/// one run of a machine that has the handlers of all.
+pub fn runs_with_handlers_go_on<
+    T: Words + ZeroCopySend + Default,
+    U: Copy + ZeroCopySend + Default,
+    B: TakesHandlers<P, D>,
+    D: SubscriberHandler,
+    P: Drop,
+>()
+    ensures { HandledRunsGoOn (terms_of T.name T.size T.alignment T.is_default U.name U.size U.alignment U.is_default B.fixed
+        (λ handlers. B.degrades handlers) (λ handlers. B.decides handlers) D.fixed (λ handler. D.degrades handler))
+        (λ strategy action degrading at_full at_failure. B.handled strategy action degrading at_full at_failure) }
+{
+    decided_runs_go_on::<T, U, B, D>();
+}
+
+/// Runs that replied to all, one after the other, are one run of a machine that has the handlers of all, under the premises of each: what
+/// `run` and `step` ensure of themselves (`joins`) is all that it takes. Commands and actions of other nodes are counted together.
+pub fn two_runs_are_one<
+    T: Words + ZeroCopySend + Default,
+    U: Copy + ZeroCopySend + Default,
+    B: TakesHandlers<P, D>,
+    D: SubscriberHandler,
+    P: Drop,
+>()
+    ensures { TwoRunsAreOne (terms_of T.name T.size T.alignment T.is_default U.name U.size U.alignment U.is_default B.fixed
+        (λ handlers. B.degrades handlers) (λ handlers. B.decides handlers) D.fixed (λ handler. D.degrades handler))
+        (λ strategy action degrading at_full at_failure. B.handled strategy action degrading at_full at_failure) }
+{}

@@ -7,7 +7,7 @@
 //!
 //! let asked = hub.service_builder(&node, ServiceName::new(b"odometry")?).publish_subscribe::<Slice<u64>>();
 //! let service = asked.open_or_create_in(alloc, &mut hub, Vec::new(alloc))?;
-//! let builder = hub.publisher_builder(&service)?.initial_max_slice_len(8);
+//! let builder = hub.slice_publisher_builder(&service)?.initial_max_slice_len(8);
 //! let publisher = builder.create_slice(alloc, &mut hub)?;
 //! ```
 pub use crate::slice;

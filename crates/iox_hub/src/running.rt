@@ -10,6 +10,7 @@ ghost use Rattle.iox_hub_commands.specs.PortRoom.{HasRoom, KeepsRoom};
 ghost use Rattle.iox_hub_commands.specs.Runs.{IsRun};
 ghost use Rattle.iox_hub_commands.specs.Terms.{terms_of};
 ghost use Rattle.iox_hub.specs.HandledAnswers.{AnswersWithHandlers};
+ghost use Rattle.iox_hub.specs.HandledGoing.{GoesOnWithHandlers};
 ghost use Rattle.iox_hub.specs.Room.{StopsInTime};
 ghost use Rattle.iox_hub.specs.Steps.{HandledStep};
 ghost use Rattle.iox_hub.specs.Taking.{TakesOnce, taken};
@@ -17,7 +18,7 @@ ghost use Rattle.iox_hub.specs.Taking.{TakesOnce, taken};
 use crate::given::GivenHandlers;
 use crate::handled_command::HandledCommand;
 use crate::handlers::TakesHandlers;
-use crate::laws::runs_with_handlers_answer;
+use crate::laws::{runs_with_handlers_answer, runs_with_handlers_go_on};
 use crate::stepping::step;
 use iox_describe_base::ZeroCopySend;
 use iox_hub_commands::{NumberedHub, RunReport, SubscriberHandler};
@@ -69,7 +70,13 @@ pub fn run<
         B.fixed (λ strategy action degrading at_full at_failure. B.handled strategy action degrading at_full at_failure)
         (λ handlers. B.degrades handlers) (λ handlers. B.decides handlers) D.fixed (λ handler. D.degrades handler) config
         commands.entry.items hub.old given.old.places.items result.replies.items result.stopped }
+    // From any state that the hub represents, the machine may give these replies, so that runs join.
+    ensures joins { GoesOnWithHandlers (terms_of T.name T.size T.alignment T.is_default U.name U.size U.alignment U.is_default B.fixed
+        (λ handlers. B.degrades handlers) (λ handlers. B.decides handlers) D.fixed (λ handler. D.degrades handler))
+        (λ strategy action degrading at_full at_failure. B.handled strategy action degrading at_full at_failure) commands.entry.items
+        hub.old given.old.places.items result.replies.items result.stopped hub.new }
 {
+    runs_with_handlers_go_on::<T, U, B, D, P>();
     runs_with_handlers_answer::<T, U, B, D, P>();
     carry_out_all(hub, alloc, commands, given)
 }

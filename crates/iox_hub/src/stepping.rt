@@ -6,12 +6,14 @@ ghost use Rattle.iox_hub_commands.specs.Lives.{ChangesOneThing};
 ghost use Rattle.iox_hub_commands.specs.Numbers.{numbers_used};
 ghost use Rattle.iox_hub_commands.specs.PortRoom.{HasRoom, KeepsRoom};
 ghost use Rattle.iox_hub_commands.specs.Terms.{terms_of};
+ghost use Rattle.iox_hub.specs.HandledGoing.{StepGoesOnWithHandlers};
 ghost use Rattle.iox_hub.specs.Room.{HandledLacks};
 ghost use Rattle.iox_hub.specs.Steps.{HandledStep};
 
 use crate::given::GivenHandlers;
 use crate::handled_command::HandledCommand;
 use crate::handlers::TakesHandlers;
+use crate::laws::runs_with_handlers_go_on;
 use crate::making::{publisher, subscriber};
 use iox_command::Reply;
 use iox_describe_base::ZeroCopySend;
@@ -52,7 +54,13 @@ pub fn step<
     ensures apart { OneDomainMoves hub.old.hub hub.new.hub }
     ensures room { KeepsRoom hub.old hub.new }
     ensures lacks { HasRoom hub.old → OnErr result (HandledLacks command.entry hub.old hub.new) }
+    // From any state that the hub represents, the machine may give this reply, so that steps and runs join.
+    ensures joins { StepGoesOnWithHandlers (terms_of T.name T.size T.alignment T.is_default U.name U.size U.alignment U.is_default B.fixed
+        (λ handlers. B.degrades handlers) (λ handlers. B.decides handlers) D.fixed (λ handler. D.degrades handler))
+        (λ strategy action degrading at_full at_failure. B.handled strategy action degrading at_full at_failure) command.entry hub.old
+        given.old.places.items result hub.new }
 {
+    runs_with_handlers_go_on::<T, U, B, D, P>();
     carry_out(hub, alloc, command, given)
 }
 

@@ -26,7 +26,7 @@ pub mod Released
 pub mod Absent
 pub mod GivenUp
 pub mod ComesNamed
-mod NamedLater
+pub mod NamedLater
 pub mod ComesServed
 pub mod Used
 pub mod InUse
@@ -99,6 +99,7 @@ pub mod FewHeld
 pub mod Openings
 pub mod OpeningsOrCreations
 pub mod TypedSteps
+pub mod TypedHandlers
 pub mod TypedPublishing
 pub mod TypedSubscribing
 pub mod TypedLending

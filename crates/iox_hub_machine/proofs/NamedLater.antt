@@ -60,7 +60,7 @@ module _ {T B D : Type 0} (fixed : BackpressureStrategy → Option BackpressureA
 
 module _ {T U B D : Type 0} (choices : Choices T) where
   -- who decides by fixed actions for a publisher that comes decides as may be chosen
-  decided : (fixed : BackpressureStrategy → Option BackpressureAction → DegradationAction → B)
+  pub decided : (fixed : BackpressureStrategy → Option BackpressureAction → DegradationAction → B)
       (degrades : B → DegradationCause → DegradationInfo → DegradationAction → Type 0)
       (decides : B → BackpressureInfo → BackpressureDecision → Type 0) → DecidesAsFixed fixed degrades decides
       → (hub : NumberedHub T U B D) → MayBeNamedLater choices hub → (options : PublisherOptions)
@@ -81,7 +81,7 @@ module _ {T U B D : Type 0} (choices : Choices T) where
       }
 
   -- who answers a fixed action for a subscriber that comes answers as may be chosen
-  answered : (fixed_reader : DegradationAction → D)
+  pub answered : (fixed_reader : DegradationAction → D)
       (reader_degrades : D → DegradationCause → DegradationInfo → DegradationAction → Type 0) → AnswersAsFixed fixed_reader reader_degrades
       → (hub : NumberedHub T U B D) → MayBeNamedLater choices hub → (options : SubscriberOptions)
       → AnswersAsChosen choices reader_degrades (subscriber_handler fixed_reader options) hub.made.subscribers.next options

@@ -68,7 +68,7 @@ use Rattle.iox_hub_machine.specs.Standing.{PortsStandFor, held_in, lent_in}
 use Rattle.iox_hub_machine.specs.TypedHeaders.{ChangesUserHeader, HeaderIsStep, HeaderNamesPublisher, HeaderReadAsSent}
 use Rattle.iox_hub_machine.specs.TypedHeaders.{UserHeadersKeepStanding, UserHeadersNeedNoCommand}
 use Rattle.iox_hub_machine.specs.TypedTerms.{asked_terms}
-use Rattle.iox_machine.specs.Choices.{Choices, as_named}
+use Rattle.iox_machine.specs.Choices.{Choices}
 use Rattle.iox_machine.specs.Run.{Runs}
 use Rattle.iox_machine.specs.Service.{Service}
 use Rattle.iox_machine.specs.State.{State, new_state}
@@ -250,7 +250,7 @@ sequence_told taken header (Some ports) is = sequence_by_port taken header (port
 
 -- ---- the laws
 
-module _ {T U B D : Type 0} (variant : TypeVariant) (terms : Terms T U B D) where
+module _ {T U B D : Type 0} (variant : TypeVariant) (terms : Terms T U B D) (choices : Choices T) where
   -- the terms of a hub whose messages are values, or slices of them
   abbrev terms_so : Terms T U B D
   terms_so = asked_terms variant terms
@@ -261,38 +261,38 @@ module _ {T U B D : Type 0} (variant : TypeVariant) (terms : Terms T U B D) wher
 
   -- the publishers of which a user header is written, if the slot is lent, or in any case
   its_test : (lender : PortId) (slot : ℕ) (written : U) (old later : Hub T U B D)
-      → ChangesUserHeader terms_so lender slot written old later
+      → ChangesUserHeader terms_so choices lender slot written old later
       → (test : PublisherPort T U → Bool)
       × (later ≡ changed_at (λ after. with_hub_ports lender.domain after old)
       (written_in lender.number test slot (write_user_header written)) (hub_ports lender.domain old) old)
   its_test lender slot written old later (inl writes) = ((λ publisher. has_loan slot publisher.sender.uses), writes)
   its_test lender slot written old later (inr is) = ((λ publisher. true), is)
 
-  pub user_headers_keep : UserHeadersKeepStanding terms_so
+  pub user_headers_keep : UserHeadersKeepStanding terms_so choices
   user_headers_keep slot lender written old hub names most state changes it =
       let (test, is) = its_test lender slot written old.hub hub changes in
-      subst (λ (one : Hub T U B D). StandsAfter types (as_named terms.is_default) terms.degrades terms.decides terms.reader_degrades names
+      subst (λ (one : Hub T U B D). StandsAfter types choices terms.degrades terms.decides terms.reader_degrades names
       most (record old { hub = one }) state) (sym is)
-      (header_keeps types (as_named terms.is_default) terms.degrades terms.decides terms.reader_degrades lender.domain lender.number slot
+      (header_keeps types choices terms.degrades terms.decides terms.reader_degrades lender.domain lender.number slot
       test written old names most state it)
 
-  pub user_headers_need_none : UserHeadersNeedNoCommand terms_so
+  pub user_headers_need_none : UserHeadersNeedNoCommand terms_so choices
   user_headers_need_none slot lender written old hub names asked answers changes called =
       let (test, is) = its_test lender slot written old.hub hub changes in record {
         state = called.state;
-        run = subst (λ (n : ℕ). Runs types (as_named terms.is_default) n asked new_state answers called.state)
+        run = subst (λ (n : ℕ). Runs types choices n asked new_state answers called.state)
             (sym (ap (λ (one : Hub T U B D). one.expired_connection_buffer) is
-            ∙ header_buffer types (as_named terms.is_default) terms.degrades terms.decides terms.reader_degrades lender.domain lender.number
+            ∙ header_buffer types choices terms.degrades terms.decides terms.reader_degrades lender.domain lender.number
             slot test written old)) called.run;
         stands = user_headers_keep slot lender written old hub names _ called.state changes called.stands;
       }
 
-  pub header_names : HeaderNamesPublisher terms_so
+  pub header_names : HeaderNamesPublisher terms_so choices
   header_names names most hub state number made header it there found =
-      let goes = sample_goes (as_named terms.is_default) terms.degrades terms.decides terms.reader_degrades it.naming it.order hub state
+      let goes = sample_goes choices terms.degrades terms.decides terms.reader_degrades it.naming it.order hub state
       it.stands.ports number made there in
       let id = made.port.domain in
-      let placed = some_place (as_named terms.is_default) terms.degrades terms.decides terms.reader_degrades it.naming it.order hub state
+      let placed = some_place choices terms.degrades terms.decides terms.reader_degrades it.naming it.order hub state
       it.stands.ports id goes.ports goes.found in
       let (sample, has, tells) = header_matches T U (it.naming id.service) (those_of id.service (lent_in hub.made))
       (those_of id.service (held_in hub.made)) hub.hub.expired_connection_buffer goes.ports placed.service number made.taken placed.stands
@@ -309,14 +309,14 @@ module _ {T U B D : Type 0} (variant : TypeVariant) (terms : Terms T U B D) wher
             ∙ (it.stands.ports.publishers.known publisher port port_there).0),
       )
 
-  pub header_read_as_sent : HeaderReadAsSent terms_so
+  pub header_read_as_sent : HeaderReadAsSent terms_so choices
   header_read_as_sent names most hub state number made sent it there tell =
-      let goes = sample_goes (as_named terms.is_default) terms.degrades terms.decides terms.reader_degrades it.naming it.order hub state
+      let goes = sample_goes choices terms.degrades terms.decides terms.reader_degrades it.naming it.order hub state
       it.stands.ports number made there in
       let id = made.port.domain in
       let ports = goes.ports in
       let found = goes.found in
-      let placed = some_place (as_named terms.is_default) terms.degrades terms.decides terms.reader_degrades it.naming it.order hub state
+      let placed = some_place choices terms.degrades terms.decides terms.reader_degrades it.naming it.order hub state
       it.stands.ports id ports found in
       let lent = those_of id.service (lent_in hub.made) in
       let held = those_of id.service (held_in hub.made) in
@@ -341,9 +341,9 @@ module _ {T U B D : Type 0} (variant : TypeVariant) (terms : Terms T U B D) wher
             ∙ (it.stands.ports.publishers.known publisher port port_there).0),
       )
 
-  pub header_is_step : HeaderIsStep terms_so
+  pub header_is_step : HeaderIsStep terms_so choices
   header_is_step number made old header there found =
-      by_step variant terms (command.Sequence number) old old (reply.Sequence header.sequence) (λ names most state it. (
+      by_step variant terms choices (command.Sequence number) tt old old (reply.Sequence header.sequence) (λ names most state it. (
         sym (ap (λ (one : Option MadeSample). sequence_reply (sequence_under hub_ports one old.hub)) there
             ∙ ap sequence_reply (sequence_told made.taken header (hub_ports made.port.domain old.hub) found)),
         refl,

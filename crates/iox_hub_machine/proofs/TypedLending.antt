@@ -79,7 +79,7 @@ use Rattle.iox_hub_machine.specs.TypedSteps.{having_lent, hub_after_call, told_l
 use Rattle.iox_hub_machine.specs.TypedTerms.{asked_terms}
 use Rattle.iox_machine.specs.State.{State}
 use Rattle.iox_machine.specs.Table.{at}
-use Rattle.iox_machine.specs.Choices.{as_named}
+use Rattle.iox_machine.specs.Choices.{Choices}
 
 -- ---- loans of one value
 
@@ -257,7 +257,7 @@ module _ {T U B D : Type 0} where
     sends_values who values old hub answer (Err why, middle, lends, (is, same)) =
         (Err (refusal.LoanError why), (Err why, middle, lends, (refl, same)), is)
 
-module _ {T U B D : Type 0} (variant : TypeVariant) (terms : Terms T U B D) where
+module _ {T U B D : Type 0} (variant : TypeVariant) (terms : Terms T U B D) (choices : Choices T) where
   -- the terms of a hub whose messages are values, or slices of them
   abbrev terms_so : Terms T U B D
   terms_so = asked_terms variant terms
@@ -268,7 +268,7 @@ module _ {T U B D : Type 0} (variant : TypeVariant) (terms : Terms T U B D) wher
 
   abbrev Stood : NumberedHub T U B D → Type 0
   Stood old = (names : List (List ℕ)) × (most : ℕ) × (state : State T)
-      × Stands variant terms names most old state
+      × Stands variant terms choices names most old state
 
   -- who goes by a number may lend, if no send of it waits
   ready_is : (number length : ℕ) (who : PortId) (old : NumberedHub T U B D) → port_under (value_at old.made.publishers number) ≡ Some who
@@ -277,18 +277,18 @@ module _ {T U B D : Type 0} (variant : TypeVariant) (terms : Terms T U B D) wher
   ready_is number length who old there free (names, most, state, it) =
       let blocked : Bool = publisher_blocked who.number (hub_ports who.domain old.hub) in
       ap (λ (found : Option PortId). ready hub_ports found old.hub)
-      (lends_here variant terms number length who old names most state it there)
+      (lends_here variant terms choices number length who old names most state it there)
       ∙ ap (λ (up : Bool). cond (up && not blocked) (Some who) None) (it.stands.ports.publishers.known number who there).1
       ∙ ap (λ (b : Bool). cond (not b) (Some who) None) free
 
   module _ (K : Type 0) where
     abbrev Lends : (number length : ℕ) → NumberedHub T U B D → Hub T U B D → Result (Lent T U K Written) LoanError → Type 0
     Lends number length old hub answer =
-        Does variant terms
+        Does variant terms choices
         (command.Loan number length) old (told_loan answer old.made) (hub_after_call old (having_lent answer old.made) hub)
 
     lent_does : (number length : ℕ) (who : PortId) (value : T) (old : NumberedHub T U B D) (hub : Hub T U B D) (lent : Result ℕ LoanError)
-        → terms.is_default value → ready hub_ports (lender length (value_at old.made.publishers number)) old.hub ≡ Some who
+        → choices.is_default value → ready hub_ports (lender length (value_at old.made.publishers number)) old.hub ≡ Some who
         → LendsFilled hub_ports with_hub_ports who length value old.hub lent hub → Lends number length old hub (written_of who lent)
     lent_does number length who value old hub (Ok slot) default there lends = (
       (
@@ -323,14 +323,14 @@ module _ {T U B D : Type 0} (variant : TypeVariant) (terms : Terms T U B D) wher
       refl,
     )
 
-    pub loan_is_step : LoanIsStep K terms_so
+    pub loan_is_step : LoanIsStep K terms_so choices
     loan_is_step number length who old hub answer there free (value, default, lent, lends, is) =
-        by_step variant terms
-        (command.Loan number length) old (hub_after_call old (having_lent answer old.made) hub) (told_loan answer old.made)
+        by_step variant terms choices
+        (command.Loan number length) tt old (hub_after_call old (having_lent answer old.made) hub) (told_loan answer old.made)
         (λ names most state it. subst (λ (a : Result (Lent T U K Written) LoanError). Lends number length old hub a) (sym is)
         (lent_does number length who value old hub lent default (ready_is number length who old there free (names, most, state, it)) lends))
 
-    pub loan_of_one_is_step : LoanOfOneIsStep K terms_so
+    pub loan_of_one_is_step : LoanOfOneIsStep K terms_so choices
     loan_of_one_is_step number who old hub answer there free (value, default, lent, lends, is) =
         loan_is_step number 1 who old hub answer there free (value, default, lent, one_fills who value old.hub hub lent lends, is)
 
@@ -341,7 +341,7 @@ module _ {T U B D : Type 0} (variant : TypeVariant) (terms : Terms T U B D) wher
         → ready hub_ports (lender (length values) (value_at old.made.publishers number)) old.hub ≡ Some who
         → SendsSlice hub_ports with_hub_ports (publisher_may_degrade terms.degrades) (publisher_may_decide terms.decides) who values old.hub
         answer hub
-        → Does variant terms (command.Put number values) old (told_sent answer) (hub_after_call old old.made hub)
+        → Does variant terms choices (command.Put number values) old (told_sent answer) (hub_after_call old old.made hub)
     puts_does number who values old hub answer there puts =
         let (outcome, sends, is) = sends_values terms.degrades terms.decides who values old.hub hub answer puts in (
           (
@@ -353,9 +353,9 @@ module _ {T U B D : Type 0} (variant : TypeVariant) (terms : Terms T U B D) wher
           refl,
         )
 
-    pub send_slice_is_step : SendSliceIsStep K terms_so
+    pub send_slice_is_step : SendSliceIsStep K terms_so choices
     send_slice_is_step number who values old hub answer there free puts =
-        by_step variant terms (command.Put number values) old (hub_after_call old old.made hub) (told_sent answer)
+        by_step variant terms choices (command.Put number values) tt old (hub_after_call old old.made hub) (told_sent answer)
         (λ names most state it. puts_does number who values old hub answer
         (ready_is number (length values) who old there free (names, most, state, it)) puts)
 
@@ -367,9 +367,9 @@ module _ {T U B D : Type 0} (variant : TypeVariant) (terms : Terms T U B D) wher
     lent_once number slot who old made middle there (names, most, state, it) lends are =
         let stands = it.stands.ports in
         let id = who.domain in
-        let goes = goes_by_number (as_named terms.is_default) terms.degrades terms.decides terms.reader_degrades it.naming it.order old
+        let goes = goes_by_number choices terms.degrades terms.decides terms.reader_degrades it.naming it.order old
         state stands number who there in
-        let (service, its) = some_service (as_named terms.is_default) terms.degrades terms.decides terms.reader_degrades it.naming it.order
+        let (service, its) = some_service choices terms.degrades terms.decides terms.reader_degrades it.naming it.order
         old state stands id goes.ports goes.found in
         let names_of = it.naming id.service in
         let lent = those_of id.service (lent_in old.made) in
@@ -385,7 +385,7 @@ module _ {T U B D : Type 0} (variant : TypeVariant) (terms : Terms T U B D) wher
         let (after, loans, is) = subst (λ (ports : Option (ServicePorts T U)). AtDomain (λ (one : ServicePorts T U). with_hub_ports id one
         old.hub) (LoansBy who.number 1 1) ports old.hub (Some (Ok slot)) middle) goes.found lends in
         let (name, (service_then, does, then))
-        = lend_uninit_matches T U (as_named terms.is_default) types buffer names_of lent held goes.ports after service
+        = lend_uninit_matches T U choices types buffer names_of lent held goes.ports after service
         state who.number 1 (Some (Ok slot)) its (roomy_there id goes.ports old.hub it.ran.grown goes.found).sound goes.some none loans in
         let same : after ≡ made =
         same_some after made (sym (ap (hub_ports id) is ∙ put_there id after old.hub (ap is_some goes.found)) ∙ are) in
@@ -430,23 +430,23 @@ module _ {T U B D : Type 0} (variant : TypeVariant) (terms : Terms T U B D) wher
           ),
         )
 
-    pub send_copy_is_step : SendCopyIsStep K terms_so
+    pub send_copy_is_step : SendCopyIsStep K terms_so choices
     send_copy_is_step number who value old hub answer there free sends =
-        by_step variant terms (command.Put number (value ∷ [])) old (hub_after_call old old.made hub) (told_sent answer)
+        by_step variant terms choices (command.Put number (value ∷ [])) tt old (hub_after_call old old.made hub) (told_sent answer)
         (λ names most state it. puts_does number who (value ∷ []) old hub answer
         (ready_is number 1 who old there free (names, most, state, it))
         (copy_is_slice number who value old hub answer there (names, most, state, it) sends))
 
     -- ---- one value is written
 
-    pub write_one_is_step : WriteOneIsStep K terms_so
+    pub write_one_is_step : WriteOneIsStep K terms_so choices
     write_one_is_step number made value old hub there writes =
-        by_step variant terms (command.Fill number (value ∷ [])) old (hub_after_call old old.made hub) _ (λ names most state it.
+        by_step variant terms choices (command.Fill number (value ∷ [])) tt old (hub_after_call old old.made hub) _ (λ names most state it.
         let stands = it.stands.ports in
         let id = made.port.domain in
-        let goes = loan_goes (as_named terms.is_default) terms.degrades terms.decides terms.reader_degrades it.naming it.order old state
+        let goes = loan_goes choices terms.degrades terms.decides terms.reader_degrades it.naming it.order old state
         stands number made there in
-        let (service, its) = some_service (as_named terms.is_default) terms.degrades terms.decides terms.reader_degrades it.naming it.order
+        let (service, its) = some_service choices terms.degrades terms.decides terms.reader_degrades it.naming it.order
         old state stands id goes.ports goes.found in
         let out : LentSlot = (lent_slot made).1 in
         let alone = is_there (it.naming id.service) (those_of id.service (lent_in old.made)) (those_of id.service (held_in old.made))
@@ -470,14 +470,14 @@ module _ {T U B D : Type 0} (variant : TypeVariant) (terms : Terms T U B D) wher
 
     -- ---- values are written one after the other
 
-    pub write_each_is_step : WriteEachIsStep K terms_so
+    pub write_each_is_step : WriteEachIsStep K terms_so choices
     write_each_is_step number made loan values old hub there out count (writes, whole) =
-        by_step variant terms (command.Fill number values) old (hub_after_call old old.made hub) _ (λ names most state it.
+        by_step variant terms choices (command.Fill number values) tt old (hub_after_call old old.made hub) _ (λ names most state it.
         let stands = it.stands.ports in
         let id = made.port.domain in
-        let goes = loan_goes (as_named terms.is_default) terms.degrades terms.decides terms.reader_degrades it.naming it.order old state
+        let goes = loan_goes choices terms.degrades terms.decides terms.reader_degrades it.naming it.order old state
         stands number made there in
-        let (service, its) = some_service (as_named terms.is_default) terms.degrades terms.decides terms.reader_degrades it.naming it.order
+        let (service, its) = some_service choices terms.degrades terms.decides terms.reader_degrades it.naming it.order
         old state stands id goes.ports goes.found in
         let slot_of : LentSlot = (lent_slot made).1 in
         let names_of = it.naming id.service in
@@ -507,14 +507,14 @@ module _ {T U B D : Type 0} (variant : TypeVariant) (terms : Terms T U B D) wher
 
     -- ---- one value changes
 
-    pub change_is_step : ChangeIsStep K terms_so
+    pub change_is_step : ChangeIsStep K terms_so choices
     change_is_step number place made value old hub there is_there_to_set changes =
-        by_step variant terms (command.Set number place value) old (hub_after_call old old.made hub) _ (λ names most state it.
+        by_step variant terms choices (command.Set number place value) tt old (hub_after_call old old.made hub) _ (λ names most state it.
         let stands = it.stands.ports in
         let id = made.port.domain in
-        let goes = loan_goes (as_named terms.is_default) terms.degrades terms.decides terms.reader_degrades it.naming it.order old state
+        let goes = loan_goes choices terms.degrades terms.decides terms.reader_degrades it.naming it.order old state
         stands number made there in
-        let (service, its) = some_service (as_named terms.is_default) terms.degrades terms.decides terms.reader_degrades it.naming it.order
+        let (service, its) = some_service choices terms.degrades terms.decides terms.reader_degrades it.naming it.order
         old state stands id goes.ports goes.found in
         let out : LentSlot = (lent_slot made).1 in
         let names_of = it.naming id.service in

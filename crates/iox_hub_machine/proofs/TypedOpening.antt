@@ -53,7 +53,7 @@ use Rattle.iox_hub_machine.specs.TypedOpening.{CreateIsStep, ForeignIsStep, Open
 use Rattle.iox_hub_machine.specs.TypedSteps.{IsStepBy, hub_after_call}
 use Rattle.iox_hub_machine.specs.TypedTerms.{asked_terms}
 use Rattle.iox_machine.specs.Asked.{settings_of}
-use Rattle.iox_machine.specs.Choices.{as_named}
+use Rattle.iox_machine.specs.Choices.{Choices}
 use Rattle.iox_negotiate.specs.Factory.{membership}
 use Rattle.iox_negotiate.specs.declared.factory.Membership.{Membership}
 use Rattle.iox_negotiate_table.specs.Contents.{Contents, entry_at}
@@ -140,7 +140,7 @@ module _ {T U B D E : Type 0} (payload user_header : Detail) (kind : MessagingPa
         still ∙ ap (λ (it : Contents). record old { table = it }) same,
       )
 
-module _ {T U B D : Type 0} (variant : TypeVariant) (terms : Terms T U B D) where
+module _ {T U B D : Type 0} (variant : TypeVariant) (terms : Terms T U B D) (choices : Choices T) where
   -- the terms of a hub whose messages are values, or slices of them
   abbrev terms_so : Terms T U B D
   terms_so = asked_terms variant terms
@@ -225,7 +225,7 @@ module _ {T U B D : Type 0} (variant : TypeVariant) (terms : Terms T U B D) wher
 
     module _ (named : ServiceOptions) (attributes : List Attribute) (there : is_node node old.hub.nodes ≡ true) where
       abbrev IsStep : Type 0
-      IsStep = IsStepBy terms_so
+      IsStep = IsStepBy terms_so choices
           (command.Create node name named attributes steps) old (factory_reply (Some answer)) (opened_then old table hub)
 
       -- it is a step where it does what the command does
@@ -233,8 +233,8 @@ module _ {T U B D : Type 0} (variant : TypeVariant) (terms : Terms T U B D) wher
           → IsRefusedFirst (settings_of types named) (first_look (asked_by named) steps old.hub) refused → Unless named attributes refused
           → IsStep
       as_commanded refused first unless =
-          by_step variant terms
-          (command.Create node name named attributes steps) old (opened_then old table hub) (factory_reply (Some answer))
+          by_step variant terms choices
+          (command.Create node name named attributes steps) tt old (opened_then old table hub) (factory_reply (Some answer))
           (λ names most state it. (
             Some answer,
             subst (λ (b : Bool). CreatesNumbered b terms.payload terms.user_header types (asked_by named) attributes steps
@@ -248,10 +248,10 @@ module _ {T U B D : Type 0} (variant : TypeVariant) (terms : Terms T U B D) wher
           → CreatesAs named terms.payload terms.user_header types node name attributes (lists_of name types steps) old.factories.made
           old.hub answer table hub
           → table ≡ old.factories.made → hub ≡ old.hub → IsStep
-      as_standing fits creates same still names most state decides_so answers_so own asks few it =
+      as_standing fits creates same still names most state own asks few it =
           let numbers = it.ran.numbers in
           let locks = it.ran.locks in
-          let followed = creation_followed variant terms (as_named terms.is_default) names node name named attributes steps asks
+          let followed = creation_followed variant terms choices names node name named attributes steps asks
           it.taken it.naming it.order old (opened_then old table hub) state own (record {
             rise = it.ran.rise.0;
             factories = omega (arith, few, numbers);
@@ -268,8 +268,8 @@ module _ {T U B D : Type 0} (variant : TypeVariant) (terms : Terms T U B D) wher
                 naming = followed.naming;
                 order = followed.order;
                 stands = followed.stands;
-                came = subst (λ (n : ℕ). IsCome types (as_named terms.is_default) n followed.after) (sym buffer)
-                    (came_more types (as_named terms.is_default) old.hub.expired_connection_buffer
+                came = subst (λ (n : ℕ). IsCome types choices n followed.after) (sym buffer)
+                    (came_more types choices old.hub.expired_connection_buffer
                     (command.Create node name named attributes steps) state followed.after (factory_reply (Some answer)) it.came
                     followed.step);
                 ran = subst (λ (h : NumberedHub T U B D). RanAtMost (most + (1 + length steps)) h)
@@ -301,15 +301,16 @@ module _ {T U B D : Type 0} (variant : TypeVariant) (terms : Terms T U B D) wher
       step_so None is unless creates keeps (Some lying.Described) finds =
           let (same, still) = keeps refl finds in as_standing is creates same still
 
-  pub create_is_step : CreateIsStep terms_so
+  pub create_is_step : CreateIsStep terms_so choices
   create_is_step node name named attributes steps old hub answer table there formed creates =
       let (refused, is_refused, unless, keeps) = creates_by node name steps old hub answer table formed named attributes creates in
       step_so node name steps old hub answer table formed named attributes there refused is_refused unless creates keeps
       (first_look (record { node = node; name = name; options = named }) steps old.hub) refl
 
-  pub open_is_step : OpenIsStep terms_so
+  pub open_is_step : OpenIsStep terms_so choices
   open_is_step node name named required steps old hub answer table there formed opens =
-      by_step variant terms (command.Open node name named required steps) old (opened_then old table hub) (factory_reply (Some answer))
+      by_step variant terms choices (command.Open node name named required steps) tt old (opened_then old table hub) (factory_reply
+      (Some answer))
       (λ names most state it. (
         Some answer,
         subst (λ (b : Bool). OpensNumbered b terms.payload terms.user_header types (record { node = node; name = name; options = named })
@@ -325,10 +326,10 @@ module _ {T U B D : Type 0} (variant : TypeVariant) (terms : Terms T U B D) wher
         refl,
       ))
 
-  pub open_or_create_is_step : OpenOrCreateIsStep terms_so
+  pub open_or_create_is_step : OpenOrCreateIsStep terms_so choices
   open_or_create_is_step node name named required steps old hub answer table there formed does =
-      by_step variant terms
-      (command.OpenOrCreate node name named required steps) old (opened_then old table hub) (factory_reply (Some answer))
+      by_step variant terms choices
+      (command.OpenOrCreate node name named required steps) tt old (opened_then old table hub) (factory_reply (Some answer))
       (λ names most state it. (
         Some answer,
         subst (λ (b : Bool). EitherNumbered b terms.payload terms.user_header types (record { node = node; name = name; options = named })
@@ -344,7 +345,7 @@ module _ {T U B D : Type 0} (variant : TypeVariant) (terms : Terms T U B D) wher
         refl,
       ))
 
-  pub foreign_is_step : ForeignIsStep terms_so
+  pub foreign_is_step : ForeignIsStep terms_so choices
   foreign_is_step kind name steps old hub answer formed acts =
-      by_step variant terms (command.Foreign kind name steps) old (hub_after_call old old.made hub) (foreign_reply answer)
+      by_step variant terms choices (command.Foreign kind name steps) tt old (hub_after_call old old.made hub) (foreign_reply answer)
       (λ names most state it. (answer, inl (acts, formed), refl, refl))

@@ -36,7 +36,7 @@ use Rattle.iox_hub_machine.specs.TypedPublishing.{RetryIsStep, SendIsStep, Write
 use Rattle.iox_hub_machine.specs.TypedSteps.{having_lent, hub_after_call, told_loan, told_sent}
 use Rattle.iox_hub_machine.specs.TypedTerms.{asked_terms}
 use Rattle.iox_machine.specs.State.{State}
-use Rattle.iox_machine.specs.Choices.{as_named}
+use Rattle.iox_machine.specs.Choices.{Choices}
 
 -- what a send is told as
 pub sent_alike : (T U : Type 0) (sender : PortId) (outcome : Result Sending SendError)
@@ -45,7 +45,7 @@ sent_alike T U sender (Ok (sending.Delivered count)) = refl
 sent_alike T U sender (Ok sending.Blocked) = refl
 sent_alike T U sender (Err why) = refl
 
-module _ {T U B D : Type 0} (variant : TypeVariant) (terms : Terms T U B D) where
+module _ {T U B D : Type 0} (variant : TypeVariant) (terms : Terms T U B D) (choices : Choices T) where
   -- the terms of a hub whose messages are values, or slices of them
   abbrev terms_so : Terms T U B D
   terms_so = asked_terms variant terms
@@ -56,7 +56,7 @@ module _ {T U B D : Type 0} (variant : TypeVariant) (terms : Terms T U B D) wher
 
   -- whoever goes by a number may lend slices
   pub lends_here : (number length : ℕ) (who : PortId) (old : NumberedHub T U B D) (names : List (List ℕ)) (most : ℕ) (state : State T)
-      → Stands variant terms names most old state
+      → Stands variant terms choices names most old state
       → port_under (value_at old.made.publishers number) ≡ Some who
       → lender length (value_at old.made.publishers number) ≡ Some who
   lends_here number length who old names most state it there =
@@ -65,7 +65,7 @@ module _ {T U B D : Type 0} (variant : TypeVariant) (terms : Terms T U B D) wher
   module _ (K : Type 0) where
     abbrev Asked : (number length : ℕ) → NumberedHub T U B D → Hub T U B D → Result (Lent T U K Uninit) LoanError → Type 0
     Asked number length old hub answer =
-        Does variant terms
+        Does variant terms choices
         (command.LoanUninit number length) old (told_loan answer old.made) (hub_after_call old (having_lent answer old.made) hub)
 
     uninit_does : (number length : ℕ) (who : PortId) (old : NumberedHub T U B D) (hub : Hub T U B D) (lent : Result ℕ LoanError)
@@ -99,16 +99,16 @@ module _ {T U B D : Type 0} (variant : TypeVariant) (terms : Terms T U B D) wher
       refl,
     )
 
-    pub loan_uninit_is_step : LoanUninitIsStep K terms_so
+    pub loan_uninit_is_step : LoanUninitIsStep K terms_so choices
     loan_uninit_is_step number length who old hub answer there (lent, lends, is) =
-        by_step variant terms
-        (command.LoanUninit number length) old (hub_after_call old (having_lent answer old.made) hub) (told_loan answer old.made)
+        by_step variant terms choices
+        (command.LoanUninit number length) tt old (hub_after_call old (having_lent answer old.made) hub) (told_loan answer old.made)
         (λ names most state it. subst (λ (a : Result (Lent T U K Uninit) LoanError). Asked number length old hub a) (sym is)
         (uninit_does number length who old hub lent (lends_here number length who old names most state it there) lends))
 
-    pub write_is_step : WriteIsStep K terms_so
+    pub write_is_step : WriteIsStep K terms_so choices
     write_is_step number made values old hub there writes =
-        by_step variant terms (command.Fill number values) old (hub_after_call old old.made hub) _ (λ names most state it. (
+        by_step variant terms choices (command.Fill number values) tt old (hub_after_call old old.made hub) _ (λ names most state it. (
           (
             is_filled hub_ports values (Some made) old.hub,
             ap (λ (found : Option MadeLoan). is_filled hub_ports values found old.hub) (sym there),
@@ -118,13 +118,14 @@ module _ {T U B D : Type 0} (variant : TypeVariant) (terms : Terms T U B D) wher
           refl,
         ))
 
-    pub drop_is_step : DropIsStep K terms_so
+    pub drop_is_step : DropIsStep K terms_so choices
     drop_is_step number made old hub there gives =
-        by_step variant terms (command.Drop number) old (hub_after_call old (without_loan number old.made) hub) _ (λ names most state it.
+        by_step variant terms choices (command.Drop number) tt old (hub_after_call old (without_loan number old.made) hub) _
+        (λ names most state it.
         let ports = it.stands.ports in
-        let goes = loan_goes (as_named terms.is_default) terms.degrades terms.decides terms.reader_degrades it.naming it.order old state
+        let goes = loan_goes choices terms.degrades terms.decides terms.reader_degrades it.naming it.order old state
         ports number made there in
-        let out = is_out (as_named terms.is_default) terms.is_default_header terms.degrades terms.decides terms.reader_degrades types
+        let out = is_out choices terms.is_default_header terms.degrades terms.decides terms.reader_degrades types
         it.naming it.order old old state ports number it.ran.grown made there goes.ports goes.found goes.mine in (
           (
             true,
@@ -136,9 +137,10 @@ module _ {T U B D : Type 0} (variant : TypeVariant) (terms : Terms T U B D) wher
           refl,
         ))
 
-    pub send_is_step : SendIsStep K terms_so
+    pub send_is_step : SendIsStep K terms_so choices
     send_is_step number made old hub answer there (outcome, sends, is) =
-        by_step variant terms (command.Send number) old (hub_after_call old (without_loan number old.made) hub) _ (λ names most state it. (
+        by_step variant terms choices (command.Send number) tt old (hub_after_call old (without_loan number old.made) hub) _
+        (λ names most state it. (
           (
             Some outcome,
             subst (λ (found : Option MadeLoan). SendsUnder hub_ports with_hub_ports (publisher_may_degrade terms.degrades)
@@ -149,9 +151,10 @@ module _ {T U B D : Type 0} (variant : TypeVariant) (terms : Terms T U B D) wher
           refl,
         ))
 
-    pub retry_is_step : RetryIsStep K terms_so
+    pub retry_is_step : RetryIsStep K terms_so choices
     retry_is_step number nanoseconds who old hub answer there (outcome, tries, is) =
-        by_step variant terms (command.Retry number nanoseconds) old (hub_after_call old old.made hub) _ (λ names most state it. (
+        by_step variant terms choices (command.Retry number nanoseconds) tt old (hub_after_call old old.made hub) _
+        (λ names most state it. (
           (
             Some outcome,
             subst (λ (found : Option PortId). AtPort (Retries hub_ports with_hub_ports (publisher_may_decide terms.decides) nanoseconds)
@@ -161,9 +164,9 @@ module _ {T U B D : Type 0} (variant : TypeVariant) (terms : Terms T U B D) wher
           refl,
         ))
 
-    pub give_up_is_step : GiveUpIsStep K terms_so
+    pub give_up_is_step : GiveUpIsStep K terms_so choices
     give_up_is_step number who old hub answer there ends =
-        by_step variant terms (command.GiveUp number) old (hub_after_call old old.made hub) _ (λ names most state it. (
+        by_step variant terms choices (command.GiveUp number) tt old (hub_after_call old old.made hub) _ (λ names most state it. (
           (
             answer,
             subst (λ (found : Option PortId). AtPort (GivesUp hub_ports with_hub_ports) found old.hub answer hub) (sym there) ends,
@@ -172,9 +175,10 @@ module _ {T U B D : Type 0} (variant : TypeVariant) (terms : Terms T U B D) wher
           refl,
         ))
 
-    pub publisher_update_is_step : PublisherUpdateIsStep K terms_so
+    pub publisher_update_is_step : PublisherUpdateIsStep K terms_so choices
     publisher_update_is_step number who old hub answer there follows =
-        by_step variant terms (command.Update (port.Publisher number)) old (hub_after_call old old.made hub) _ (λ names most state it. (
+        by_step variant terms choices (command.Update (port.Publisher number)) tt old (hub_after_call old old.made hub) _
+        (λ names most state it. (
           (
             Some answer,
             subst (λ (found : Option PortId). AtPort (Follows hub_ports with_hub_ports (publisher_may_degrade terms.degrades)) found old.hub
@@ -184,9 +188,9 @@ module _ {T U B D : Type 0} (variant : TypeVariant) (terms : Terms T U B D) wher
           refl,
         ))
 
-    pub publisher_leave_is_step : PublisherLeaveIsStep K terms_so
+    pub publisher_leave_is_step : PublisherLeaveIsStep K terms_so choices
     publisher_leave_is_step number who old hub left there ends =
-        by_step variant terms (command.Leave (port.Publisher number)) old _ _ (λ names most state it. (
+        by_step variant terms choices (command.Leave (port.Publisher number)) tt old _ _ (λ names most state it. (
           (
             left,
             subst (λ (found : Option PortId). AtPortIf (PublisherGoes hub_ports with_hub_ports without_hub_publisher) found old.hub left

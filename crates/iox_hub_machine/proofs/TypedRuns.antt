@@ -12,9 +12,9 @@ use Rattle.iox_hub_machine.specs.TypedRuns.{CallsBegin, CallsGoOn}
 use Rattle.iox_hub_machine.specs.TypedTerms.{asked_terms}
 use Rattle.iox_machine.specs.Run.{Runs}
 use Rattle.iox_machine.specs.State.{new_state}
-use Rattle.iox_machine.specs.Choices.{as_named}
+use Rattle.iox_machine.specs.Choices.{Choices}
 
-module _ {T U B D : Type 0} (variant : TypeVariant) (terms : Terms T U B D) where
+module _ {T U B D : Type 0} (variant : TypeVariant) (terms : Terms T U B D) (choices : Choices T) where
   -- the terms of a hub whose messages are values, or slices of them
   abbrev terms_so : Terms T U B D
   terms_so = asked_terms variant terms
@@ -23,24 +23,24 @@ module _ {T U B D : Type 0} (variant : TypeVariant) (terms : Terms T U B D) wher
   abbrev types : MessageTypeDetails
   types = asked_types variant terms.payload terms.user_header
 
-  pub calls_begin : CallsBegin terms_so
+  pub calls_begin : CallsBegin terms_so choices
   calls_begin names config hub is_new = record {
     state = new_state;
     run = (refl, refl);
-    stands = hub_begins types (as_named terms.is_default) terms.degrades terms.decides terms.reader_degrades names config hub is_new;
+    stands = hub_begins types choices terms.degrades terms.decides terms.reader_degrades names config hub is_new;
   }
 
-  pub calls_go_on : CallsGoOn terms_so
-  calls_go_on names asked answers one answer old new decides_so answers_so own asks few called does =
-      let (next, same) = does names (all_asked asked) called.state decides_so answers_so own asks few called.stands in
+  pub calls_go_on : CallsGoOn terms_so choices
+  calls_go_on names asked answers one answer old new own asks few called does =
+      let (next, same) = does names (all_asked asked) called.state own asks few called.stands in
       let both = both_asked asked (one ∷ []) in
       let even : all_asked asked + (1 + steps_named one) ≡ all_asked (asked ++ one ∷ []) = omega (arith, both) in record {
         state = next.after;
-        run = subst (λ (n : ℕ). Runs types (as_named terms.is_default) n (asked ++ one ∷ []) new_state (answers ++ answer ∷ []) next.after)
+        run = subst (λ (n : ℕ). Runs types choices n (asked ++ one ∷ []) new_state (answers ++ answer ∷ []) next.after)
             (sym same)
-            (came_by types (as_named terms.is_default) old.hub.expired_connection_buffer asked one new_state called.state next.after answers
+            (came_by types choices old.hub.expired_connection_buffer asked one new_state called.state next.after answers
             answer
             called.run next.step);
-        stands = subst (λ (n : ℕ). StandsAfter types (as_named terms.is_default) terms.degrades terms.decides terms.reader_degrades names n
+        stands = subst (λ (n : ℕ). StandsAfter types choices terms.degrades terms.decides terms.reader_degrades names n
             new next.after) even next.stands;
       }

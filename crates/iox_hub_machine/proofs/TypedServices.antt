@@ -14,6 +14,9 @@ use Rattle.iox_command.specs.NegotiateBase.declared.errors.close.CloseError.TheV
 use Rattle.iox_command.specs.declared.command.Command.TheVariants as command
 use Rattle.iox_command.specs.declared.port.PublisherOptions.{PublisherOptions}
 use Rattle.iox_command.specs.declared.port.SubscriberOptions.{SubscriberOptions}
+use Rattle.iox_command.specs.declared.refusal.Refusal.TheVariants as refusal
+use Rattle.iox_command.specs.declared.reply.Reply.{Reply}
+use Rattle.iox_command.specs.declared.reply.Reply.TheVariants as reply
 use Rattle.iox_container.specs.NumberTable.{removed, value_at}
 use Rattle.iox_domain.specs.AtHomes.{MakesAt}
 use Rattle.iox_domain.specs.Making.{CreatesPublisher, publisher_place, slots_needed}
@@ -33,12 +36,14 @@ use Rattle.iox_hub_commands.specs.ServicesTables.{FactoryTable, parts_of, publis
 use Rattle.iox_hub_commands.specs.Terms.{Terms}
 use Rattle.iox_hub_commands.specs.declared.numbered_hub.NumberedHub.{NumberedHub}
 use Rattle.iox_hub_commands.specs.declared.services.made.MadeFactory.{MadeFactory}
-use Rattle.iox_hub_machine.proofs.TypedSteps.{Does, as_roomy, by_step}
+use Rattle.iox_hub_machine.proofs.TypedSteps.{Does, as_roomy, by_chosen_step, by_step}
+use Rattle.iox_hub_machine.specs.ArrivalLaws.{AnswersAsChosen, DecidesAsChosen}
 use Rattle.iox_hub_machine.specs.TypedServices.{CloseIsStep, NewNodeIsStep, PublisherIsStep, SubscriberIsStep, factories_then}
 use Rattle.iox_hub_machine.specs.TypedServices.{having_publisher, having_subscriber, told_closed, told_node, told_publisher}
 use Rattle.iox_hub_machine.specs.TypedServices.{told_subscriber}
 use Rattle.iox_hub_machine.specs.TypedSteps.{hub_after_call}
 use Rattle.iox_hub_machine.specs.TypedTerms.{asked_terms}
+use Rattle.iox_machine.specs.Choices.{Choices}
 
 -- ---- slots that are answered
 
@@ -77,14 +82,14 @@ spent_so F (Err why) number table = refl
 same_storage : (one other : ℕ) → one ≡ other → nat_eq one other ≡ true
 same_storage one other same = grind (arith, nat_tests, same)
 
-module _ {T U B D : Type 0} (variant : TypeVariant) (terms : Terms T U B D) where
+module _ {T U B D : Type 0} (variant : TypeVariant) (terms : Terms T U B D) (choices : Choices T) where
   -- the terms of a hub whose messages are values, or slices of them
   abbrev terms_so : Terms T U B D
   terms_so = asked_terms variant terms
 
-  pub new_node_is_step : NewNodeIsStep terms_so
+  pub new_node_is_step : NewNodeIsStep terms_so choices
   new_node_is_step old hub answer is same =
-      by_step variant terms command.Node old (hub_after_call old old.made hub) (told_node answer) (λ names most state it. (
+      by_step variant terms choices command.Node tt old (hub_after_call old old.made hub) (told_node answer) (λ names most state it. (
         ap told_node is,
         ap (λ (hub : Hub T U B D). hub_after_call old old.made hub) same,
       ))
@@ -93,7 +98,7 @@ module _ {T U B D : Type 0} (variant : TypeVariant) (terms : Terms T U B D) wher
 
   abbrev PublisherDoes : ℕ → PublisherOptions → Opened → NumberedHub T U B D → Hub T U B D → Result ℕ PublisherCreateError → Type 0
   PublisherDoes factory options opened old hub answer =
-      Does variant terms (command.Publisher factory options) old (told_publisher answer old.made)
+      Does variant terms choices (command.Publisher factory options) old (told_publisher answer old.made)
       (hub_after_call old (having_publisher (domain_of_factory opened) answer old.made) hub)
 
   publisher_does : (factory : ℕ) (options : PublisherOptions) (opened : Opened) (header : U) (old : NumberedHub T U B D)
@@ -134,15 +139,27 @@ module _ {T U B D : Type 0} (variant : TypeVariant) (terms : Terms T U B D) wher
         refl,
       )
 
-  pub publisher_is_step : (overrides : ℕ → ℕ → Type 0) → PublisherIsStep terms_so overrides
-  publisher_is_step overrides factory opened options header old hub answer there names default makes =
-      by_step variant terms (command.Publisher factory options) old _ _
+  pub publisher_is_step : (overrides : ℕ → ℕ → Type 0) → PublisherIsStep terms_so choices overrides
+  publisher_is_step overrides factory opened options header old hub answer there names default makes chosen =
+      by_chosen_step variant terms choices (command.Publisher factory options) old _ _ (comes answer chosen)
       (λ some most state it. publisher_does factory options opened header old hub answer there default
       (makes_named overrides (λ worst_case named. named ≡ unwrap_or options.preallocated_samples worst_case) names
       (terms.degrades (publisher_handlers terms.fixed options) FailedToEstablishConnection) (publisher_config (owner_of_factory opened)
       options) header (λ after. with_hub_ports (domain_of_factory opened) after old.hub)
       (λ number. with_hub_publisher (domain_of_factory opened) number (publisher_handlers terms.fixed options))
       (hub_ports (domain_of_factory opened) old.hub) old.hub hub answer makes))
+    where
+      Chosen : Type 0
+      Chosen = DecidesAsChosen choices terms.degrades terms.decides (publisher_handlers terms.fixed options) old.made.publishers.next
+          options
+
+      comes : (given : Result ℕ PublisherCreateError) → ((number : ℕ) → given ≡ Ok number → Chosen)
+          → told_publisher {T = T} given old.made ≡ reply.PublisherMade old.made.publishers.next → Chosen
+      comes (Ok number) on told = on number refl
+      comes (Err why) on told = absurd (differ told)
+        where
+          differ : ◌≡◌ {A = Reply T} (reply.Refused (refusal.Publisher why)) (reply.PublisherMade old.made.publishers.next) → ⊥
+          differ e = cc
 
   subscriber_does : (factory : ℕ) (options : SubscriberOptions) (opened : Opened) (old : NumberedHub T U B D) (hub : Hub T U B D)
       (answer : Result ℕ SubscriberCreateError) → publish_subscribe_in (value_at old.factories.made factory) ≡ Some opened
@@ -152,7 +169,7 @@ module _ {T U B D : Type 0} (variant : TypeVariant) (terms : Terms T U B D) wher
       (subscriber_config (owner_of_factory opened) options))
       (why_no_subscriber (subscriber_config (owner_of_factory opened) options)) (hub_ports (domain_of_factory opened) old.hub) old.hub
       (Some answer) hub
-      → Does variant terms (command.Subscriber factory options) old (told_subscriber answer old.made)
+      → Does variant terms choices (command.Subscriber factory options) old (told_subscriber answer old.made)
       (hub_after_call old (having_subscriber (domain_of_factory opened) answer old.made) hub)
   subscriber_does factory options opened old hub (Ok number) there makes =
       subst (λ (found : Option Opened). numbered.SubscriberComes terms.fixed_reader terms.reader_degrades found options old
@@ -177,10 +194,22 @@ module _ {T U B D : Type 0} (variant : TypeVariant) (terms : Terms T U B D) wher
         refl,
       )
 
-  pub subscriber_is_step : SubscriberIsStep terms_so
-  subscriber_is_step factory opened options old hub answer there makes =
-      by_step variant terms (command.Subscriber factory options) old _ _
+  pub subscriber_is_step : SubscriberIsStep terms_so choices
+  subscriber_is_step factory opened options old hub answer there makes chosen =
+      by_chosen_step variant terms choices (command.Subscriber factory options) old _ _ (comes answer chosen)
       (λ names most state it. subscriber_does factory options opened old hub answer there makes)
+    where
+      Chosen : Type 0
+      Chosen = AnswersAsChosen choices terms.reader_degrades (subscriber_handler terms.fixed_reader options) old.made.subscribers.next
+          options
+
+      comes : (given : Result ℕ SubscriberCreateError) → ((number : ℕ) → given ≡ Ok number → Chosen)
+          → told_subscriber {T = T} given old.made ≡ reply.SubscriberMade old.made.subscribers.next → Chosen
+      comes (Ok number) on told = on number refl
+      comes (Err why) on told = absurd (differ told)
+        where
+          differ : ◌≡◌ {A = Reply T} (reply.Refused (refusal.Subscriber why)) (reply.SubscriberMade old.made.subscribers.next) → ⊥
+          differ e = cc
 
   -- ---- factories
 
@@ -208,9 +237,9 @@ module _ {T U B D : Type 0} (variant : TypeVariant) (terms : Terms T U B D) wher
         ap told_closed is ∙ closed_so F closed,
       )
 
-    pub close_is_step : CloseIsStep terms_so F
+    pub close_is_step : CloseIsStep terms_so choices F
     close_is_step number made factory old hub answer there closes =
-        by_step variant terms (command.Close number) old _ (told_closed answer) (λ names most state it.
+        by_step variant terms choices (command.Close number) tt old _ (told_closed answer) (λ names most state it.
         let used : Bool = in_use (parts_of made).0.service.number (parts_of made).1 old.hub in
         let (closed, does, told) = closes_so number made factory old hub answer used closes in
         let same = same_storage (parts_of made).0.storage old.hub.table.id (it.stands.factories.each number made there).storage in (

@@ -38,9 +38,9 @@ use Rattle.iox_hub_machine.specs.TypedSubscribing.{HasIsStep, PayloadIsStep, Rec
 use Rattle.iox_hub_machine.specs.TypedSubscribing.{SubscriberUpdateIsStep}
 use Rattle.iox_hub_machine.specs.TypedSteps.{IsToldReceived, having_received, hub_after_call}
 use Rattle.iox_hub_machine.specs.TypedTerms.{asked_terms}
-use Rattle.iox_machine.specs.Choices.{as_named}
+use Rattle.iox_machine.specs.Choices.{Choices}
 
-module _ {T U B D : Type 0} (variant : TypeVariant) (terms : Terms T U B D) where
+module _ {T U B D : Type 0} (variant : TypeVariant) (terms : Terms T U B D) (choices : Choices T) where
   -- the terms of a hub whose messages are values, or slices of them
   abbrev terms_so : Terms T U B D
   terms_so = asked_terms variant terms
@@ -50,9 +50,9 @@ module _ {T U B D : Type 0} (variant : TypeVariant) (terms : Terms T U B D) wher
   types = asked_types variant terms.payload terms.user_header
 
   module _ (K : Type 0) where
-    pub has_is_step : HasIsStep K terms_so
+    pub has_is_step : HasIsStep K terms_so choices
     has_is_step number who old hub answer there tells =
-        by_step variant terms (command.Has number) old (hub_after_call old old.made hub) _ (λ names most state it. (
+        by_step variant terms choices (command.Has number) tt old (hub_after_call old old.made hub) _ (λ names most state it. (
           (
             Some answer,
             subst (λ (found : Option PortId). AtPort (Tells hub_ports with_hub_ports (subscriber_may_degrade terms.reader_degrades)) found
@@ -62,9 +62,10 @@ module _ {T U B D : Type 0} (variant : TypeVariant) (terms : Terms T U B D) wher
           refl,
         ))
 
-    pub subscriber_update_is_step : SubscriberUpdateIsStep K terms_so
+    pub subscriber_update_is_step : SubscriberUpdateIsStep K terms_so choices
     subscriber_update_is_step number who old hub answer there follows =
-        by_step variant terms (command.Update (port.Subscriber number)) old (hub_after_call old old.made hub) _ (λ names most state it. (
+        by_step variant terms choices (command.Update (port.Subscriber number)) tt old (hub_after_call old old.made hub) _
+        (λ names most state it. (
           (
             Some answer,
             subst (λ (found : Option PortId). AtPort (FollowsPublishersAt hub_ports with_hub_ports
@@ -74,9 +75,9 @@ module _ {T U B D : Type 0} (variant : TypeVariant) (terms : Terms T U B D) wher
           refl,
         ))
 
-    pub subscriber_leave_is_step : SubscriberLeaveIsStep K terms_so
+    pub subscriber_leave_is_step : SubscriberLeaveIsStep K terms_so choices
     subscriber_leave_is_step number who old hub left there ends =
-        by_step variant terms (command.Leave (port.Subscriber number)) old _ _ (λ names most state it. (
+        by_step variant terms choices (command.Leave (port.Subscriber number)) tt old _ _ (λ names most state it. (
           (
             left,
             subst (λ (found : Option PortId). AtPortIf (SubscriberGoes hub_ports with_hub_ports without_hub_subscriber) found old.hub left
@@ -91,7 +92,7 @@ module _ {T U B D : Type 0} (variant : TypeVariant) (terms : Terms T U B D) wher
 
     abbrev Received : (number : ℕ) → NumberedHub T U B D → Hub T U B D → Reply T → Result (Option (Sample T U K)) ReceiveError → Type 0
     Received number old hub told answer =
-        Does variant terms (command.Receive number) old told (hub_after_call old (having_received answer old.made) hub)
+        Does variant terms choices (command.Receive number) old told (hub_after_call old (having_received answer old.made) hub)
 
     abbrev Numbers : ℕ → NumberedHub T U B D → Hub T U B D → Result (Option (Sample T U K)) ReceiveError
         → Option (Result (Option ℕ) ReceiveError) → Option PortId → Type 0
@@ -145,18 +146,18 @@ module _ {T U B D : Type 0} (variant : TypeVariant) (terms : Terms T U B D) wher
       refl,
     )
 
-    pub receive_is_step : ReceiveIsStep K terms_so
+    pub receive_is_step : ReceiveIsStep K terms_so choices
     receive_is_step number who old hub answer told there (received, takes, is) tells =
-        by_step variant terms (command.Receive number) old (hub_after_call old (having_received answer old.made) hub) told
+        by_step variant terms choices (command.Receive number) tt old (hub_after_call old (having_received answer old.made) hub) told
         (λ names most state it. subst (λ (a : Result (Option (Sample T U K)) ReceiveError). Received number old hub told a) (sym is)
         (received_does number who old hub told received there takes it.ran.rise
         (subst (λ (a : Result (Option (Sample T U K)) ReceiveError). IsToldReceived a old.made hub told) is tells)))
 
     -- ---- samples
 
-    pub payload_is_step : PayloadIsStep K terms_so
+    pub payload_is_step : PayloadIsStep K terms_so choices
     payload_is_step number made old values there read =
-        by_step variant terms (command.Read number) old old (reply.Values values) (λ names most state it. (
+        by_step variant terms choices (command.Read number) tt old old (reply.Values values) (λ names most state it. (
           subst (λ (found : Option MadeSample). IsReadReply (values_under hub_ports found old.hub) (reply.Values values)) (sym there)
               (subst (λ (found : Option (List T)). IsReadReply found (reply.Values values)) (sym read) (values, refl, refl)),
           refl,
@@ -176,14 +177,14 @@ module _ {T U B D : Type 0} (variant : TypeVariant) (terms : Terms T U B D) wher
     drops_so made old hub (Some ports) false held (after, releases, is) =
         absurd (sample_releases made.port.number made.taken ports after held releases)
 
-    pub release_is_step : ReleaseIsStep K terms_so
+    pub release_is_step : ReleaseIsStep K terms_so choices
     release_is_step number made old hub released there drops =
-        by_step variant terms (command.Release number) old (hub_after_call old (without_sample number old.made) hub) _
+        by_step variant terms choices (command.Release number) tt old (hub_after_call old (without_sample number old.made) hub) _
         (λ names most state it.
         let ports = it.stands.ports in
-        let goes = sample_goes (as_named terms.is_default) terms.degrades terms.decides terms.reader_degrades it.naming it.order old state
+        let goes = sample_goes choices terms.degrades terms.decides terms.reader_degrades it.naming it.order old state
         ports number made there in
-        let held = is_there (as_named terms.is_default) terms.is_default_header terms.degrades terms.decides terms.reader_degrades types
+        let held = is_there choices terms.is_default_header terms.degrades terms.decides terms.reader_degrades types
         it.naming it.order old old state ports number it.ran.grown made there goes.ports goes.found goes.goes goes.mine in (
           (
             true,

@@ -25,3 +25,4 @@ pub mod TypedOpening
 pub mod TypedRuns
 pub mod TypedHeaders
 pub mod TypedTelling
+pub mod TypedHandlers

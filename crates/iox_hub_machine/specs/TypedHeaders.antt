@@ -23,12 +23,12 @@ use Rattle.iox_hub_machine.specs.Ran.{StandsAfter}
 use Rattle.iox_hub_machine.specs.TypedRuns.{HasCalled}
 use Rattle.iox_hub_machine.specs.TypedTelling.{TellInHub}
 use Rattle.iox_hub_machine.specs.TypedSteps.{IsStepBy, hub_after_call}
-use Rattle.iox_machine.specs.Choices.{as_named}
+use Rattle.iox_machine.specs.Choices.{Choices}
 use Rattle.iox_machine.specs.Message.{Sample}
 use Rattle.iox_machine.specs.State.{State}
 
 -- The parameters: the terms of the hub.
-module _ {T U B D : Type 0} (terms : Terms T U B D) where
+module _ {T U B D : Type 0} (terms : Terms T U B D) (choices : Choices T) where
   -- The user header of a loan is written by a call; or it is the last value that was written through the reference that `user_header_mut`
   -- returned.
   abbrev pub ChangesUserHeader : PortId → ℕ → U → Hub T U B D → Hub T U B D → Type 0
@@ -41,8 +41,8 @@ module _ {T U B D : Type 0} (terms : Terms T U B D) where
   UserHeadersKeepStanding = (slot : ℕ) (lender : PortId) (written : U) (old : NumberedHub T U B D) (hub : Hub T U B D)
       (names : List (List ℕ)) (most : ℕ) (state : State T)
       → ChangesUserHeader lender slot written old.hub hub
-      → StandsAfter terms.types (as_named terms.is_default) terms.degrades terms.decides terms.reader_degrades names most old state
-      → StandsAfter terms.types (as_named terms.is_default) terms.degrades terms.decides terms.reader_degrades names most
+      → StandsAfter terms.types choices terms.degrades terms.decides terms.reader_degrades names most old state
+      → StandsAfter terms.types choices terms.degrades terms.decides terms.reader_degrades names most
       (hub_after_call old old.made hub) state
 
   -- After a user header is written, the calls of a program are the same run of the machine as before: writing a user header needs no
@@ -51,15 +51,15 @@ module _ {T U B D : Type 0} (terms : Terms T U B D) where
   UserHeadersNeedNoCommand = (slot : ℕ) (lender : PortId) (written : U) (old : NumberedHub T U B D) (hub : Hub T U B D)
       (names : List (List ℕ)) (asked : List (Command T)) (answers : List (Reply T))
       → ChangesUserHeader lender slot written old.hub hub
-      → HasCalled terms names asked answers old
-      → HasCalled terms names asked answers (hub_after_call old old.made hub)
+      → HasCalled terms choices names asked answers old
+      → HasCalled terms choices names asked answers (hub_after_call old old.made hub)
 
   -- The header of a numbered sample reports the sequence number of the machine's sample. If a publisher of the sample's domain has a
   -- number, and the header reports its id, it is the publisher of the machine's sample.
   abbrev pub HeaderNamesPublisher : Type 0
   HeaderNamesPublisher = (names : List (List ℕ)) (most : ℕ) (hub : NumberedHub T U B D) (state : State T) (number : ℕ) (made : MadeSample)
       (header : Header)
-      → StandsAfter terms.types (as_named terms.is_default) terms.degrades terms.decides terms.reader_degrades names most hub state
+      → StandsAfter terms.types choices terms.degrades terms.decides terms.reader_degrades names most hub state
       → value_at hub.made.samples number ≡ Some made
       → header_found made.taken (hub_ports made.port.domain hub.hub) ≡ Some header
       → (sample : Sample T) × (among (λ service. service.samples) number state.services ≡ Some sample)
@@ -73,7 +73,7 @@ module _ {T U B D : Type 0} (terms : Terms T U B D) where
   HeaderIsStep = (number : ℕ) (made : MadeSample) (old : NumberedHub T U B D) (header : Header)
       → value_at old.made.samples number ≡ Some made
       → header_found made.taken (hub_ports made.port.domain old.hub) ≡ Some header
-      → IsStepBy terms (command.Sequence number) old (reply.Sequence header.sequence) old
+      → IsStepBy terms choices (command.Sequence number) old (reply.Sequence header.sequence) old
 
   -- What a numbered sample has in its header and its user header was recorded when a send began, by its domain's own numbers, with the
   -- values and the sequence number of the machine's sample. If the publisher that sent it has a number, it is the publisher of the
@@ -81,7 +81,7 @@ module _ {T U B D : Type 0} (terms : Terms T U B D) where
   abbrev pub HeaderReadAsSent : Type 0
   HeaderReadAsSent = (names : List (List ℕ)) (most : ℕ) (hub : NumberedHub T U B D) (state : State T) (number : ℕ) (made : MadeSample)
       (sent : List (SentHeader T U))
-      → StandsAfter terms.types (as_named terms.is_default) terms.degrades terms.decides terms.reader_degrades names most hub state
+      → StandsAfter terms.types choices terms.degrades terms.decides terms.reader_degrades names most hub state
       → value_at hub.made.samples number ≡ Some made → TellInHub sent made.port.domain hub.hub
       → (sample : Sample T) × (among (λ service. service.samples) number state.services ≡ Some sample)
       × (told : SentHeader T U) × Contains sent told

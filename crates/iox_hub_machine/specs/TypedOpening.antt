@@ -24,6 +24,7 @@ use Rattle.iox_hub_commands.specs.Terms.{Terms}
 use Rattle.iox_hub_commands.specs.declared.numbered_hub.NumberedHub.{NumberedHub}
 use Rattle.iox_hub_machine.specs.TypedServices.{NewNodeIsStep, SubscriberIsStep}
 use Rattle.iox_hub_machine.specs.TypedSteps.{IsStepBy, hub_after_call}
+use Rattle.iox_machine.specs.Choices.{Choices}
 
 module _ {T U B D : Type 0} where
   -- The hub after a call, with the factories that its program then holds; all else that the program holds is as it was.
@@ -33,7 +34,7 @@ module _ {T U B D : Type 0} where
 -- A node of a hub asks for a service, as options ask, with lists of actions of other nodes before the storage operations: those that the
 -- command names, and what they publish has the form of a description. A new factory gets the next number. The parameters: the terms of the
 -- hub.
-module _ {T U B D : Type 0} (terms : Terms T U B D) where
+module _ {T U B D : Type 0} (terms : Terms T U B D) (choices : Choices T) where
   -- Creating a service with these attributes is a step of the machine.
   abbrev pub CreateIsStep : Type 0
   CreateIsStep = (node : ℕ) (name : List ℕ) (named : ServiceOptions) (attributes : List Attribute) (steps : List StepBefore)
@@ -42,7 +43,8 @@ module _ {T U B D : Type 0} (terms : Terms T U B D) where
       → AllByRecursion (AllByRecursion PublishesInForm) (lists_of name terms.types steps)
       → CreatesAs named terms.payload terms.user_header terms.types node name attributes (lists_of name terms.types steps)
       old.factories.made old.hub answer table hub
-      → IsStepBy terms (command.Create node name named attributes steps) old (factory_reply (Some answer)) (opened_then old table hub)
+      → IsStepBy terms choices (command.Create node name named attributes steps) old (factory_reply (Some answer))
+      (opened_then old table hub)
 
   -- Opening the service, if it has the required attributes, is a step of the machine.
   abbrev pub OpenIsStep : Type 0
@@ -52,7 +54,7 @@ module _ {T U B D : Type 0} (terms : Terms T U B D) where
       → AllByRecursion (AllByRecursion PublishesInForm) (lists_of name terms.types steps)
       → OpensAs named terms.payload terms.user_header terms.types node name required (lists_of name terms.types steps) old.factories.made
       old.hub answer table hub
-      → IsStepBy terms (command.Open node name named required steps) old (factory_reply (Some answer)) (opened_then old table hub)
+      → IsStepBy terms choices (command.Open node name named required steps) old (factory_reply (Some answer)) (opened_then old table hub)
 
   -- Opening the service, or creating it with the required pairs if it doesn't exist, is a step of the machine.
   abbrev pub OpenOrCreateIsStep : Type 0
@@ -62,7 +64,8 @@ module _ {T U B D : Type 0} (terms : Terms T U B D) where
       → AllByRecursion (AllByRecursion PublishesInForm) (lists_of name terms.types steps)
       → EitherAs named terms.payload terms.user_header terms.types node name required (lists_of name terms.types steps) old.factories.made
       old.hub answer table hub
-      → IsStepBy terms (command.OpenOrCreate node name named required steps) old (factory_reply (Some answer)) (opened_then old table hub)
+      → IsStepBy terms choices (command.OpenOrCreate node name named required steps) old (factory_reply (Some answer))
+      (opened_then old table hub)
 
   -- Actions of other nodes on the service of a pattern and name are a step of the machine: the actions are those that the command names,
   -- and what they publish has the form of a description.
@@ -71,14 +74,14 @@ module _ {T U B D : Type 0} (terms : Terms T U B D) where
       (answer : Result (Unit {0}) HubError)
       → AllByRecursion PublishesInForm (list_of name terms.types steps)
       → ActsOn (service_hash_of kind name) (list_of name terms.types steps) old.hub answer hub
-      → IsStepBy terms (command.Foreign kind name steps) old (foreign_reply answer) (hub_after_call old old.made hub)
+      → IsStepBy terms choices (command.Foreign kind name steps) old (foreign_reply answer) (hub_after_call old old.made hub)
 
   -- Each of these calls is a step, by the command that asks for the same: making a node; creating, opening, or opening or creating a
   -- service; actions of other nodes; and creating a subscriber.
   pub record ServiceCallsAreSteps : Type 0 where
-    pub node : NewNodeIsStep terms
+    pub node : NewNodeIsStep terms choices
     pub create : CreateIsStep
     pub opening : OpenIsStep
     pub either : OpenOrCreateIsStep
     pub foreign : ForeignIsStep
-    pub subscriber : SubscriberIsStep terms
+    pub subscriber : SubscriberIsStep terms choices

@@ -28,17 +28,18 @@ use Rattle.iox_hub_commands.specs.Terms.{Terms}
 use Rattle.iox_hub_commands.specs.declared.numbered_hub.NumberedHub.{NumberedHub}
 use Rattle.iox_hub_commands.specs.declared.ports.made.MadeLoan.{MadeLoan}
 use Rattle.iox_hub_machine.specs.TypedSteps.{IsStepBy, having_lent, hub_after_call, told_loan, told_sent}
+use Rattle.iox_machine.specs.Choices.{Choices}
 
 -- Publishers and loans are of one kind: single values, or slices. The parameters: the kind, and the terms of the hub. The publisher or loan
 -- of each call has a number.
-module _ {T U B D : Type 0} (K : Type 0) (terms : Terms T U B D) where
+module _ {T U B D : Type 0} (K : Type 0) (terms : Terms T U B D) (choices : Choices T) where
   -- Loaning this many values to be written is a step; with one value, this is `loan_uninit`, too.
   abbrev pub LoanUninitIsStep : Type 0
   LoanUninitIsStep = (number length : ℕ) (lender : PortId) (old : NumberedHub T U B D) (hub : Hub T U B D)
       (answer : Result (Lent T U K Uninit) LoanError)
       → port_under (value_at old.made.publishers number) ≡ Some lender
       → LendsSlice hub_ports with_hub_ports lender length old.hub answer hub
-      → IsStepBy terms
+      → IsStepBy terms choices
       (command.LoanUninit number length) old (told_loan answer old.made) (hub_after_call old (having_lent answer old.made) hub)
 
   -- Loaning this many written values, all with one default value, is a step, if the publisher has no blocked send.
@@ -47,8 +48,9 @@ module _ {T U B D : Type 0} (K : Type 0) (terms : Terms T U B D) where
       (answer : Result (Lent T U K Written) LoanError)
       → port_under (value_at old.made.publishers number) ≡ Some lender
       → publisher_blocked lender.number (hub_ports lender.domain old.hub) ≡ false
-      → LendsDefaults hub_ports with_hub_ports terms.is_default lender length old.hub answer hub
-      → IsStepBy terms (command.Loan number length) old (told_loan answer old.made) (hub_after_call old (having_lent answer old.made) hub)
+      → LendsDefaults hub_ports with_hub_ports choices.is_default lender length old.hub answer hub
+      → IsStepBy terms choices (command.Loan number length) old (told_loan answer old.made) (hub_after_call old
+      (having_lent answer old.made) hub)
 
   -- Loaning one written value, a default value, is a step, if the publisher has no blocked send.
   abbrev pub LoanOfOneIsStep : Type 0
@@ -56,8 +58,9 @@ module _ {T U B D : Type 0} (K : Type 0) (terms : Terms T U B D) where
       (answer : Result (Lent T U K Written) LoanError)
       → port_under (value_at old.made.publishers number) ≡ Some lender
       → publisher_blocked lender.number (hub_ports lender.domain old.hub) ≡ false
-      → LendsDefault hub_ports with_hub_ports terms.is_default lender old.hub answer hub
-      → IsStepBy terms (command.Loan number 1) old (told_loan answer old.made) (hub_after_call old (having_lent answer old.made) hub)
+      → LendsDefault hub_ports with_hub_ports choices.is_default lender old.hub answer hub
+      → IsStepBy terms choices (command.Loan number 1) old (told_loan answer old.made) (hub_after_call old
+      (having_lent answer old.made) hub)
 
   -- Loaning, writing and sending values is a step, if the publisher has no blocked send.
   abbrev pub SendSliceIsStep : Type 0
@@ -67,7 +70,7 @@ module _ {T U B D : Type 0} (K : Type 0) (terms : Terms T U B D) where
       → publisher_blocked lender.number (hub_ports lender.domain old.hub) ≡ false
       → SendsSlice hub_ports with_hub_ports (publisher_may_degrade terms.degrades) (publisher_may_decide terms.decides) lender values
       old.hub answer hub
-      → IsStepBy terms (command.Put number values) old (told_sent answer) (hub_after_call old old.made hub)
+      → IsStepBy terms choices (command.Put number values) old (told_sent answer) (hub_after_call old old.made hub)
 
   -- Loaning, writing and sending one value is a step, if the publisher has no blocked send.
   abbrev pub SendCopyIsStep : Type 0
@@ -77,14 +80,14 @@ module _ {T U B D : Type 0} (K : Type 0) (terms : Terms T U B D) where
       → publisher_blocked lender.number (hub_ports lender.domain old.hub) ≡ false
       → SendsCopy hub_ports with_hub_ports (publisher_may_degrade terms.degrades) (publisher_may_decide terms.decides) lender value old.hub
       answer hub
-      → IsStepBy terms (command.Put number (value ∷ [])) old (told_sent answer) (hub_after_call old old.made hub)
+      → IsStepBy terms choices (command.Put number (value ∷ [])) old (told_sent answer) (hub_after_call old old.made hub)
 
   -- Writing all values of a loan is a step, if the loan has as many values; otherwise the command is skipped, and nothing is written.
   abbrev pub WriteIsStep : Type 0
   WriteIsStep = (number : ℕ) (made : MadeLoan) (values : List T) (old : NumberedHub T U B D) (hub : Hub T U B D)
       → value_at old.made.loans number ≡ Some made
       → WritesAll hub_ports with_hub_ports made.port made.slot values old.hub hub
-      → IsStepBy terms
+      → IsStepBy terms choices
       (command.Fill number values) old (done_reply (is_filled hub_ports values (Some made) old.hub)) (hub_after_call old old.made hub)
 
   -- Writing the value of a loan is a step, if the loan has exactly one; otherwise the command is skipped, and nothing is written.
@@ -92,7 +95,7 @@ module _ {T U B D : Type 0} (K : Type 0) (terms : Terms T U B D) where
   WriteOneIsStep = (number : ℕ) (made : MadeLoan) (value : T) (old : NumberedHub T U B D) (hub : Hub T U B D)
       → value_at old.made.loans number ≡ Some made
       → WritesPayload hub_ports with_hub_ports made.port made.slot value old.hub hub
-      → IsStepBy terms (command.Fill number (value ∷ [])) old (done_reply (is_filled hub_ports (value ∷ []) (Some made) old.hub))
+      → IsStepBy terms choices (command.Fill number (value ∷ [])) old (done_reply (is_filled hub_ports (value ∷ []) (Some made) old.hub))
       (hub_after_call old old.made hub)
 
   -- Writing values one after the other into a loan that has as many, as `write_from_fn` does, is a step.
@@ -101,7 +104,7 @@ module _ {T U B D : Type 0} (K : Type 0) (terms : Terms T U B D) where
       → value_at old.made.loans number ≡ Some made
       → loan_found made.port.number made.slot (hub_ports made.port.domain old.hub) ≡ Some loan → length loan.values ≡ length values
       → WritesEach hub_ports with_hub_ports made.port made.slot values old.hub hub
-      → IsStepBy terms
+      → IsStepBy terms choices
       (command.Fill number values) old (done_reply (is_filled hub_ports values (Some made) old.hub)) (hub_after_call old old.made hub)
 
   -- Changing a value of a written loan, at a place that the loan has, is a step: the new value is the last one that was written through the
@@ -111,14 +114,14 @@ module _ {T U B D : Type 0} (K : Type 0) (terms : Terms T U B D) where
       → value_at old.made.loans number ≡ Some made
       → is_set place (loan_found made.port.number made.slot (hub_ports made.port.domain old.hub)) ≡ true
       → hub ≡ loan_changed hub_ports with_hub_ports made.port made.slot (write_value place value) old.hub
-      → IsStepBy terms (command.Set number place value) old (done_reply true) (hub_after_call old old.made hub)
+      → IsStepBy terms choices (command.Set number place value) old (done_reply true) (hub_after_call old old.made hub)
 
   -- Dropping a loan, which is consumed, is a step. `drop_with` does this; it hands the loan back if it doesn't exist.
   abbrev pub DropIsStep : Type 0
   DropIsStep = (number : ℕ) (made : MadeLoan) (old : NumberedHub T U B D) (hub : Hub T U B D)
       → value_at old.made.loans number ≡ Some made
       → GivesUpLoan hub_ports with_hub_ports made.port made.slot old.hub hub
-      → IsStepBy terms (command.Drop number) old (done_reply true) (hub_after_call old (without_loan number old.made) hub)
+      → IsStepBy terms choices (command.Drop number) old (done_reply true) (hub_after_call old (without_loan number old.made) hub)
 
   -- Sending a loan, which is consumed, is a step.
   abbrev pub SendIsStep : Type 0
@@ -126,7 +129,7 @@ module _ {T U B D : Type 0} (K : Type 0) (terms : Terms T U B D) where
       → value_at old.made.loans number ≡ Some made
       → SendsSample hub_ports with_hub_ports (publisher_may_degrade terms.degrades) (publisher_may_decide terms.decides) made.port made.slot
       old.hub answer hub
-      → IsStepBy terms (command.Send number) old (told_sent answer) (hub_after_call old (without_loan number old.made) hub)
+      → IsStepBy terms choices (command.Send number) old (told_sent answer) (hub_after_call old (without_loan number old.made) hub)
 
   -- Trying a blocked send again, with this many nanoseconds elapsed, is a step.
   abbrev pub RetryIsStep : Type 0
@@ -134,7 +137,7 @@ module _ {T U B D : Type 0} (K : Type 0) (terms : Terms T U B D) where
       (answer : Result (Sent T U) SendError)
       → port_under (value_at old.made.publishers number) ≡ Some sender
       → RetriesSend hub_ports with_hub_ports (publisher_may_decide terms.decides) sender nanoseconds old.hub answer hub
-      → IsStepBy terms (command.Retry number nanoseconds) old (told_sent answer) (hub_after_call old old.made hub)
+      → IsStepBy terms choices (command.Retry number nanoseconds) old (told_sent answer) (hub_after_call old old.made hub)
 
   -- Giving up a blocked send is a step; the reply says how many mailboxes took its message. `give_up` does this, and so does `drop_with`,
   -- which hands the send back if it isn't blocked.
@@ -142,7 +145,7 @@ module _ {T U B D : Type 0} (K : Type 0) (terms : Terms T U B D) where
   GiveUpIsStep = (number : ℕ) (sender : PortId) (old : NumberedHub T U B D) (hub : Hub T U B D) (answer : Option ℕ)
       → port_under (value_at old.made.publishers number) ≡ Some sender
       → EndsSend hub_ports with_hub_ports sender old.hub answer hub
-      → IsStepBy terms (command.GiveUp number) old (given_up_reply answer) (hub_after_call old old.made hub)
+      → IsStepBy terms choices (command.GiveUp number) old (given_up_reply answer) (hub_after_call old old.made hub)
 
   -- Updating the connections of a publisher is a step.
   abbrev pub PublisherUpdateIsStep : Type 0
@@ -150,7 +153,7 @@ module _ {T U B D : Type 0} (K : Type 0) (terms : Terms T U B D) where
       (answer : Result (Unit {0}) ConnectionFailure)
       → port_under (value_at old.made.publishers number) ≡ Some follower
       → FollowsSubscribers hub_ports with_hub_ports (publisher_may_degrade terms.degrades) follower old.hub answer hub
-      → IsStepBy terms (command.Update (port.Publisher number)) old (updated_reply (Some answer)) (hub_after_call old old.made hub)
+      → IsStepBy terms choices (command.Update (port.Publisher number)) old (updated_reply (Some answer)) (hub_after_call old old.made hub)
 
   -- Closing a publisher, which is consumed, is a step. `leave` does this, and so does `drop_with`, which hands the publisher back if it
   -- can't be closed.
@@ -158,7 +161,7 @@ module _ {T U B D : Type 0} (K : Type 0) (terms : Terms T U B D) where
   PublisherLeaveIsStep = (number : ℕ) (leaver : PortId) (old : NumberedHub T U B D) (hub : Hub T U B D) (left : Bool)
       → port_under (value_at old.made.publishers number) ≡ Some leaver
       → EndsPublisher hub_ports with_hub_ports without_hub_publisher leaver old.hub left hub
-      → IsStepBy terms (command.Leave (port.Publisher number)) old (done_reply left)
+      → IsStepBy terms choices (command.Leave (port.Publisher number)) old (done_reply left)
       (hub_after_call old (removed_if left (without_publisher number) old.made) hub)
 
   -- Each call of a publisher, of its loans and of its blocked sends is a step, by the command that asks for the same.

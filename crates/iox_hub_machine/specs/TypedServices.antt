@@ -30,7 +30,9 @@ use Rattle.iox_hub_commands.specs.Terms.{Terms}
 use Rattle.iox_hub_commands.specs.declared.numbered_hub.NumberedHub.{NumberedHub}
 use Rattle.iox_hub_commands.specs.declared.ports.made.Made.{Made}
 use Rattle.iox_hub_commands.specs.declared.services.made.MadeFactory.{MadeFactory}
+use Rattle.iox_hub_machine.specs.ArrivalLaws.{AnswersAsChosen, DecidesAsChosen}
 use Rattle.iox_hub_machine.specs.TypedSteps.{IsStepBy, hub_after_call}
+use Rattle.iox_machine.specs.Choices.{Choices}
 
 module _ {T : Type 0} where
   -- The reply to making a node: the node's number.
@@ -71,13 +73,13 @@ factories_then (Err (why, None)) number table = removed table number
 factories_then (Err (why, Some factory)) number table = table
 
 -- The parameters: the terms of the hub.
-module _ {T U B D : Type 0} (terms : Terms T U B D) where
+module _ {T U B D : Type 0} (terms : Terms T U B D) (choices : Choices T) where
   -- Making a node is a step.
   abbrev pub NewNodeIsStep : Type 0
   NewNodeIsStep = (old : NumberedHub T U B D) (hub : Hub T U B D) (answer : Result NodeHandle HubError)
       → answer ≡ Ok (record { hub = old.hub.table.id; number = one_more old.hub.nodes })
       → hub ≡ record old.hub { nodes = one_more old.hub.nodes }
-      → IsStepBy terms command.Node old (told_node answer) (hub_after_call old old.made hub)
+      → IsStepBy terms choices command.Node old (told_node answer) (hub_after_call old old.made hub)
 
   -- Creating a publisher for a publish-subscribe factory with these options is a step, if its handlers are made of the actions that the
   -- options name, and the override of its number of slots answers what the options name, or as many as the publisher needs.
@@ -93,7 +95,9 @@ module _ {T U B D : Type 0} (terms : Terms T U B D) where
       (publisher_config (owner_of_factory opened) options) header)
       (why_no_publisher (publisher_config (owner_of_factory opened) options)) (hub_ports (domain_of_factory opened) old.hub) old.hub
       (Some answer) hub
-      → IsStepBy terms (command.Publisher factory options) old (told_publisher answer old.made)
+      → ((number : ℕ) → answer ≡ Ok number → DecidesAsChosen choices terms.degrades terms.decides
+      (publisher_handlers terms.fixed options) old.made.publishers.next options)
+      → IsStepBy terms choices (command.Publisher factory options) old (told_publisher answer old.made)
       (hub_after_call old (having_publisher (domain_of_factory opened) answer old.made) hub)
 
   -- Creating a subscriber for a publish-subscribe factory with these options is a step, if its handler is made of the action that the
@@ -108,7 +112,9 @@ module _ {T U B D : Type 0} (terms : Terms T U B D) where
       (subscriber_config (owner_of_factory opened) options))
       (why_no_subscriber (subscriber_config (owner_of_factory opened) options)) (hub_ports (domain_of_factory opened) old.hub) old.hub
       (Some answer) hub
-      → IsStepBy terms (command.Subscriber factory options) old (told_subscriber answer old.made)
+      → ((number : ℕ) → answer ≡ Ok number → AnswersAsChosen choices terms.reader_degrades
+      (subscriber_handler terms.fixed_reader options) old.made.subscribers.next options)
+      → IsStepBy terms choices (command.Subscriber factory options) old (told_subscriber answer old.made)
       (hub_after_call old (having_subscriber (domain_of_factory opened) answer old.made) hub)
 
   -- Closing a factory, whose type depends on the pattern of its service, is a step, and so is handing it back while it is in use.
@@ -117,5 +123,5 @@ module _ {T U B D : Type 0} (terms : Terms T U B D) where
       (answer : Result (Unit {0}) (CloseError × Option F))
       → value_at old.factories.made number ≡ Some made
       → Closes (parts_of made).0 (parts_of made).1 factory old.hub answer hub
-      → IsStepBy terms (command.Close number) old (told_closed answer)
+      → IsStepBy terms choices (command.Close number) old (told_closed answer)
       (record old { hub = hub; factories = record { made = factories_then answer number old.factories.made } })

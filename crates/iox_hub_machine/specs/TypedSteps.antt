@@ -21,13 +21,12 @@ use Rattle.iox_hub_commands.specs.Numbering.{with_loan, with_sample}
 use Rattle.iox_hub_commands.specs.Terms.{Terms}
 use Rattle.iox_hub_commands.specs.declared.numbered_hub.NumberedHub.{NumberedHub}
 use Rattle.iox_hub_commands.specs.declared.ports.made.Made.{Made}
-use Rattle.iox_hub_machine.specs.ArrivalLaws.{AnswersAsFixed, DecidesAsFixed}
 use Rattle.iox_hub_machine.specs.GoingOnLaws.{IsOneOn}
 use Rattle.iox_hub_machine.specs.Ran.{StandsAfter}
 use Rattle.iox_hub_machine.specs.RunLaws.{AsksAmong, steps_named}
 use Rattle.iox_machine.specs.State.{State}
 use Rattle.iox_negotiate_machine.specs.Laws.{HaveOwnHashes}
-use Rattle.iox_machine.specs.Choices.{as_named}
+use Rattle.iox_machine.specs.Choices.{Choices}
 
 module _ {T U K S : Type 0} where
   -- What a program holds after it asked for a loan: a new one gets the next number.
@@ -71,16 +70,15 @@ module _ {T U B D : Type 0} where
   hub_after_call old made hub = record old { hub = hub; made = made }
 
 -- The parameters: the terms of the hub.
-module _ {T U B D : Type 0} (terms : Terms T U B D) where
+module _ {T U B D : Type 0} (terms : Terms T U B D) (choices : Choices T) where
   -- A call of a hub is a step of the machine by this command, with this answer. If the hub, with what its program holds, represents a
   -- state, the machine may give this answer from there; and the hub after the call, with what the program holds then, represents the
-  -- machine's state afterwards. This holds if no two services of the names that are asked for share a hash, all commands and actions of
-  -- other nodes, with those before, are fewer than 2 ^ 56, and handlers that are made of fixed actions decide by these.
+  -- machine's state afterwards. This holds if no two services of the names that are asked for share a hash, and all commands and actions
+  -- of other nodes, with those before, are fewer than 2 ^ 56.
   abbrev pub IsStepBy : Command T → NumberedHub T U B D → Reply T → NumberedHub T U B D → Type 0
   IsStepBy asked old answer new = (names : List (List ℕ)) (most : ℕ) (state : State T)
-      → DecidesAsFixed terms.fixed terms.degrades terms.decides → AnswersAsFixed terms.fixed_reader terms.reader_degrades
       → HaveOwnHashes names → AsksAmong names asked → most + (1 + steps_named asked) < 2 ^ 56
-      → StandsAfter terms.types (as_named terms.is_default) terms.degrades terms.decides terms.reader_degrades names most old state
-      → IsOneOn terms.types (as_named terms.is_default) terms.degrades terms.decides terms.reader_degrades names most
+      → StandsAfter terms.types choices terms.degrades terms.decides terms.reader_degrades names most old state
+      → IsOneOn terms.types choices terms.degrades terms.decides terms.reader_degrades names most
       old.hub.expired_connection_buffer asked state answer new
       × (new.hub.expired_connection_buffer ≡ old.hub.expired_connection_buffer)

@@ -23,10 +23,11 @@ use Rattle.iox_hub_commands.specs.Terms.{Terms}
 use Rattle.iox_hub_commands.specs.declared.numbered_hub.NumberedHub.{NumberedHub}
 use Rattle.iox_hub_commands.specs.declared.ports.made.MadeSample.{MadeSample}
 use Rattle.iox_hub_machine.specs.TypedSteps.{IsStepBy, IsToldReceived, having_received, hub_after_call}
+use Rattle.iox_machine.specs.Choices.{Choices}
 
 -- Subscribers and samples are of one kind: single values, or slices. The parameters: the kind, and the terms of the hub. The subscriber or
 -- sample of each call has a number.
-module _ {T U B D : Type 0} (K : Type 0) (terms : Terms T U B D) where
+module _ {T U B D : Type 0} (K : Type 0) (terms : Terms T U B D) (choices : Choices T) where
   -- Receiving is a step; the reply to a received sample has the values that its `payload` then returns.
   abbrev pub ReceiveIsStep : Type 0
   ReceiveIsStep = (number : ℕ) (receiver : PortId) (old : NumberedHub T U B D) (hub : Hub T U B D)
@@ -34,14 +35,14 @@ module _ {T U B D : Type 0} (K : Type 0) (terms : Terms T U B D) where
       → value_at old.made.subscribers number ≡ Some receiver
       → ReceivesSample hub_ports with_hub_ports (subscriber_may_degrade terms.reader_degrades) receiver old.hub answer hub
       → IsToldReceived answer old.made hub told
-      → IsStepBy terms (command.Receive number) old told (hub_after_call old (having_received answer old.made) hub)
+      → IsStepBy terms choices (command.Receive number) old told (hub_after_call old (having_received answer old.made) hub)
 
   -- Reporting whether some connection of a subscriber has data is a step.
   abbrev pub HasIsStep : Type 0
   HasIsStep = (number : ℕ) (receiver : PortId) (old : NumberedHub T U B D) (hub : Hub T U B D) (answer : Result Bool ConnectionFailure)
       → value_at old.made.subscribers number ≡ Some receiver
       → TellsSamples hub_ports with_hub_ports (subscriber_may_degrade terms.reader_degrades) receiver old.hub answer hub
-      → IsStepBy terms (command.Has number) old (has_reply (Some answer)) (hub_after_call old old.made hub)
+      → IsStepBy terms choices (command.Has number) old (has_reply (Some answer)) (hub_after_call old old.made hub)
 
   -- Updating the connections of a subscriber is a step.
   abbrev pub SubscriberUpdateIsStep : Type 0
@@ -49,7 +50,7 @@ module _ {T U B D : Type 0} (K : Type 0) (terms : Terms T U B D) where
       (answer : Result (Unit {0}) ConnectionFailure)
       → value_at old.made.subscribers number ≡ Some follower
       → FollowsPublishers hub_ports with_hub_ports (subscriber_may_degrade terms.reader_degrades) follower old.hub answer hub
-      → IsStepBy terms (command.Update (port.Subscriber number)) old (updated_reply (Some answer)) (hub_after_call old old.made hub)
+      → IsStepBy terms choices (command.Update (port.Subscriber number)) old (updated_reply (Some answer)) (hub_after_call old old.made hub)
 
   -- Closing a subscriber, which is consumed, is a step. `leave` does this, and so does `drop_with`, which hands the subscriber back if it
   -- can't be closed.
@@ -57,7 +58,7 @@ module _ {T U B D : Type 0} (K : Type 0) (terms : Terms T U B D) where
   SubscriberLeaveIsStep = (number : ℕ) (leaver : PortId) (old : NumberedHub T U B D) (hub : Hub T U B D) (left : Bool)
       → value_at old.made.subscribers number ≡ Some leaver
       → EndsSubscriber hub_ports with_hub_ports without_hub_subscriber leaver old.hub left hub
-      → IsStepBy terms (command.Leave (port.Subscriber number)) old (done_reply left)
+      → IsStepBy terms choices (command.Leave (port.Subscriber number)) old (done_reply left)
       (hub_after_call old (removed_if left (without_subscriber number) old.made) hub)
 
   -- Reading a sample is a step, which changes nothing: the values are those that its `payload` returns.
@@ -65,7 +66,7 @@ module _ {T U B D : Type 0} (K : Type 0) (terms : Terms T U B D) where
   PayloadIsStep = (number : ℕ) (made : MadeSample) (old : NumberedHub T U B D) (values : Vec T)
       → value_at old.made.samples number ≡ Some made
       → values_under hub_ports (Some made) old.hub ≡ Some (vec_items values)
-      → IsStepBy terms (command.Read number) old (reply.Values values) old
+      → IsStepBy terms choices (command.Read number) old (reply.Values values) old
 
   -- Releasing a sample, which is consumed, is a step. `release` does this, and so does `drop_with`, which hands the sample back if it isn't
   -- held.
@@ -73,7 +74,7 @@ module _ {T U B D : Type 0} (K : Type 0) (terms : Terms T U B D) where
   ReleaseIsStep = (number : ℕ) (made : MadeSample) (old : NumberedHub T U B D) (hub : Hub T U B D) (released : Bool)
       → value_at old.made.samples number ≡ Some made
       → DropsSample hub_ports with_hub_ports made.port made.taken old.hub released hub
-      → IsStepBy terms (command.Release number) old (done_reply true) (hub_after_call old (without_sample number old.made) hub)
+      → IsStepBy terms choices (command.Release number) old (done_reply true) (hub_after_call old (without_sample number old.made) hub)
 
   -- Each call of a subscriber and of its samples is a step, by the command that asks for the same.
   pub record SubscriberCallsAreSteps : Type 0 where

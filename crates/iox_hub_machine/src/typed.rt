@@ -5,7 +5,12 @@
 //! represents the machine's state after it. So the calls of a program, from a new hub on, are a run of the machine (`HasCalled`). Messages
 //! are values of one type, or slices of them.
 ghost use Rattle.iox_hub_base.specs.DescribeBase.declared.type_detail.TypeVariant.{TypeVariant};
+ghost use Rattle.iox_hub_commands.specs.DomainValues.declared.backpressure.BackpressureAction.{BackpressureAction};
+ghost use Rattle.iox_hub_commands.specs.DomainValues.declared.backpressure_strategy.BackpressureStrategy.{BackpressureStrategy};
+ghost use Rattle.iox_hub_commands.specs.DomainValues.declared.degradation.DegradationAction.{DegradationAction};
 ghost use Rattle.iox_hub_commands.specs.Terms.{terms_of};
+ghost use Rattle.std.specs.Prelude.{Option};
+ghost use Rattle.iox_hub_machine.specs.TypedHandlers.{PublisherHandlersAreChosen, SubscriberHandlerIsChosen};
 ghost use Rattle.iox_hub_machine.specs.TypedHeaders.{HeaderIsStep, HeaderNamesPublisher, HeaderReadAsSent};
 ghost use Rattle.iox_hub_machine.specs.TypedHeaders.{UserHeadersKeepStanding, UserHeadersNeedNoCommand};
 ghost use Rattle.iox_hub_machine.specs.TypedOpening.{ServiceCallsAreSteps};
@@ -16,9 +21,10 @@ ghost use Rattle.iox_hub_machine.specs.TypedServices.{CloseIsStep, PublisherIsSt
 ghost use Rattle.iox_hub_machine.specs.TypedSubscribing.{SubscriberCallsAreSteps};
 ghost use Rattle.iox_hub_machine.specs.TypedTelling.{HubTells};
 ghost use Rattle.iox_hub_machine.specs.TypedTerms.{asked_terms};
+ghost use Rattle.iox_machine.specs.Choices.{Handed, chosen_by};
 
 use iox_describe_base::ZeroCopySend;
-use iox_domain_values::Overrides;
+use iox_domain_values::{Decides, Degrades, Overrides};
 use iox_hub_commands::{PublisherHandlers, SubscriberHandler};
 use iox_machine::{received_was_sent, samples_read_the_same};
 
@@ -27,15 +33,21 @@ use iox_machine::{received_was_sent, samples_read_the_same};
 pub fn typed_calls_are_a_run<
     T: ZeroCopySend + Default,
     U: ZeroCopySend + Default,
-    B: PublisherHandlers,
-    D: SubscriberHandler,
+    B: Decides + Degrades,
+    D: Degrades,
 >()
-    ensures begins { (variant : TypeVariant) → CallsBegin (asked_terms variant (terms_of T.name T.size T.alignment T.is_default U.name
-        U.size U.alignment U.is_default B.fixed (λ handlers. B.degrades handlers) (λ handlers. B.decides handlers) D.fixed
-        (λ handler. D.degrades handler))) }
-    ensures goes_on { (variant : TypeVariant) → CallsGoOn (asked_terms variant (terms_of T.name T.size T.alignment T.is_default U.name
-        U.size U.alignment U.is_default B.fixed (λ handlers. B.degrades handlers) (λ handlers. B.decides handlers) D.fixed
-        (λ handler. D.degrades handler))) }
+    ensures begins { (handed : Handed B D)
+        (fixed : BackpressureStrategy → Option BackpressureAction → DegradationAction → B) (fixed_reader : DegradationAction → D)
+        (variant : TypeVariant) → CallsBegin (asked_terms variant (terms_of T.name T.size T.alignment T.is_default U.name U.size
+        U.alignment U.is_default fixed (λ handlers. B.degrades handlers) (λ handlers. B.decides handlers) fixed_reader (λ handler.
+        D.degrades handler))) (chosen_by T.is_default (λ who. B.decides who) (λ who. B.degrades who)
+        (λ who. D.degrades who) handed) }
+    ensures goes_on { (handed : Handed B D)
+        (fixed : BackpressureStrategy → Option BackpressureAction → DegradationAction → B) (fixed_reader : DegradationAction → D)
+        (variant : TypeVariant) → CallsGoOn (asked_terms variant (terms_of T.name T.size T.alignment T.is_default U.name U.size
+        U.alignment U.is_default fixed (λ handlers. B.degrades handlers) (λ handlers. B.decides handlers) fixed_reader (λ handler.
+        D.degrades handler))) (chosen_by T.is_default (λ who. B.decides who) (λ who. B.degrades who)
+        (λ who. D.degrades who) handed) }
 {}
 
 /// If a hub represents a state of the machine, what its program holds by numbers can be used: ports are open, loans exist, and samples are
@@ -44,12 +56,15 @@ pub fn typed_calls_are_a_run<
 pub fn what_is_held_may_be_used<
     T: ZeroCopySend + Default,
     U: ZeroCopySend + Default,
-    B: PublisherHandlers,
-    D: SubscriberHandler,
+    B: Decides + Degrades,
+    D: Degrades,
 >()
-    ensures { (variant : TypeVariant) → HeldMayBeUsed (asked_terms variant (terms_of T.name T.size T.alignment T.is_default U.name U.size
-        U.alignment U.is_default B.fixed (λ handlers. B.degrades handlers) (λ handlers. B.decides handlers) D.fixed
-        (λ handler. D.degrades handler))) }
+    ensures { (handed : Handed B D)
+        (fixed : BackpressureStrategy → Option BackpressureAction → DegradationAction → B) (fixed_reader : DegradationAction → D)
+        (variant : TypeVariant) → HeldMayBeUsed (asked_terms variant (terms_of T.name T.size T.alignment T.is_default U.name U.size
+        U.alignment U.is_default fixed (λ handlers. B.degrades handlers) (λ handlers. B.decides handlers) fixed_reader (λ handler.
+        D.degrades handler))) (chosen_by T.is_default (λ who. B.decides who) (λ who. B.degrades who)
+        (λ who. D.degrades who) handed) }
 {}
 
 /// Each call that makes a node, creates, opens or acts on a service, or creates a subscriber is a step.
@@ -64,12 +79,15 @@ pub fn what_is_held_may_be_used<
 pub fn typed_service_calls_are_steps<
     T: ZeroCopySend + Default,
     U: ZeroCopySend + Default,
-    B: PublisherHandlers,
-    D: SubscriberHandler,
+    B: Decides + Degrades,
+    D: Degrades,
 >()
-    ensures { (variant : TypeVariant) → ServiceCallsAreSteps (asked_terms variant (terms_of T.name T.size T.alignment T.is_default U.name
-        U.size U.alignment U.is_default B.fixed (λ handlers. B.degrades handlers) (λ handlers. B.decides handlers) D.fixed
-        (λ handler. D.degrades handler))) }
+    ensures { (handed : Handed B D)
+        (fixed : BackpressureStrategy → Option BackpressureAction → DegradationAction → B) (fixed_reader : DegradationAction → D)
+        (variant : TypeVariant) → ServiceCallsAreSteps (asked_terms variant (terms_of T.name T.size T.alignment T.is_default U.name
+        U.size U.alignment U.is_default fixed (λ handlers. B.degrades handlers) (λ handlers. B.decides handlers) fixed_reader (λ
+        handler. D.degrades handler))) (chosen_by T.is_default (λ who. B.decides who) (λ who. B.degrades who)
+        (λ who. D.degrades who) handed) }
 {}
 
 /// Creating a publisher by a publish-subscribe factory is a step: `create` and `create_slice` of its builder, with what the options of the
@@ -79,12 +97,15 @@ pub fn typed_publishers_come_by_steps<
     T: ZeroCopySend + Default,
     U: ZeroCopySend + Default,
     O: Overrides,
-    B: PublisherHandlers,
-    D: SubscriberHandler,
+    B: Decides + Degrades,
+    D: Degrades,
 >(_overriding: &O)
-    ensures { (variant : TypeVariant) → PublisherIsStep (asked_terms variant (terms_of T.name T.size T.alignment T.is_default U.name U.size
-        U.alignment U.is_default B.fixed (λ handlers. B.degrades handlers) (λ handlers. B.decides handlers) D.fixed
-        (λ handler. D.degrades handler))) (O.overrides _overriding.now) }
+    ensures { (handed : Handed B D)
+        (fixed : BackpressureStrategy → Option BackpressureAction → DegradationAction → B) (fixed_reader : DegradationAction → D)
+        (variant : TypeVariant) → PublisherIsStep (asked_terms variant (terms_of T.name T.size T.alignment T.is_default U.name U.size
+        U.alignment U.is_default fixed (λ handlers. B.degrades handlers) (λ handlers. B.decides handlers) fixed_reader (λ handler.
+        D.degrades handler))) (chosen_by T.is_default (λ who. B.decides who) (λ who. B.degrades who)
+        (λ who. D.degrades who) handed) (O.overrides _overriding.now) }
 {}
 
 /// Closing a factory, or handing it back while it is in use, is a step: `close`.
@@ -92,12 +113,15 @@ pub fn typed_closes_are_steps<
     T: ZeroCopySend + Default,
     U: ZeroCopySend + Default,
     F,
-    B: PublisherHandlers,
-    D: SubscriberHandler,
+    B: Decides + Degrades,
+    D: Degrades,
 >()
-    ensures { (variant : TypeVariant) → CloseIsStep (asked_terms variant (terms_of T.name T.size T.alignment T.is_default U.name U.size
-        U.alignment U.is_default B.fixed (λ handlers. B.degrades handlers) (λ handlers. B.decides handlers) D.fixed
-        (λ handler. D.degrades handler))) F }
+    ensures { (handed : Handed B D)
+        (fixed : BackpressureStrategy → Option BackpressureAction → DegradationAction → B) (fixed_reader : DegradationAction → D)
+        (variant : TypeVariant) → CloseIsStep (asked_terms variant (terms_of T.name T.size T.alignment T.is_default U.name U.size
+        U.alignment U.is_default fixed (λ handlers. B.degrades handlers) (λ handlers. B.decides handlers) fixed_reader (λ handler.
+        D.degrades handler))) (chosen_by T.is_default (λ who. B.decides who) (λ who. B.degrades who)
+        (λ who. D.degrades who) handed) F }
 {}
 
 /// Each call of a publisher, of its loans and of its blocked sends is a step.
@@ -115,12 +139,15 @@ pub fn typed_publisher_calls_are_steps<
     T: ZeroCopySend + Default,
     U: ZeroCopySend + Default,
     K,
-    B: PublisherHandlers,
-    D: SubscriberHandler,
+    B: Decides + Degrades,
+    D: Degrades,
 >()
-    ensures { (variant : TypeVariant) → PublisherCallsAreSteps K (asked_terms variant (terms_of T.name T.size T.alignment T.is_default
-        U.name U.size U.alignment U.is_default B.fixed (λ handlers. B.degrades handlers) (λ handlers. B.decides handlers) D.fixed
-        (λ handler. D.degrades handler))) }
+    ensures { (handed : Handed B D)
+        (fixed : BackpressureStrategy → Option BackpressureAction → DegradationAction → B) (fixed_reader : DegradationAction → D)
+        (variant : TypeVariant) → PublisherCallsAreSteps K (asked_terms variant (terms_of T.name T.size T.alignment T.is_default
+        U.name U.size U.alignment U.is_default fixed (λ handlers. B.degrades handlers) (λ handlers. B.decides handlers) fixed_reader
+        (λ handler. D.degrades handler))) (chosen_by T.is_default (λ who. B.decides who) (λ who. B.degrades who)
+        (λ who. D.degrades who) handed) }
 {}
 
 /// Each call of a subscriber and of its samples is a step.
@@ -134,12 +161,15 @@ pub fn typed_subscriber_calls_are_steps<
     T: ZeroCopySend + Default,
     U: ZeroCopySend + Default,
     K,
-    B: PublisherHandlers,
-    D: SubscriberHandler,
+    B: Decides + Degrades,
+    D: Degrades,
 >()
-    ensures { (variant : TypeVariant) → SubscriberCallsAreSteps K (asked_terms variant (terms_of T.name T.size T.alignment T.is_default
-        U.name U.size U.alignment U.is_default B.fixed (λ handlers. B.degrades handlers) (λ handlers. B.decides handlers) D.fixed
-        (λ handler. D.degrades handler))) }
+    ensures { (handed : Handed B D)
+        (fixed : BackpressureStrategy → Option BackpressureAction → DegradationAction → B) (fixed_reader : DegradationAction → D)
+        (variant : TypeVariant) → SubscriberCallsAreSteps K (asked_terms variant (terms_of T.name T.size T.alignment T.is_default
+        U.name U.size U.alignment U.is_default fixed (λ handlers. B.degrades handlers) (λ handlers. B.decides handlers) fixed_reader
+        (λ handler. D.degrades handler))) (chosen_by T.is_default (λ who. B.decides who) (λ who. B.degrades who)
+        (λ who. D.degrades who) handed) }
 {}
 
 /// Writing the user header of a loan (`user_header_write`, and `user_header_mut` when the reference ends) needs no command. The machine has
@@ -147,15 +177,21 @@ pub fn typed_subscriber_calls_are_steps<
 pub fn typed_user_headers_keep_standing<
     T: ZeroCopySend + Default,
     U: ZeroCopySend + Default,
-    B: PublisherHandlers,
-    D: SubscriberHandler,
+    B: Decides + Degrades,
+    D: Degrades,
 >()
-    ensures stands { (variant : TypeVariant) → UserHeadersKeepStanding (asked_terms variant (terms_of T.name T.size T.alignment T.is_default
-        U.name U.size U.alignment U.is_default B.fixed (λ handlers. B.degrades handlers) (λ handlers. B.decides handlers) D.fixed
-        (λ handler. D.degrades handler))) }
-    ensures called { (variant : TypeVariant) → UserHeadersNeedNoCommand (asked_terms variant (terms_of T.name T.size T.alignment
-        T.is_default U.name U.size U.alignment U.is_default B.fixed (λ handlers. B.degrades handlers) (λ handlers. B.decides handlers)
-        D.fixed (λ handler. D.degrades handler))) }
+    ensures stands { (handed : Handed B D)
+        (fixed : BackpressureStrategy → Option BackpressureAction → DegradationAction → B) (fixed_reader : DegradationAction → D)
+        (variant : TypeVariant) → UserHeadersKeepStanding (asked_terms variant (terms_of T.name T.size T.alignment T.is_default
+        U.name U.size U.alignment U.is_default fixed (λ handlers. B.degrades handlers) (λ handlers. B.decides handlers) fixed_reader
+        (λ handler. D.degrades handler))) (chosen_by T.is_default (λ who. B.decides who) (λ who. B.degrades who)
+        (λ who. D.degrades who) handed) }
+    ensures called { (handed : Handed B D)
+        (fixed : BackpressureStrategy → Option BackpressureAction → DegradationAction → B) (fixed_reader : DegradationAction → D)
+        (variant : TypeVariant) → UserHeadersNeedNoCommand (asked_terms variant (terms_of T.name T.size T.alignment T.is_default
+        U.name U.size U.alignment U.is_default fixed (λ handlers. B.degrades handlers) (λ handlers. B.decides handlers) fixed_reader
+        (λ handler. D.degrades handler))) (chosen_by T.is_default (λ who. B.decides who) (λ who. B.degrades who)
+        (λ who. D.degrades who) handed) }
 {}
 
 /// Reading the header of a sample (`header`) is a step: the sequence number that it reports is the machine's answer for the sample. The
@@ -163,15 +199,21 @@ pub fn typed_user_headers_keep_standing<
 pub fn typed_headers_are_read_by_steps<
     T: ZeroCopySend + Default,
     U: ZeroCopySend + Default,
-    B: PublisherHandlers,
-    D: SubscriberHandler,
+    B: Decides + Degrades,
+    D: Degrades,
 >()
-    ensures reads { (variant : TypeVariant) → HeaderIsStep (asked_terms variant (terms_of T.name T.size T.alignment T.is_default U.name
-        U.size U.alignment U.is_default B.fixed (λ handlers. B.degrades handlers) (λ handlers. B.decides handlers) D.fixed
-        (λ handler. D.degrades handler))) }
-    ensures names { (variant : TypeVariant) → HeaderNamesPublisher (asked_terms variant (terms_of T.name T.size T.alignment T.is_default
-        U.name U.size U.alignment U.is_default B.fixed (λ handlers. B.degrades handlers) (λ handlers. B.decides handlers) D.fixed
-        (λ handler. D.degrades handler))) }
+    ensures reads { (handed : Handed B D)
+        (fixed : BackpressureStrategy → Option BackpressureAction → DegradationAction → B) (fixed_reader : DegradationAction → D)
+        (variant : TypeVariant) → HeaderIsStep (asked_terms variant (terms_of T.name T.size T.alignment T.is_default U.name U.size
+        U.alignment U.is_default fixed (λ handlers. B.degrades handlers) (λ handlers. B.decides handlers) fixed_reader (λ handler.
+        D.degrades handler))) (chosen_by T.is_default (λ who. B.decides who) (λ who. B.degrades who)
+        (λ who. D.degrades who) handed) }
+    ensures names { (handed : Handed B D)
+        (fixed : BackpressureStrategy → Option BackpressureAction → DegradationAction → B) (fixed_reader : DegradationAction → D)
+        (variant : TypeVariant) → HeaderNamesPublisher (asked_terms variant (terms_of T.name T.size T.alignment T.is_default U.name
+        U.size U.alignment U.is_default fixed (λ handlers. B.degrades handlers) (λ handlers. B.decides handlers) fixed_reader (λ
+        handler. D.degrades handler))) (chosen_by T.is_default (λ who. B.decides who) (λ who. B.degrades who)
+        (λ who. D.degrades who) handed) }
 {}
 
 /// What is recorded in the domains of a hub when sends begin. Nothing is recorded before any port was created. A call of the ports of a
@@ -186,12 +228,15 @@ pub fn typed_calls_tell<T, U, O: Overrides, B: PublisherHandlers, D: SubscriberH
 pub fn typed_headers_are_as_sent<
     T: ZeroCopySend + Default,
     U: ZeroCopySend + Default,
-    B: PublisherHandlers,
-    D: SubscriberHandler,
+    B: Decides + Degrades,
+    D: Degrades,
 >()
-    ensures { (variant : TypeVariant) → HeaderReadAsSent (asked_terms variant (terms_of T.name T.size T.alignment T.is_default U.name U.size
-        U.alignment U.is_default B.fixed (λ handlers. B.degrades handlers) (λ handlers. B.decides handlers) D.fixed
-        (λ handler. D.degrades handler))) }
+    ensures { (handed : Handed B D)
+        (fixed : BackpressureStrategy → Option BackpressureAction → DegradationAction → B) (fixed_reader : DegradationAction → D)
+        (variant : TypeVariant) → HeaderReadAsSent (asked_terms variant (terms_of T.name T.size T.alignment T.is_default U.name
+        U.size U.alignment U.is_default fixed (λ handlers. B.degrades handlers) (λ handlers. B.decides handlers) fixed_reader (λ
+        handler. D.degrades handler))) (chosen_by T.is_default (λ who. B.decides who) (λ who. B.degrades who)
+        (λ who. D.degrades who) handed) }
 {}
 
 /// The values that the `payload` of a sample returns directly after a subscriber received it are those of a message whose send began
@@ -201,12 +246,15 @@ pub fn payload_was_sent<
     T: ZeroCopySend + Default,
     U: ZeroCopySend + Default,
     K,
-    B: PublisherHandlers,
-    D: SubscriberHandler,
+    B: Decides + Degrades,
+    D: Degrades,
 >()
-    ensures { (variant : TypeVariant) → PayloadWasSent K (asked_terms variant (terms_of T.name T.size T.alignment T.is_default U.name U.size
-        U.alignment U.is_default B.fixed (λ handlers. B.degrades handlers) (λ handlers. B.decides handlers) D.fixed
-        (λ handler. D.degrades handler))) }
+    ensures { (handed : Handed B D)
+        (fixed : BackpressureStrategy → Option BackpressureAction → DegradationAction → B) (fixed_reader : DegradationAction → D)
+        (variant : TypeVariant) → PayloadWasSent K (asked_terms variant (terms_of T.name T.size T.alignment T.is_default U.name
+        U.size U.alignment U.is_default fixed (λ handlers. B.degrades handlers) (λ handlers. B.decides handlers) fixed_reader (λ
+        handler. D.degrades handler))) (chosen_by T.is_default (λ who. B.decides who) (λ who. B.degrades who)
+        (λ who. D.degrades who) handed) }
 {
     received_was_sent::<T, B, D>();
 }
@@ -217,12 +265,22 @@ pub fn payload_stays<
     T: ZeroCopySend + Default,
     U: ZeroCopySend + Default,
     K,
-    B: PublisherHandlers,
-    D: SubscriberHandler,
+    B: Decides + Degrades,
+    D: Degrades,
 >()
-    ensures { (variant : TypeVariant) → PayloadStays K (asked_terms variant (terms_of T.name T.size T.alignment T.is_default U.name U.size
-        U.alignment U.is_default B.fixed (λ handlers. B.degrades handlers) (λ handlers. B.decides handlers) D.fixed
-        (λ handler. D.degrades handler))) }
+    ensures { (handed : Handed B D)
+        (fixed : BackpressureStrategy → Option BackpressureAction → DegradationAction → B) (fixed_reader : DegradationAction → D)
+        (variant : TypeVariant) → PayloadStays K (asked_terms variant (terms_of T.name T.size T.alignment T.is_default U.name U.size
+        U.alignment U.is_default fixed (λ handlers. B.degrades handlers) (λ handlers. B.decides handlers) fixed_reader (λ handler.
+        D.degrades handler))) (chosen_by T.is_default (λ who. B.decides who) (λ who. B.degrades who)
+        (λ who. D.degrades who) handed) }
 {
     samples_read_the_same::<T, B, D>();
 }
+
+/// Whatever the handlers of a port may decide at a full mailbox and answer at a failed connection may be chosen for it, if the choices have
+/// these handlers at the port's number. So the calls of a program whose ports all have one value of handlers, as `Nobody`, need no premise.
+pub fn handed_handlers_are_chosen<T: Default, B: Decides + Degrades, D: Degrades>()
+    ensures publisher { PublisherHandlersAreChosen T.is_default (λ who. B.decides who) (λ who. B.degrades who) (λ who. D.degrades who) }
+    ensures subscriber { SubscriberHandlerIsChosen T.is_default (λ who. B.decides who) (λ who. B.degrades who) (λ who. D.degrades who) }
+{}

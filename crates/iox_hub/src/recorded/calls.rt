@@ -22,7 +22,7 @@ use iox_delivery::kind::Slice;
 use iox_delivery::loan::{Loan, LoanState};
 use iox_delivery::{BlockedSend, PortId, Sent, UpdateConnections, slices as slice};
 use iox_describe::pattern::PublishSubscribe;
-use iox_describe_base::ZeroCopySend;
+use iox_describe_base::{TypeVariant, ZeroCopySend};
 use iox_domain::settings::PublisherSettings;
 use iox_domain::{DomainId, Home};
 use iox_domain_values::{
@@ -274,6 +274,7 @@ pub(crate) fn publisher_of<T: Copy, U: Copy>(
                 .backpressure_strategy
                 .unwrap_or(PublisherSettings::default().strategy),
             first_length(options),
+            TypeVariant::Dynamic,
         ))),
         Some(Err(why)) => Some(Err(why)),
         None => None,

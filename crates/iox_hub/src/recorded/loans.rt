@@ -6,11 +6,13 @@ ghost use Rattle.iox_command.specs.declared.refusal.Refusal.TheVariants as refus
 ghost use Rattle.iox_command.specs.declared.reply.Reply.TheVariants as reply;
 ghost use Rattle.iox_container.specs.NumberTable.{inserted, removed, value_at};
 ghost use Rattle.iox_delivery.specs.Holding.{loan_found};
-ghost use Rattle.iox_delivery.specs.Publishing.{SendsSample, sample_mut_of};
+ghost use Rattle.iox_delivery.specs.DomainPorts.Messages.{write_value};
+ghost use Rattle.iox_delivery.specs.Publishing.{SendsSample, loan_changed, sample_mut_of};
 ghost use Rattle.iox_delivery.specs.Slices.{LendsDefaults, LendsSlice, WritesAll};
 ghost use Rattle.iox_delivery.specs.declared.sent.Sent.TheVariants as sent;
 ghost use Rattle.iox_domain.specs.Homes as homes;
 ghost use Rattle.iox_hub_commands.specs.Calls.{may_lend};
+ghost use Rattle.iox_hub_commands.specs.Loans.{is_set};
 ghost use Rattle.iox_hub_commands.specs.Replies.{done_reply};
 ghost use Rattle.iox_hub.specs.Recorded.{Calls, asked_too};
 ghost use Rattle.iox_hub.specs.RecordedCalls.{KeepNumbers, answered_as, told_send};
@@ -122,6 +124,22 @@ impl<
         (Named { it: sample, number }, filled)
     }
 
+    /// Writes one value of a written loan, at a place counted from 0: the command `Set`. Returns whether it is written. If some value of
+    /// the loan isn't written, or the loan has no such place, the command is skipped.
+    /// Example: `let is_set = hub.set(&sample, 0, 7);`
+    pub fn set(&mut self, sample: &Named<slice::SampleMut<T, U>>, place: usize, value: T) -> bool
+        requires { value_at self.old.calls.made.loans sample.now.number.value
+            ≡ Some (record { port = sample.now.it.port; slot = sample.now.it.slot }) }
+        ensures { self.new.calls ≡ asked_too (command.Set sample.now.number.value place value)
+            (if result then reply.Done else reply.Skipped) self.old.calls }
+    {
+        typed_calls_are_a_run::<T, U, B, D>();
+        typed_publisher_calls_are_steps::<T, U, Slice, B, D>();
+        let done = set_if(&mut self.hub, &sample.it, place, value);
+        self.history = History::told(&self.history, &sample.number, &done, &(place, value));
+        done
+    }
+
     /// Drops a loan: the command `Drop`. The command is recorded as done, and its number names nothing any longer.
     /// Example: `hub.drop_loan(loan);`
     pub fn drop_loan<S: LoanState<T, U, Slice> + Copy>(&mut self, loan: Named<Loan<T, U, Slice, S>>)
@@ -227,6 +245,28 @@ fn write_all<T: Copy, U: Copy, H: Home<T, U>>(
     let sample = loan.write_from_slice(home, values);
     let filled = is_written_with(&sample, home, values.len());
     (sample, filled)
+}
+
+// Writes one value of a written loan, at a place that it has; returns whether it did.
+fn set_if<T: Copy, U: Copy, H: Home<T, U>>(
+    home: &mut H,
+    sample: &slice::SampleMut<T, U>,
+    place: usize,
+    value: T,
+) -> bool
+    ensures answer { result ≡ is_set place (loan_found sample.now.port.number sample.now.slot
+        (homes.ports_of H.domain_of sample.now.port.domain home.old)) }
+    ensures home { home.new ≡ (if result then loan_changed (homes.ports_of H.domain_of) (homes.with_ports H.changed) sample.now.port
+        sample.now.slot (write_value place value) home.old else home.old) }
+{
+    if !sample.holds(home) {
+        return false;
+    }
+    let Some(at) = slice::SampleMut::value_mut(home, sample, place) else {
+        return false;
+    };
+    *at = value;
+    true
 }
 
 // Whether a loan is written, with this many values.

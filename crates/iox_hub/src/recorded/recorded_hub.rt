@@ -16,6 +16,7 @@ ghost use Rattle.iox_delivery.specs.declared.sent.Sent.TheVariants as sent;
 ghost use Rattle.iox_hub_commands.specs.Asked.{types_of};
 ghost use Rattle.iox_hub_commands.specs.DescribeBase.Hash.{service_hash_of};
 ghost use Rattle.iox_hub_commands.specs.DescribeBase.declared.pattern.MessagingPattern.TheVariants as messaging_pattern;
+ghost use Rattle.iox_hub_commands.specs.DescribeBase.declared.type_detail.TypeVariant.TheVariants.{Dynamic};
 ghost use Rattle.iox_hub_commands.specs.DescribeSettings.declared.static_config.Settings.TheVariants as settings;
 ghost use Rattle.iox_hub_commands.specs.DomainValues.declared.backpressure_strategy.BackpressureStrategy.TheVariants.{RetryUntilDelivered};
 ghost use Rattle.iox_hub_commands.specs.DescribeSettings.declared.static_config.publish_subscribe.StaticConfig.{StaticConfig};
@@ -23,7 +24,7 @@ ghost use Rattle.iox_hub_commands.specs.Tables.{no_numbers};
 ghost use Rattle.iox_hub_commands.specs.declared.services.made.MadeFactory.TheVariants as made_factory;
 ghost use Rattle.iox_machine.specs.Agreement.{are_within_limits, verdict};
 ghost use Rattle.iox_machine.specs.Asked.{settings_of};
-ghost use Rattle.iox_machine.specs.Choices.{as_named};
+ghost use Rattle.iox_machine.specs.Choices.{Handed, chosen_by};
 ghost use Rattle.iox_machine.specs.Run.{Answers};
 ghost use Rattle.iox_hub.specs.Recorded.{AreFollowed, asked_too};
 ghost use Rattle.iox_hub.specs.RecordedCalls.{IsAsAsked, IsReceived, KeepNumbers, answered_as, told_send};
@@ -136,10 +137,11 @@ impl<
     /// Does nothing. Its contract says that what was asked and answered is a run of a new machine, under the premises in the definition.
     /// Example: `hub.answers_as_machine();`
     pub fn answers_as_machine(&self)
-        ensures answers { AreFollowed B.fixed (λ handlers. B.degrades handlers) (λ handlers. B.decides handlers) D.fixed
-            (λ handler. D.degrades handler) self.now.calls
+        ensures answers { (handed : Handed B D) → AreFollowed B.fixed (λ handlers. B.degrades handlers)
+            (λ handlers. B.decides handlers) D.fixed (λ handler. D.degrades handler) handed self.now.calls
             → Answers (types_of T.name T.size T.alignment U.name U.size U.alignment)
-            (as_named T.is_default) self.now.calls.config.expired_connection_buffer self.now.calls.asked false self.now.calls.answers }
+            (chosen_by T.is_default (λ handlers. B.decides handlers) (λ handlers. B.degrades handlers) (λ handler. D.degrades handler)
+            handed) self.now.calls.config.expired_connection_buffer self.now.calls.asked false self.now.calls.answers }
     {
         let _ = &self.hub;
     }
@@ -148,8 +150,9 @@ impl<
     /// Example: `let is_known = hub.received_fit();`
     pub fn received_fit(&self) -> bool
         ensures fit { result ≡ true → AllByRecursion (λ values. length values < 2 ^ 63) self.now.calls.received }
-        ensures known { AreFollowed B.fixed (λ handlers. B.degrades handlers) (λ handlers. B.decides handlers) D.fixed
-            (λ handler. D.degrades handler) self.now.calls → result ≡ true }
+        ensures known { (handed : Handed B D) → AreFollowed B.fixed (λ handlers. B.degrades handlers)
+            (λ handlers. B.decides handlers) D.fixed (λ handler. D.degrades handler) handed
+            self.now.calls → result ≡ true }
     {
         self.fit
     }
@@ -380,6 +383,7 @@ impl<
             × (publisher.it.side ≡ record {
               strategy = unwrap_or options.now.backpressure_strategy RetryUntilDelivered;
               initial_max_slice_len = unwrap_or options.now.initial_max_slice_len 1;
+              payload = Dynamic;
             }))) }
     {
         let domain = domain_of(&factory.it);
@@ -563,8 +567,9 @@ impl<
         requires { value_at self.old.calls.made.subscribers subscriber.now.number.value ≡ Some subscriber.now.it.port }
         ensures updated { self.new.calls ≡ answered_as result (command.Update (port_number.Subscriber subscriber.now.number.value))
             (λ done. reply.Done) refusal.Connection (λ done calls. calls) self.old.calls }
-        ensures stands { AreFollowed B.fixed (λ handlers. B.degrades handlers) (λ handlers. B.decides handlers) D.fixed
-            (λ handler. D.degrades handler) self.old.calls → IsSome result }
+        ensures stands { (handed : Handed B D) → AreFollowed B.fixed (λ handlers. B.degrades handlers)
+            (λ handlers. B.decides handlers) D.fixed (λ handler. D.degrades handler) handed
+            self.old.calls → IsSome result }
     {
         typed_calls_are_a_run::<T, U, B, D>();
         typed_subscriber_calls_are_steps::<T, U, Slice, B, D>();
@@ -587,8 +592,9 @@ impl<
         requires { value_at self.old.calls.made.subscribers subscriber.now.number.value ≡ Some subscriber.now.it.port }
         ensures told { self.new.calls ≡ answered_as result (command.Has subscriber.now.number.value) (λ has. reply.Has has)
             refusal.Connection (λ has calls. calls) self.old.calls }
-        ensures stands { AreFollowed B.fixed (λ handlers. B.degrades handlers) (λ handlers. B.decides handlers) D.fixed
-            (λ handler. D.degrades handler) self.old.calls → IsSome result }
+        ensures stands { (handed : Handed B D) → AreFollowed B.fixed (λ handlers. B.degrades handlers)
+            (λ handlers. B.decides handlers) D.fixed (λ handler. D.degrades handler) handed
+            self.old.calls → IsSome result }
     {
         typed_calls_are_a_run::<T, U, B, D>();
         typed_subscriber_calls_are_steps::<T, U, Slice, B, D>();
@@ -615,8 +621,9 @@ impl<
             (sample.number.value ≡ self.old.calls.made.samples.next)
             × (value_at self.new.calls.made.samples sample.number.value
             ≡ Some (record { port = sample.it.port; taken = sample.it.taken }))))) }
-        ensures stands { AreFollowed B.fixed (λ handlers. B.degrades handlers) (λ handlers. B.decides handlers) D.fixed
-            (λ handler. D.degrades handler) self.old.calls → IsSome result }
+        ensures stands { (handed : Handed B D) → AreFollowed B.fixed (λ handlers. B.degrades handlers)
+            (λ handlers. B.decides handlers) D.fixed (λ handler. D.degrades handler) handed
+            self.old.calls → IsSome result }
     {
         typed_calls_are_a_run::<T, U, B, D>();
         typed_subscriber_calls_are_steps::<T, U, Slice, B, D>();
@@ -637,28 +644,31 @@ impl<
             ≡ Some (record { port = sample.now.it.port; taken = sample.now.it.taken }) }
         ensures gives { IfSome result (λ values. sample.now.number.value + 1 ≡ self.now.calls.made.samples.next
             → values.now ≡ self.now.newest) }
-        ensures reads { IfSome result (λ values. AreFollowed B.fixed (λ handlers. B.degrades handlers) (λ handlers. B.decides handlers)
-            D.fixed (λ handler. D.degrades handler)
+        ensures reads { IfSome result (λ values. (handed : Handed B D) → AreFollowed B.fixed (λ handlers. B.degrades handlers)
+            (λ handlers. B.decides handlers) D.fixed (λ handler. D.degrades handler) handed
             (record self.now.calls { asked = self.now.calls.asked ++ command.Read sample.now.number.value ∷ [] })
             → length values.now < 2 ^ 63 → (told : Vec T) × (vec_items told ≡ values.now)
             × Answers (types_of T.name T.size T.alignment U.name U.size U.alignment)
-            (as_named T.is_default) self.now.calls.config.expired_connection_buffer
+            (chosen_by T.is_default (λ handlers. B.decides handlers) (λ handlers. B.degrades handlers) (λ handler. D.degrades handler)
+            handed) self.now.calls.config.expired_connection_buffer
             (self.now.calls.asked ++ command.Read sample.now.number.value ∷ []) false
             (self.now.calls.answers ++ reply.Values told ∷ [])) }
-        ensures sent { IfSome result (λ values. AreFollowed B.fixed (λ handlers. B.degrades handlers) (λ handlers. B.decides handlers)
-            D.fixed (λ handler. D.degrades handler)
+        ensures sent { IfSome result (λ values. (handed : Handed B D) → AreFollowed B.fixed (λ handlers. B.degrades handlers)
+            (λ handlers. B.decides handlers) D.fixed (λ handler. D.degrades handler) handed
             (record self.now.calls { asked = self.now.calls.asked ++ command.Read sample.now.number.value ∷ [] })
             → length values.now < 2 ^ 63 → WasSentBefore (types_of T.name T.size T.alignment U.name U.size U.alignment)
-            (as_named T.is_default) self.now.calls.config.expired_connection_buffer sample.now.number.value values.now
+            (chosen_by T.is_default (λ handlers. B.decides handlers) (λ handlers. B.degrades handlers) (λ handler. D.degrades handler)
+            handed) self.now.calls.config.expired_connection_buffer sample.now.number.value values.now
             self.now.calls.asked self.now.calls.answers) }
-        ensures held { AreFollowed B.fixed (λ handlers. B.degrades handlers) (λ handlers. B.decides handlers) D.fixed
-            (λ handler. D.degrades handler) self.now.calls → IsSome result }
+        ensures held { (handed : Handed B D) → AreFollowed B.fixed (λ handlers. B.degrades handlers)
+            (λ handlers. B.decides handlers) D.fixed (λ handler. D.degrades handler) handed
+            self.now.calls → IsSome result }
     {
         typed_calls_are_a_run::<T, U, B, D>();
         typed_subscriber_calls_are_steps::<T, U, Slice, B, D>();
         what_is_held_may_be_used::<T, U, B, D>();
-        received_was_sent::<T, FixedHandlers, FixedDegradation>();
-        samples_read_the_same::<T, FixedHandlers, FixedDegradation>();
+        received_was_sent::<T, B, D>();
+        samples_read_the_same::<T, B, D>();
         if !sample.it.holds(&self.hub) {
             return None;
         }
@@ -671,15 +681,17 @@ impl<
     pub fn sequence(&self, sample: &Named<slice::Sample<T, U>>) -> Option<Option<u64>>
         requires { value_at self.now.calls.made.samples sample.now.number.value
             ≡ Some (record { port = sample.now.it.port; taken = sample.now.it.taken }) }
-        ensures tells { IfSome result (λ sequence. AreFollowed B.fixed (λ handlers. B.degrades handlers) (λ handlers. B.decides handlers)
-            D.fixed (λ handler. D.degrades handler)
+        ensures tells { IfSome result (λ sequence. (handed : Handed B D) → AreFollowed B.fixed (λ handlers. B.degrades handlers)
+            (λ handlers. B.decides handlers) D.fixed (λ handler. D.degrades handler) handed
             (record self.now.calls { asked = self.now.calls.asked ++ command.Sequence sample.now.number.value ∷ [] })
             → Answers (types_of T.name T.size T.alignment U.name U.size U.alignment)
-            (as_named T.is_default) self.now.calls.config.expired_connection_buffer
+            (chosen_by T.is_default (λ handlers. B.decides handlers) (λ handlers. B.degrades handlers) (λ handler. D.degrades handler)
+            handed) self.now.calls.config.expired_connection_buffer
             (self.now.calls.asked ++ command.Sequence sample.now.number.value ∷ []) false
             (self.now.calls.answers ++ reply.Sequence sequence ∷ [])) }
-        ensures held { AreFollowed B.fixed (λ handlers. B.degrades handlers) (λ handlers. B.decides handlers) D.fixed
-            (λ handler. D.degrades handler) self.now.calls → IsSome result }
+        ensures held { (handed : Handed B D) → AreFollowed B.fixed (λ handlers. B.degrades handlers)
+            (λ handlers. B.decides handlers) D.fixed (λ handler. D.degrades handler) handed
+            self.now.calls → IsSome result }
     {
         typed_calls_are_a_run::<T, U, B, D>();
         what_is_held_may_be_used::<T, U, B, D>();
@@ -698,8 +710,9 @@ impl<
         ensures released { self.new.calls ≡ record (asked_too (command.Release sample.number.value) reply.Done self.old.calls) {
           made = record self.old.calls.made { samples = removed self.old.calls.made.samples sample.number.value };
         } }
-        ensures held { AreFollowed B.fixed (λ handlers. B.degrades handlers) (λ handlers. B.decides handlers) D.fixed
-            (λ handler. D.degrades handler) self.old.calls → result ≡ true }
+        ensures held { (handed : Handed B D) → AreFollowed B.fixed (λ handlers. B.degrades handlers)
+            (λ handlers. B.decides handlers) D.fixed (λ handler. D.degrades handler) handed
+            self.old.calls → result ≡ true }
     {
         typed_calls_are_a_run::<T, U, B, D>();
         typed_subscriber_calls_are_steps::<T, U, Slice, B, D>();

@@ -8,7 +8,7 @@ ghost use Rattle.iox_command.specs.declared.service.ServiceOptions.TheVariants a
 ghost use Rattle.iox_command.specs.declared.step.ForeignStep.{ForeignStep};
 ghost use Rattle.iox_hub_base.specs.DescribeBase.Hash.{service_hash_of};
 ghost use Rattle.iox_hub_base.specs.DescribeSettings.Agreement.{agreement, AreWithinLimits, HasNoRoomForHistory};
-ghost use Rattle.iox_hub_base.specs.Hubs.{has_made};
+ghost use Rattle.iox_hub_base.specs.Hubs.{holds_builder};
 ghost use Rattle.iox_hub_base.specs.Negotiate.Asked.{IsRefusal};
 ghost use Rattle.iox_hub_base.specs.Negotiate.Negotiation.{Creates};
 ghost use Rattle.iox_hub_base.specs.Opening.{OpensInHub};
@@ -95,7 +95,7 @@ fn creates<
     asked: &PublishSubscribeOptions,
     attributes: &AttributeSpecifier,
 ) -> Result<PortFactory<PublishSubscribe>, PublishSubscribeCreateError>
-    requires { has_made builder.hub builder.node hub.old ≡ true }
+    requires { holds_builder builder.hub builder.node hub.old ≡ true }
     ensures opens { CreatesAgreed (detail FixedSize T.name T.size T.alignment) (detail FixedSize U.name U.size U.alignment)
         publish_subscribe_errors.create_error (hash_of builder.name (options.PublishSubscribe asked.now)) builder.node
         (agreed_of builder.name (options.PublishSubscribe asked.now) (types_of T.name T.size T.alignment U.name U.size U.alignment)
@@ -123,7 +123,7 @@ fn creates_as_asked<
     builder: ServiceBuilder<P>,
     attributes: &AttributeSpecifier,
 ) -> Result<PortFactory<P>, P::CreateError>
-    requires { has_made builder.hub builder.node hub.old ≡ true }
+    requires { holds_builder builder.hub builder.node hub.old ≡ true }
     ensures { OpensInHub (detail FixedSize T.name T.size T.alignment) (detail FixedSize U.name U.size U.alignment)
         (IsRefusal (AreWithinLimits (P.settings (P.adjusted (P.asked builder.requirement))))
         (HasNoRoomForHistory (P.settings (P.adjusted (P.asked builder.requirement)))) None)
@@ -217,7 +217,7 @@ fn opens<
     asked: &PublishSubscribeOptions,
     attributes: AttributeVerifier,
 ) -> Result<PortFactory<PublishSubscribe>, PublishSubscribeOpenError>
-    requires { has_made builder.hub builder.node hub.old ≡ true }
+    requires { holds_builder builder.hub builder.node hub.old ≡ true }
     ensures opens { OpensJudged (detail FixedSize T.name T.size T.alignment) (detail FixedSize U.name U.size U.alignment)
         publish_subscribe_errors.open_error (hash_of builder.name (options.PublishSubscribe asked.now)) builder.node
         (λ given. first_unmet (publish_subscribe_clauses.clauses
@@ -245,7 +245,7 @@ fn opens_as_asked<P: Negotiated, T: Words + ZeroCopySend, U: Copy + ZeroCopySend
     requirement: P::Requirement,
     attributes: AttributeVerifier,
 ) -> Result<PortFactory<P>, P::OpenError>
-    requires { has_made builder.hub builder.node hub.old ≡ true }
+    requires { holds_builder builder.hub builder.node hub.old ≡ true }
     ensures { (asked : P.Requirement) → requirement ≡ asked
         → OpensJudged (detail FixedSize T.name T.size T.alignment) (detail FixedSize U.name U.size U.alignment) P.open_error
         (service_hash_of P.pattern builder.name) builder.node (λ given. P.verdict (P.with_attributes asked attributes) given) [] hub.old
@@ -334,7 +334,7 @@ fn opens_or_creates<
     asked: &PublishSubscribeOptions,
     attributes: AttributeVerifier,
 ) -> Result<PortFactory<PublishSubscribe>, PublishSubscribeOpenOrCreateError>
-    requires { has_made builder.hub builder.node hub.old ≡ true }
+    requires { holds_builder builder.hub builder.node hub.old ≡ true }
     ensures opens { EitherJudged (detail FixedSize T.name T.size T.alignment) (detail FixedSize U.name U.size U.alignment)
         publish_subscribe_errors.open_or_create_error (hash_of builder.name (options.PublishSubscribe asked.now)) builder.node
         (λ given. first_unmet (publish_subscribe_clauses.clauses
@@ -370,7 +370,7 @@ fn opens_or_creates_as_asked<
     requirement: P::Requirement,
     attributes: AttributeVerifier,
 ) -> Result<PortFactory<P>, P::OpenOrCreateError>
-    requires { has_made builder.hub builder.node hub.old ≡ true }
+    requires { holds_builder builder.hub builder.node hub.old ≡ true }
     ensures { (asked : P.Requirement) → requirement ≡ asked
         → let required = P.with_attributes asked attributes in let config = P.adjusted (P.asked required) in
         EitherOfPattern (detail FixedSize T.name T.size T.alignment) (detail FixedSize U.name U.size U.alignment) P.pattern

@@ -1,9 +1,13 @@
 use Rattle.iox_hub_commands.specs.Terms.{terms_of}
+use Rattle.iox_machine.specs.Choices.{chosen_by}
 use Rattle.iox_hub_machine.proofs.TypedHeaders.{header_read_as_sent}
 use Rattle.iox_hub_machine.proofs.typed.typed_headers_are_as_sent.Goals as goal
 
 pub returns : goal.returns
-returns g c variant = header_read_as_sent variant (terms_of g.T.ZeroCopySend.name g.T.ZeroCopySend.size g.T.ZeroCopySend.alignment
+returns g c handed fixed fixed_reader variant = header_read_as_sent variant
+    (terms_of g.T.ZeroCopySend.name g.T.ZeroCopySend.size g.T.ZeroCopySend.alignment
     (λ value. g.T.Default.is_default value) g.U.ZeroCopySend.name g.U.ZeroCopySend.size g.U.ZeroCopySend.alignment
-    (λ header. g.U.Default.is_default header) g.B.PublisherHandlers.fixed (λ handlers. g.B.Degrades.degrades handlers)
-    (λ handlers. g.B.Decides.decides handlers) g.D.SubscriberHandler.fixed (λ handler. g.D.Degrades.degrades handler))
+    (λ header. g.U.Default.is_default header) fixed (λ handlers. g.B.Degrades.degrades handlers)
+    (λ handlers. g.B.Decides.decides handlers) fixed_reader (λ handler. g.D.Degrades.degrades handler))
+    (chosen_by (λ value. g.T.Default.is_default value) (λ who. g.B.Decides.decides who) (λ who. g.B.Degrades.degrades who)
+    (λ who. g.D.Degrades.degrades who) handed)

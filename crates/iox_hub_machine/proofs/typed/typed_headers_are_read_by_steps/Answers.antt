@@ -1,15 +1,22 @@
 use Rattle.iox_hub_commands.specs.Terms.{terms_of}
+use Rattle.iox_machine.specs.Choices.{chosen_by}
 use Rattle.iox_hub_machine.proofs.TypedHeaders.{header_is_step, header_names}
 use Rattle.iox_hub_machine.proofs.typed.typed_headers_are_read_by_steps.Goals as goal
 
 pub returns-clause-reads : goal.returns-clause-reads
-returns-clause-reads g c variant = header_is_step variant (terms_of g.T.ZeroCopySend.name g.T.ZeroCopySend.size g.T.ZeroCopySend.alignment
+returns-clause-reads g c handed fixed fixed_reader variant = header_is_step variant
+    (terms_of g.T.ZeroCopySend.name g.T.ZeroCopySend.size g.T.ZeroCopySend.alignment
     (λ value. g.T.Default.is_default value) g.U.ZeroCopySend.name g.U.ZeroCopySend.size g.U.ZeroCopySend.alignment
-    (λ header. g.U.Default.is_default header) g.B.PublisherHandlers.fixed (λ handlers. g.B.Degrades.degrades handlers)
-    (λ handlers. g.B.Decides.decides handlers) g.D.SubscriberHandler.fixed (λ handler. g.D.Degrades.degrades handler))
+    (λ header. g.U.Default.is_default header) fixed (λ handlers. g.B.Degrades.degrades handlers)
+    (λ handlers. g.B.Decides.decides handlers) fixed_reader (λ handler. g.D.Degrades.degrades handler))
+    (chosen_by (λ value. g.T.Default.is_default value) (λ who. g.B.Decides.decides who) (λ who. g.B.Degrades.degrades who)
+    (λ who. g.D.Degrades.degrades who) handed)
 
 pub returns-clause-names : goal.returns-clause-names
-returns-clause-names g c variant = header_names variant (terms_of g.T.ZeroCopySend.name g.T.ZeroCopySend.size g.T.ZeroCopySend.alignment
+returns-clause-names g c handed fixed fixed_reader variant = header_names variant
+    (terms_of g.T.ZeroCopySend.name g.T.ZeroCopySend.size g.T.ZeroCopySend.alignment
     (λ value. g.T.Default.is_default value) g.U.ZeroCopySend.name g.U.ZeroCopySend.size g.U.ZeroCopySend.alignment
-    (λ header. g.U.Default.is_default header) g.B.PublisherHandlers.fixed (λ handlers. g.B.Degrades.degrades handlers)
-    (λ handlers. g.B.Decides.decides handlers) g.D.SubscriberHandler.fixed (λ handler. g.D.Degrades.degrades handler))
+    (λ header. g.U.Default.is_default header) fixed (λ handlers. g.B.Degrades.degrades handlers)
+    (λ handlers. g.B.Decides.decides handlers) fixed_reader (λ handler. g.D.Degrades.degrades handler))
+    (chosen_by (λ value. g.T.Default.is_default value) (λ who. g.B.Decides.decides who) (λ who. g.B.Degrades.degrades who)
+    (λ who. g.D.Degrades.degrades who) handed)

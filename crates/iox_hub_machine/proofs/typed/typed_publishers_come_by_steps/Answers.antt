@@ -1,10 +1,14 @@
 use Rattle.iox_hub_commands.specs.Terms.{terms_of}
+use Rattle.iox_machine.specs.Choices.{chosen_by}
 use Rattle.iox_hub_machine.proofs.TypedServices.{publisher_is_step}
 use Rattle.iox_hub_machine.proofs.typed.typed_publishers_come_by_steps.Goals as goal
 
 pub returns : goal.returns
-returns g c variant = publisher_is_step variant (terms_of g.T.ZeroCopySend.name g.T.ZeroCopySend.size g.T.ZeroCopySend.alignment
+returns g c handed fixed fixed_reader variant = publisher_is_step variant
+    (terms_of g.T.ZeroCopySend.name g.T.ZeroCopySend.size g.T.ZeroCopySend.alignment
     (λ value. g.T.Default.is_default value) g.U.ZeroCopySend.name g.U.ZeroCopySend.size g.U.ZeroCopySend.alignment
-    (λ header. g.U.Default.is_default header) g.B.PublisherHandlers.fixed (λ handlers. g.B.Degrades.degrades handlers)
-    (λ handlers. g.B.Decides.decides handlers) g.D.SubscriberHandler.fixed (λ handler. g.D.Degrades.degrades handler))
+    (λ header. g.U.Default.is_default header) fixed (λ handlers. g.B.Degrades.degrades handlers)
+    (λ handlers. g.B.Decides.decides handlers) fixed_reader (λ handler. g.D.Degrades.degrades handler))
+    (chosen_by (λ value. g.T.Default.is_default value) (λ who. g.B.Decides.decides who) (λ who. g.B.Degrades.degrades who)
+    (λ who. g.D.Degrades.degrades who) handed)
     (g.O.Overrides.overrides c.args._overriding.now)

@@ -5,7 +5,7 @@ use Rattle.iox_negotiate_machine.specs.Laws.{HaveOwnHashes}
 use Rattle.iox_hub.proofs.recorded.laws.reads_are_followed.Goals as goal
 
 pub returns : goal.returns
-returns g c = λ calls sample followed few. let (decides, answers, own, fewer, fit) = followed in
+returns g c = λ handed calls sample followed few. let (decides, answers, own, fewer, fit) = followed in
     let both = both_asked calls.asked (command.Read sample ∷ []) in (
       decides,
       answers,

@@ -5,5 +5,5 @@ use Rattle.iox_hub.proofs.recorded.recorded_hub.RecordedHub.answers_as_machine.G
 pub returns : goal.returns
 returns g c = record {
   answers = rw (← c.self.view_is)
-      (answers_so _ refl c.self.inside.history.calls c.self.inside.hub c.self.invariant.run);
+      (λ handed. answers_so _ refl handed c.self.inside.history.calls c.self.inside.hub (c.self.invariant.run handed));
 }

@@ -5,16 +5,19 @@ use Rattle.iox_hub.proofs.RecordedTold.{closed_so, closes_back}
 use Rattle.iox_hub_base.specs.Closing.{in_use}
 use Rattle.iox_hub_commands.specs.DescribeBase.declared.type_detail.TypeVariant.TheVariants.{Dynamic}
 use Rattle.iox_hub_commands.specs.declared.services.made.MadeFactory.TheVariants as made_factory
+use Rattle.iox_hub.proofs.RecordedRuns.{for_all, for_one}
 use Rattle.iox_hub.proofs.recorded.recorded_hub.RecordedHub.close.Goals as goal
 
 pub invariant_of-self : goal.invariant_of-self
 invariant_of-self g c = rw c.told-self-inside.ensures
-    (closed_recorded _ refl (c.typed_calls_are_a_run.ensures.goes_on Dynamic)
-    (c.typed_closes_are_steps.ensures Dynamic)
+    (for_all _ (λ handed. closed_recorded _ refl handed (c.typed_calls_are_a_run.ensures.goes_on handed g.B.PublisherHandlers.fixed
+    g.D.SubscriberHandler.fixed
+    Dynamic)
+    (c.typed_closes_are_steps.ensures handed g.B.PublisherHandlers.fixed g.D.SubscriberHandler.fixed Dynamic)
     c.self.inside.history.calls c.self.inside.hub c.close-closed.new.self c.args.factory.number.value
     (made_factory.PublishSubscribe c.args.factory.it) c.args.factory.it
     (result_map_both (λ done. done) (λ refused. (refused.error, refused.factory)) c.close-closed.result)
-    (rw (← c.self.view_is) at c.requires.made) c.close-closed.ensures c.self.invariant)
+    (rw (← c.self.view_is) at c.requires.made) c.close-closed.ensures (for_one _ c.self.invariant handed)))
 
 pub returns : goal.returns
 returns g c = rw (c.closed_with_number.ensures, ← c.self.view_is, c.told-self-inside.ensures)

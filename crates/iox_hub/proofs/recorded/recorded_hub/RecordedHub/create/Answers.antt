@@ -11,15 +11,19 @@ use Rattle.iox_hub.proofs.RecordedTold.{factory_goes_by, here_so, opened_so}
 use Rattle.iox_hub_commands.specs.Asked.{types_of}
 use Rattle.iox_hub_commands.specs.DescribeBase.declared.type_detail.TypeVariant.TheVariants.{Dynamic}
 use Rattle.iox_hub_commands.specs.declared.services.made.MadeFactory.TheVariants as made_factory
+use Rattle.iox_hub.proofs.RecordedRuns.{for_all, for_one}
 use Rattle.iox_hub.proofs.recorded.recorded_hub.RecordedHub.create.Goals as goal
 
 pub invariant_of-self : goal.invariant_of-self
 invariant_of-self g c = rw c.told-self-inside.ensures
-    (created_recorded _ refl c.self.inside.history.calls c.self.inside.hub c.create_if-answer.new.hub c.number-asked.result
-    c.args.name c.args.options.now (c.typed_calls_are_a_run.ensures.goes_on Dynamic)
-    (c.typed_service_calls_are_steps.ensures Dynamic).create c.args.attributes.now
+    (for_all _ (λ handed. created_recorded _ refl handed c.self.inside.history.calls c.self.inside.hub c.create_if-answer.new.hub
+    c.number-asked.result
+    c.args.name c.args.options.now (c.typed_calls_are_a_run.ensures.goes_on handed g.B.PublisherHandlers.fixed
+    g.D.SubscriberHandler.fixed Dynamic)
+    (c.typed_service_calls_are_steps.ensures handed g.B.PublisherHandlers.fixed g.D.SubscriberHandler.fixed Dynamic).create
+    c.args.attributes.now
     (as_made (λ it. made_factory.PublishSubscribe it) c.create_if-answer.result)
-    (c.create_if-answer.ensures.opens c.self.inside.history.calls.factories) c.self.invariant)
+    (c.create_if-answer.ensures.opens c.self.inside.history.calls.factories) (for_one _ c.self.invariant handed)))
 
 pub returns-clause-created : goal.returns-clause-created
 returns-clause-created g c = rw (c.with_number.ensures, ← c.self.view_is, c.told-self-inside.ensures, c.number-asked.ensures)

@@ -1,5 +1,5 @@
 use Rattle.std.proofs.Common.{refl}
-use Rattle.iox_hub.proofs.RecordedRuns.{give_up_recorded}
+use Rattle.iox_hub.proofs.RecordedRuns.{for_all, for_one, give_up_recorded}
 use Rattle.iox_hub_commands.specs.DescribeBase.declared.type_detail.TypeVariant.TheVariants.{Dynamic}
 use Rattle.iox_command.specs.declared.command.Command.TheVariants as command
 use Rattle.iox_hub.proofs.RecordedTold.{given_up_so}
@@ -7,11 +7,13 @@ use Rattle.iox_hub.proofs.recorded.recorded_hub.RecordedHub.give_up.Goals as goa
 
 pub invariant_of-self : goal.invariant_of-self
 invariant_of-self g c = rw c.told-self-inside.ensures
-    (give_up_recorded _ refl (c.typed_calls_are_a_run.ensures.goes_on Dynamic)
-    (c.typed_publisher_calls_are_steps.ensures Dynamic).give_up
+    (for_all _ (λ handed. give_up_recorded _ refl handed (c.typed_calls_are_a_run.ensures.goes_on handed g.B.PublisherHandlers.fixed
+    g.D.SubscriberHandler.fixed
+    Dynamic)
+    (c.typed_publisher_calls_are_steps.ensures handed g.B.PublisherHandlers.fixed g.D.SubscriberHandler.fixed Dynamic).give_up
     c.self.inside.history.calls c.self.inside.hub c.give_up_if-answer.new.home c.args.publisher.now.number.value
     c.args.publisher.now.it.port c.give_up_if-answer.result (rw (← c.self.view_is) at c.requires.made)
-    (rw c.requires.waits at c.give_up_if-answer.ensures) c.self.invariant)
+    (rw c.requires.waits at c.give_up_if-answer.ensures) (for_one _ c.self.invariant handed)))
 
 pub returns : goal.returns
 returns g c = record {

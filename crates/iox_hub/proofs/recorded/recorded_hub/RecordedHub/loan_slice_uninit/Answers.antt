@@ -4,15 +4,18 @@ use Rattle.iox_hub_commands.specs.DescribeBase.declared.type_detail.TypeVariant.
 use Rattle.iox_hub_commands.specs.Calls.{may_lend}
 use Rattle.iox_hub_base.specs.AsHome.{hub_ports}
 use Rattle.iox_hub.proofs.RecordedLoans.{lent_recorded, lends_so, lent_so, loan_goes_by, loans_keep}
+use Rattle.iox_hub.proofs.RecordedRuns.{for_all, for_one}
 use Rattle.iox_hub.proofs.recorded.recorded_hub.RecordedHub.loan_slice_uninit.Goals as goal
 
 pub invariant_of-self : goal.invariant_of-self
 invariant_of-self g c = rw c.told_lent-self-inside.ensures
-    (lent_recorded _ refl (c.typed_calls_are_a_run.ensures.goes_on Dynamic)
-    (c.typed_publisher_calls_are_steps.ensures Dynamic).loan_uninit
+    (for_all _ (λ handed. lent_recorded _ refl handed (c.typed_calls_are_a_run.ensures.goes_on handed g.B.PublisherHandlers.fixed
+    g.D.SubscriberHandler.fixed
+    Dynamic)
+    (c.typed_publisher_calls_are_steps.ensures handed g.B.PublisherHandlers.fixed g.D.SubscriberHandler.fixed Dynamic).loan_uninit
     c.self.inside.history.calls c.self.inside.hub c.lend_uninit_if-answer.new.home c.args.publisher.now.number.value c.args.len
     c.args.publisher.now.it.port c.lend_uninit_if-answer.result (rw (← c.self.view_is) at c.requires)
-    c.lend_uninit_if-answer.ensures c.self.invariant)
+    c.lend_uninit_if-answer.ensures (for_one _ c.self.invariant handed)))
 
 pub returns-clause-lent : goal.returns-clause-lent
 returns-clause-lent g c = rw (c.with_number.ensures, ← c.self.view_is, c.told_lent-self-inside.ensures)

@@ -11,14 +11,19 @@ use Rattle.iox_hub.proofs.RecordedTold.{factory_goes_by, here_so, opened_so}
 use Rattle.iox_hub_commands.specs.Asked.{types_of}
 use Rattle.iox_hub_commands.specs.DescribeBase.declared.type_detail.TypeVariant.TheVariants.{Dynamic}
 use Rattle.iox_hub_commands.specs.declared.services.made.MadeFactory.TheVariants as made_factory
+use Rattle.iox_hub.proofs.RecordedRuns.{for_all, for_one}
 use Rattle.iox_hub.proofs.recorded.recorded_hub.RecordedHub.open.Goals as goal
 
 pub invariant_of-self : goal.invariant_of-self
 invariant_of-self g c = rw c.opened-answer.ensures.told
-    (opened_recorded _ refl c.self.inside.history.calls c.self.inside.hub c.opened-answer.new.hub c.number.result
-    c.args.name c.args.options.now (c.typed_calls_are_a_run.ensures.goes_on Dynamic)
-    (c.typed_service_calls_are_steps.ensures Dynamic).opening c.args.attributes
-    (as_made (λ it. made_factory.PublishSubscribe it) c.opened-answer.result.0) c.opened-answer.ensures.opens c.self.invariant)
+    (for_all _ (λ handed. opened_recorded _ refl handed c.self.inside.history.calls c.self.inside.hub c.opened-answer.new.hub
+    c.number.result
+    c.args.name c.args.options.now (c.typed_calls_are_a_run.ensures.goes_on handed g.B.PublisherHandlers.fixed
+    g.D.SubscriberHandler.fixed Dynamic)
+    (c.typed_service_calls_are_steps.ensures handed g.B.PublisherHandlers.fixed g.D.SubscriberHandler.fixed Dynamic).opening
+    c.args.attributes
+    (as_made (λ it. made_factory.PublishSubscribe it) c.opened-answer.result.0) c.opened-answer.ensures.opens (for_one _
+    c.self.invariant handed)))
 
 pub returns-clause-opened : goal.returns-clause-opened
 returns-clause-opened g c = rw (c.with_number.ensures, ← c.self.view_is, c.opened-answer.ensures.told, c.number.ensures)

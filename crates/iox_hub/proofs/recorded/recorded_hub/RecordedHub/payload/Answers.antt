@@ -1,9 +1,9 @@
-use Rattle.std.proofs.Common.{◌∙◌, None, subst, sym, refl}
+use Rattle.std.proofs.Common.{◌∙◌, subst, sym, refl}
 use Rattle.iox_domain.specs.Fitting.{asked_types}
 use Rattle.iox_hub.proofs.RecordedSent.{reads_as_sent}
 use Rattle.iox_hub.specs.RecordedLaws.{WasSentBefore}
-use Rattle.iox_machine.specs.Choices.{as_named}
-use Rattle.iox_hub.proofs.RecordedRuns.{may_be_used, read_so}
+use Rattle.iox_machine.specs.Choices.{chosen_by}
+use Rattle.iox_hub.proofs.RecordedRuns.{for_one, may_be_used, read_so}
 use Rattle.iox_hub.proofs.RecordedSkips.{never_so}
 use Rattle.iox_hub.proofs.RecordedTold.{gives_newest}
 use Rattle.iox_hub_commands.specs.DescribeBase.Detail.{detail}
@@ -18,27 +18,32 @@ returns-clause-gives g c = rw (← c.self.view_is)
 
 pub returns-clause-reads : goal.returns-clause-reads
 returns-clause-reads g c = rw (← c.self.view_is)
-    (λ followed small. read_so _ refl (c.typed_calls_are_a_run.ensures.goes_on Dynamic)
-    (c.typed_subscriber_calls_are_steps.ensures Dynamic).payload
+    (λ handed followed small. read_so _ refl handed (c.typed_calls_are_a_run.ensures.goes_on handed g.B.PublisherHandlers.fixed
+    g.D.SubscriberHandler.fixed Dynamic)
+    (c.typed_subscriber_calls_are_steps.ensures handed g.B.PublisherHandlers.fixed g.D.SubscriberHandler.fixed Dynamic).payload
     c.self.inside.history.calls c.self.inside.hub c.args.sample.now.number.value
     (record { port = c.args.sample.now.it.port; taken = c.args.sample.now.it.taken })
-    c.payload.result.now (rw (← c.self.view_is) at c.requires) (sym c.payload.ensures) c.self.invariant followed small)
+    c.payload.result.now (rw (← c.self.view_is) at c.requires) (sym c.payload.ensures) (for_one _ c.self.invariant handed) followed small)
 
 pub returns-clause-sent : goal.returns-clause-sent
 returns-clause-sent g c = rw (← c.self.view_is)
-    (λ followed small. let (told, are, answers) = read_so _ refl (c.typed_calls_are_a_run.ensures.goes_on Dynamic)
-    (c.typed_subscriber_calls_are_steps.ensures Dynamic).payload
+    (λ handed followed small. let (told, are, answers) = read_so _ refl handed
+    (c.typed_calls_are_a_run.ensures.goes_on handed g.B.PublisherHandlers.fixed g.D.SubscriberHandler.fixed Dynamic)
+    (c.typed_subscriber_calls_are_steps.ensures handed g.B.PublisherHandlers.fixed g.D.SubscriberHandler.fixed Dynamic).payload
     c.self.inside.history.calls c.self.inside.hub c.args.sample.now.number.value
     (record { port = c.args.sample.now.it.port; taken = c.args.sample.now.it.taken })
-    c.payload.result.now (rw (← c.self.view_is) at c.requires) (sym c.payload.ensures) c.self.invariant followed small in
+    c.payload.result.now (rw (← c.self.view_is) at c.requires) (sym c.payload.ensures) (for_one _ c.self.invariant handed) followed small in
     subst (λ values. WasSentBefore (asked_types Dynamic
     (detail FixedSize g.T.ZeroCopySend.name g.T.ZeroCopySend.size g.T.ZeroCopySend.alignment)
     (detail FixedSize g.U.ZeroCopySend.name g.U.ZeroCopySend.size g.U.ZeroCopySend.alignment))
-    (as_named (λ value. g.T.Default.is_default value)) c.self.inside.history.calls.config.expired_connection_buffer
+    (chosen_by (λ value. g.T.Default.is_default value) (λ handlers. g.B.Decides.decides handlers)
+    (λ handlers. g.B.Degrades.degrades handlers) (λ handler. g.D.Degrades.degrades handler) handed)
+    c.self.inside.history.calls.config.expired_connection_buffer
     c.args.sample.now.number.value values c.self.inside.history.calls.asked c.self.inside.history.calls.answers) are
-    (reads_as_sent (as_named (λ value. g.T.Default.is_default value))
-    (c.received_was_sent.ensures (record { publishers = λ number. None; subscribers = λ number. None }))
-    (c.samples_read_the_same.ensures (record { publishers = λ number. None; subscribers = λ number. None }))
+    (reads_as_sent (chosen_by (λ value. g.T.Default.is_default value) (λ handlers. g.B.Decides.decides handlers)
+    (λ handlers. g.B.Degrades.degrades handlers) (λ handler. g.D.Degrades.degrades handler) handed)
+    (c.received_was_sent.ensures handed)
+    (c.samples_read_the_same.ensures handed)
     (asked_types Dynamic (detail FixedSize g.T.ZeroCopySend.name g.T.ZeroCopySend.size g.T.ZeroCopySend.alignment)
     (detail FixedSize g.U.ZeroCopySend.name g.U.ZeroCopySend.size g.U.ZeroCopySend.alignment))
     c.self.inside.history.calls.config.expired_connection_buffer c.self.inside.history.calls.asked c.self.inside.history.calls.answers
@@ -47,9 +52,10 @@ returns-clause-sent g c = rw (← c.self.view_is)
     (record { port = c.args.sample.now.it.port; taken = c.args.sample.now.it.taken }) (rw (← c.self.view_is) at c.requires)) answers))
 
 pub returns-then-not-holds-clause-held : goal.returns-then-not-holds-clause-held
-returns-then-not-holds-clause-held g c = λ followed.
-    never_so c.holds.result (c.holds.ensures ∙ (may_be_used _ refl (c.what_is_held_may_be_used.ensures Dynamic)
-    c.self.inside.history.calls c.self.inside.hub c.self.invariant
+returns-then-not-holds-clause-held g c = λ handed followed.
+    never_so c.holds.result (c.holds.ensures ∙ (may_be_used _ refl handed
+    (c.what_is_held_may_be_used.ensures handed g.B.PublisherHandlers.fixed g.D.SubscriberHandler.fixed Dynamic)
+    c.self.inside.history.calls c.self.inside.hub (for_one _ c.self.invariant handed)
     (rw (← c.self.view_is) at followed)).samples c.args.sample.now.number.value
     (record { port = c.args.sample.now.it.port; taken = c.args.sample.now.it.taken }) (rw (← c.self.view_is) at c.requires))
     c.if-not-holds.true

@@ -7,4 +7,4 @@ returns-clause-fit g c = rw (← c.self.view_is) c.self.invariant.all_fit
 
 pub returns-clause-known : goal.returns-clause-known
 returns-clause-known g c = rw (← c.self.view_is)
-    (known_so _ refl c.self.inside.history.calls c.self.inside.hub c.self.invariant.run)
+    (λ handed. known_so _ refl handed c.self.inside.history.calls c.self.inside.hub (c.self.invariant.run handed))

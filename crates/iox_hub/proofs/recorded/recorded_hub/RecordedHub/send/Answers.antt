@@ -1,14 +1,17 @@
 use Rattle.std.proofs.Common.{refl}
 use Rattle.iox_hub_commands.specs.DescribeBase.declared.type_detail.TypeVariant.TheVariants.{Dynamic}
 use Rattle.iox_hub.proofs.RecordedLoans.{sample_back, sample_waits, sends_so, sent_recorded}
+use Rattle.iox_hub.proofs.RecordedRuns.{for_all, for_one}
 use Rattle.iox_hub.proofs.recorded.recorded_hub.RecordedHub.send.Goals as goal
 
 pub invariant_of-self : goal.invariant_of-self
 invariant_of-self g c = rw (c.told-self-inside.ensures, c.sent_came-came.ensures, c.has_left-gone.ensures)
-    (sent_recorded _ refl (c.typed_calls_are_a_run.ensures.goes_on Dynamic)
-    (c.typed_publisher_calls_are_steps.ensures Dynamic).send
+    (for_all _ (λ handed. sent_recorded _ refl handed (c.typed_calls_are_a_run.ensures.goes_on handed g.B.PublisherHandlers.fixed
+    g.D.SubscriberHandler.fixed
+    Dynamic)
+    (c.typed_publisher_calls_are_steps.ensures handed g.B.PublisherHandlers.fixed g.D.SubscriberHandler.fixed Dynamic).send
     c.self.inside.history.calls c.self.inside.hub c.send_if-answer.new.home c.args.sample.number.value c.args.sample.it
-    c.send_if-answer.result (rw (← c.self.view_is) at c.requires) c.send_if-answer.ensures c.self.invariant)
+    c.send_if-answer.result (rw (← c.self.view_is) at c.requires) c.send_if-answer.ensures (for_one _ c.self.invariant handed)))
 
 pub returns-clause-sent : goal.returns-clause-sent
 returns-clause-sent g c = rw (

@@ -1,5 +1,5 @@
 use Rattle.std.proofs.Common.{refl}
-use Rattle.iox_hub.proofs.RecordedRuns.{put_recorded}
+use Rattle.iox_hub.proofs.RecordedRuns.{for_all, for_one, put_recorded}
 use Rattle.iox_hub.proofs.RecordedTold.{put_waits, sent_so}
 use Rattle.iox_command.specs.declared.command.Command.TheVariants as command
 use Rattle.iox_hub_commands.specs.DescribeBase.declared.type_detail.TypeVariant.TheVariants.{Dynamic}
@@ -7,10 +7,13 @@ use Rattle.iox_hub.proofs.recorded.recorded_hub.RecordedHub.send_slice.Goals as 
 
 pub invariant_of-self : goal.invariant_of-self
 invariant_of-self g c = rw c.told_put-self-inside.ensures
-    (put_recorded _ refl (c.typed_calls_are_a_run.ensures.goes_on Dynamic)
-    (c.typed_publisher_calls_are_steps.ensures Dynamic).send_slice
+    (for_all _ (λ handed. put_recorded _ refl handed (c.typed_calls_are_a_run.ensures.goes_on handed g.B.PublisherHandlers.fixed
+    g.D.SubscriberHandler.fixed
+    Dynamic)
+    (c.typed_publisher_calls_are_steps.ensures handed g.B.PublisherHandlers.fixed g.D.SubscriberHandler.fixed Dynamic).send_slice
     c.self.inside.history.calls c.self.inside.hub c.put_if-answer.new.home c.args.publisher.now.number.value c.args.publisher.now.it.port
-    c.args.values.now c.put_if-answer.result (rw (← c.self.view_is) at c.requires) c.put_if-answer.ensures c.self.invariant)
+    c.args.values.now c.put_if-answer.result (rw (← c.self.view_is) at c.requires) c.put_if-answer.ensures (for_one _
+    c.self.invariant handed)))
 
 pub returns-clause-sent : goal.returns-clause-sent
 returns-clause-sent g c = rw (← c.self.view_is, c.told_put-self-inside.ensures)

@@ -1,21 +1,22 @@
 use Rattle.std.proofs.Common.{refl}
 use Rattle.iox_hub.specs.RecordedNames.{subscriber_side}
 use Rattle.iox_hub.proofs.KeptNumbers.{subscribers_keep}
-use Rattle.iox_hub.proofs.RecordedRuns.{subscriber_recorded}
+use Rattle.iox_hub.proofs.RecordedRuns.{for_all, for_one, subscriber_recorded}
 use Rattle.iox_hub.proofs.RecordedTold.{has_side, subscriber_goes_by, subscriber_so}
 use Rattle.iox_hub_commands.specs.DescribeBase.declared.type_detail.TypeVariant.TheVariants.{Dynamic}
 use Rattle.iox_hub.proofs.recorded.recorded_hub.RecordedHub.subscriber.Goals as goal
 
 pub invariant_of-self : goal.invariant_of-self
 invariant_of-self g c = rw (c.told-self-inside.ensures, c.domain_of-domain.ensures)
-    (subscriber_recorded _ refl
+    (for_all _ (λ handed. subscriber_recorded _ refl handed
     c.self.inside.history.calls c.self.inside.hub c.create_subscriber-answer.new.home c.args.factory.now.number.value
     (c.args.factory.now.it.service.membership, c.args.factory.now.it.owner)
     (let there = rw (← c.self.view_is) at c.requires in rw there refl)
-    (c.typed_calls_are_a_run.ensures.goes_on Dynamic)
-    (c.typed_service_calls_are_steps.ensures Dynamic).subscriber c.args.options.now c.create_subscriber-answer.result
+    (c.typed_calls_are_a_run.ensures.goes_on handed g.B.PublisherHandlers.fixed g.D.SubscriberHandler.fixed Dynamic)
+    (c.typed_service_calls_are_steps.ensures handed g.B.PublisherHandlers.fixed g.D.SubscriberHandler.fixed Dynamic).subscriber
+    c.args.options.now c.create_subscriber-answer.result
     (rw (c.subscriber_config-config.ensures, c.subscriber_handler.ensures, c.owner_of.ensures, c.domain_of-domain.ensures)
-    at c.create_subscriber-answer.ensures) c.self.invariant)
+    at c.create_subscriber-answer.ensures) (for_one _ c.self.invariant handed)))
 
 pub returns-clause-made : goal.returns-clause-made
 returns-clause-made g c = rw (c.with_number.ensures, c.subscriber_of.ensures, ← c.self.view_is, c.told-self-inside.ensures)

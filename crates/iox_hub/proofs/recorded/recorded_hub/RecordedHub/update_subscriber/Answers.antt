@@ -7,15 +7,19 @@ use Rattle.iox_hub_commands.specs.CommandSteps.{subscriber_may_degrade}
 use Rattle.iox_hub.proofs.RecordedFollowing.{stands_so, subscriber_updated}
 use Rattle.iox_hub.proofs.RecordedTold.{updated_so}
 use Rattle.iox_hub_commands.specs.DescribeBase.declared.type_detail.TypeVariant.TheVariants.{Dynamic}
+use Rattle.iox_hub.proofs.RecordedRuns.{for_all, for_one}
 use Rattle.iox_hub.proofs.recorded.recorded_hub.RecordedHub.update_subscriber.Goals as goal
 
 pub invariant_of-self : goal.invariant_of-self
 invariant_of-self g c = rw c.told-self-inside.ensures
-    (subscriber_updated _ refl (c.typed_calls_are_a_run.ensures.goes_on Dynamic)
-    (c.typed_subscriber_calls_are_steps.ensures Dynamic).update (c.what_is_held_may_be_used.ensures Dynamic)
+    (for_all _ (λ handed. subscriber_updated _ refl handed (c.typed_calls_are_a_run.ensures.goes_on handed g.B.PublisherHandlers.fixed
+    g.D.SubscriberHandler.fixed Dynamic)
+    (c.typed_subscriber_calls_are_steps.ensures handed g.B.PublisherHandlers.fixed g.D.SubscriberHandler.fixed Dynamic).update
+    (c.what_is_held_may_be_used.ensures handed g.B.PublisherHandlers.fixed g.D.SubscriberHandler.fixed Dynamic)
     c.self.inside.history.calls c.self.inside.hub c.update_subscriber_if-answer.new.home c.args.subscriber.now.number.value
     c.args.subscriber.now.it.port
-    c.update_subscriber_if-answer.result (rw (← c.self.view_is) at c.requires) c.update_subscriber_if-answer.ensures c.self.invariant)
+    c.update_subscriber_if-answer.result (rw (← c.self.view_is) at c.requires) c.update_subscriber_if-answer.ensures (for_one _
+    c.self.invariant handed)))
 
 pub returns-clause-updated : goal.returns-clause-updated
 returns-clause-updated g c = rw (← c.self.view_is, c.told-self-inside.ensures)
@@ -23,11 +27,12 @@ returns-clause-updated g c = rw (← c.self.view_is, c.told-self-inside.ensures)
     c.update_subscriber_if-answer.result)
 
 pub returns-clause-stands : goal.returns-clause-stands
-returns-clause-stands g c = λ followed.
-    stands_so _ refl (c.what_is_held_may_be_used.ensures Dynamic)
+returns-clause-stands g c = λ handed followed.
+    stands_so _ refl handed (c.what_is_held_may_be_used.ensures handed g.B.PublisherHandlers.fixed g.D.SubscriberHandler.fixed Dynamic)
     c.self.inside.history.calls c.self.inside.hub c.update_subscriber_if-answer.new.home c.args.subscriber.now.number.value
     c.args.subscriber.now.it.port
     (FollowsPublishers hub_ports with_hub_ports (subscriber_may_degrade (λ handler. g.D.Degrades.degrades handler))
     c.args.subscriber.now.it.port)
-    c.update_subscriber_if-answer.result (rw (← c.self.view_is) at c.requires) c.update_subscriber_if-answer.ensures c.self.invariant
+    c.update_subscriber_if-answer.result (rw (← c.self.view_is) at c.requires) c.update_subscriber_if-answer.ensures (for_one _
+    c.self.invariant handed)
     (rw (← c.self.view_is) at followed)

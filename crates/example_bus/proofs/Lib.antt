@@ -1,0 +1,3 @@
+mod ReceivedOnce
+mod HeardBySteps
+mod JoinedRuns
