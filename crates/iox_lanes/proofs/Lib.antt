@@ -40,3 +40,4 @@ pub mod Missing
 pub mod HeldByNone
 pub mod Abandoned
 pub mod ReadWhole
+mod Owning

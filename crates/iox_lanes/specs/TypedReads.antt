@@ -1,13 +1,16 @@
 -- What subscribers read that know the types of their service.
-use Rattle.std.specs.Prelude.{ℕ, ◌≡◌, true, List, slice_index, Option, None, Some, Result, Ok, Err}
+use Rattle.std.specs.Prelude.{ℕ, ◌≡◌, ◌+◌, ◌⊎◌, true, false, List, length, slice_index, Option, None, Some, Result, Ok, Err}
 use Rattle.iox_lanes_base.specs.declared.calls.subscriber.Receipt.{Receipt}
 use Rattle.iox_lanes_base.specs.declared.calls.subscriber.Receipt.TheVariants as receipt
 use Rattle.iox_lanes_threads_ports.specs.Holding.{HasRead, StandsBetween}
-use Rattle.iox_lanes_threads_ports.specs.Values.{Reads}
+use Rattle.iox_lanes_threads_ports.specs.Values.{Reads, Releases, Unmoved}
+use Rattle.iox_lanes_threads_ports.specs.declared.subscriber.ReleaseAnswer.TheVariants as release
 use Rattle.iox_lanes.specs.HeldByNone.{StandsInSlot}
 use Rattle.iox_lanes.specs.Typed.{TypedSubscriber, Token, is_sample_of, HasValues}
 use Rattle.iox_lanes.specs.declared.threads.errors.ReceiveError.{ReceiveError}
 use Rattle.iox_lanes.specs.declared.threads.errors.ReceiveError.TheVariants as receive_error
+use Rattle.iox_lanes.specs.declared.threads.errors.ReleaseError.{ReleaseError}
+use Rattle.iox_lanes.specs.declared.threads.errors.ReleaseError.TheVariants as release_error
 use Rattle.iox_lanes.specs.declared.threads.message.Message.{Message}
 
 -- A message is made of these words: three words of its header, its sequence number if messages have one, its user header and its value.
@@ -28,6 +31,22 @@ pub record ReadsMessage {T U : Type 0} (value_of : List ℕ → T) (header_of : 
   pub has_read : HasRead new.port.own.port old.port.own.lane.port.extent sample.slot new.port.own.words
   pub stands : StandsInSlot new.port.own.port old.port.own.lane.port.extent sample.slot new.port.own.words
   pub message_is : IsMessage value_of header_of payload_count header_count new.port.own.words message
+
+-- A read found no message: the sample isn't one of the subscriber, so nothing was done; or the slot isn't a sample of the port; or the
+-- words that were read are those of no message of these widths, with or without a sequence number.
+abbrev pub FindsNoMessage : ℕ → ℕ → TypedSubscriber → Token → TypedSubscriber → Type 0
+FindsNoMessage payload_count header_count old sample new =
+    ((is_sample_of old sample ≡ false) × Unmoved old.port.own new.port.own)
+    ⊎ Reads old.port.own sample.slot new.port.own false
+    ⊎ ((length new.port.own.words ≡ 3 + header_count + payload_count → ⊥)
+    × (length new.port.own.words ≡ 4 + header_count + payload_count → ⊥))
+
+-- A release was refused with this error. `NotMine`: the sample isn't one of the subscriber, or its slot isn't a sample of the port, and
+-- nothing was done. `RingFull`: its steps found the ring full.
+abbrev pub IsUnreleased : TypedSubscriber → Token → TypedSubscriber → ReleaseError → Type 0
+IsUnreleased old sample new release_error.NotMine = ((is_sample_of old sample ≡ false) × Unmoved old.port.own new.port.own)
+    ⊎ Releases old.port.own sample.slot new.port.own release.NotMine
+IsUnreleased old sample new release_error.RingFull = Releases old.port.own sample.slot new.port.own release.RingFull
 
 -- What a typed receive returns for the receipt of the port: the sample of the slot that was taken, none if nothing waited, or the error.
 abbrev pub answer_to : TypedSubscriber → Receipt → Result (Option Token) ReceiveError

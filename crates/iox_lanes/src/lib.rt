@@ -49,8 +49,8 @@ pub use iox_lanes_parties::{
     values_in,
 };
 pub use iox_lanes_threads::{
-    EndError, EndedThreads, LanePublisher, LaneSubscriber, LaneThreads, OpenError, are_all, end,
-    open_threads,
+    EndError, EndedThreads, LanePublisher, LaneSubscriber, LaneThreads, OpenError, ReleaseAnswer,
+    are_all, end, open_threads,
 };
 pub use iox_queues_base::Words;
 pub use iox_queues_steps::rings::RingKind;

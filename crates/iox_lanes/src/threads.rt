@@ -35,11 +35,11 @@ pub mod tokens;
 
 pub use abandoning::{Abandoned, abandon};
 pub use ending::{end, has_all};
-pub use errors::{LoanError, ReceiveError, SendError, WriteError};
+pub use errors::{LoanError, ReceiveError, ReleaseError, SendError, WriteError};
 pub use iox_lanes_threads::{EndError, OpenError};
 pub use message::Message;
 pub use opening::open_threads;
 pub use publisher::{Publisher, Unsent};
-pub use subscriber::Subscriber;
+pub use subscriber::{Subscriber, Unreleased};
 pub use threads::{DomainBoard, DomainThreads};
 pub use tokens::{Loan, Sample};

@@ -1,14 +1,27 @@
 -- Which ports have handlers of the caller, and which publishers would block or fail at a full mailbox.
-use Rattle.std.specs.Prelude.{ℕ, ◌&&◌, ◌||◌, Bool, true, false, is_none, not, List, Option, None, Some, if◌then◌else◌}
+use Rattle.std.proofs.Common.{ap, subst, ◌∙◌}
+use Rattle.std.specs.Prelude.{ℕ, ◌≡◌, ◌&&◌, ◌||◌, Bool, true, false, is_none, not, List, Option, None, Some, if◌then◌else◌}
 use Rattle.std.specs.List.{list_any}
+use Rattle.std.specs.declared.alloc.Global.{Global}
+use Rattle.std.specs.declared.dyn_box.DynBox.{DynBox}
+use Rattle.iox_domain.specs.Handling.{passes_over, waits}
 use Rattle.iox_domain.specs.DomainValues.Actions.{decision_of}
-use Rattle.iox_domain.specs.DomainValues.BackpressureAnswers.{fixed_action_of}
+use Rattle.iox_domain.specs.DomainValues.BackpressureAnswers.{Allowed, fixed_action_of}
 use Rattle.iox_domain.specs.DomainValues.DegradationAnswers as degradation
+use Rattle.iox_domain.specs.DomainValues.HandlersAnswers.{MayAnswer, MayDecide, may_degrade}
 use Rattle.iox_domain.specs.DomainValues.declared.backpressure.BackpressureAction.{BackpressureAction}
 use Rattle.iox_domain.specs.DomainValues.declared.backpressure.BackpressureDecision.{BackpressureDecision}
 use Rattle.iox_domain.specs.DomainValues.declared.backpressure.BackpressureDecision.TheVariants as decided
+use Rattle.iox_domain.specs.DomainValues.declared.backpressure.BackpressureInfo.{BackpressureInfo}
 use Rattle.iox_domain.specs.DomainValues.declared.backpressure_handler.BackpressureHandler.{BackpressureHandler}
+use Rattle.iox_domain.specs.DomainValues.declared.backpressure_handler.BackpressureHandler.TheVariants as handler
+use Rattle.iox_domain.specs.DomainValues.declared.backpressure_strategy.BackpressureStrategy.{BackpressureStrategy}
+use Rattle.iox_domain.specs.DomainValues.declared.degradation.DegradationAction.{DegradationAction}
+use Rattle.iox_domain.specs.DomainValues.declared.degradation.DegradationAction.TheVariants as taken
+use Rattle.iox_domain.specs.DomainValues.declared.degradation.DegradationCause.{DegradationCause}
+use Rattle.iox_domain.specs.DomainValues.declared.degradation.DegradationInfo.{DegradationInfo}
 use Rattle.iox_domain.specs.DomainValues.declared.degradation_handler.DegradationHandler.{DegradationHandler}
+use Rattle.iox_domain.specs.DomainValues.declared.degradation_handler.DegradationHandler.TheVariants as failing
 use Rattle.iox_domain.specs.DomainValues.declared.handlers.Handlers.{Handlers}
 use Rattle.iox_domain.specs.DomainPorts.declared.publisher_port.PublisherPort.{PublisherPort}
 use Rattle.iox_domain.specs.Kept.{kept_under}
@@ -84,3 +97,90 @@ retries decision handlers entry = entry.1.stands && would_wait decision (kept_un
 abbrev pub is_retrying : {T U B D : Type 0} → (B → Option BackpressureDecision) → Domain T U B D → Bool
 is_retrying decision domain = not domain.state.ports.sizes.enable_safe_overflow
     && list_any (retries decision domain.state.publisher_handlers) domain.state.ports.publishers
+
+-- At each full mailbox no other decision may be made than this one.
+abbrev pub OnlyDecides : (BackpressureInfo → BackpressureDecision → Type 0) → BackpressureDecision → Type 0
+OnlyDecides may fixed = (info : BackpressureInfo) (made : BackpressureDecision) → may info made → made ≡ fixed
+
+-- Only one action may be taken if a connection fails, whichever it is and why it fails.
+abbrev pub TakesOneAction : (DegradationCause → DegradationInfo → DegradationAction → Type 0) → Type 0
+TakesOneAction may = (action : DegradationAction)
+    × ((cause : DegradationCause) (info : DegradationInfo) (answer : DegradationAction) → may cause info answer → answer ≡ action)
+
+-- The decision, if there is one; otherwise the other one.
+decision_or : BackpressureDecision → Option BackpressureDecision → BackpressureDecision
+decision_or other None = other
+decision_or other (Some decision) = decision
+
+-- There is no decision.
+IsNone : Option BackpressureDecision → Type 0
+IsNone None = Unit {0}
+IsNone (Some decision) = ⊥
+
+-- It is so.
+IsYes : Bool → Type 0
+IsYes true = Unit {0}
+IsYes false = ⊥
+
+none_is_no_decision : {X : Type 0} (fixed : BackpressureDecision) → None ≡ Some fixed → X
+unfolding IsNone
+none_is_no_decision fixed is = absurd (subst IsNone is tt)
+
+-- By cases of the handlers: without an object the strategy and the fixed action decide.
+decides_by : {X Y : Type 0} {F : X → Type 0} {G : Y → Type 0} (objects : DynBox X Global F → BackpressureInfo → BackpressureAction → Type 0)
+    (strategy : BackpressureStrategy) (backpressure : Option (BackpressureHandler X F)) (degrades : DegradationHandler Y G)
+    (fixed : BackpressureDecision)
+    → (if asks_object backpressure || is_object degrades then None else Some (decision_of strategy (fixed_answer backpressure)))
+    ≡ Some fixed
+    → (info : BackpressureInfo) (made : BackpressureDecision) (answer : Option BackpressureAction)
+    → MayAnswer objects backpressure info answer → made ≡ decision_of strategy answer → made ≡ fixed
+unfolding decision_or
+decides_by objects strategy None (failing.Fixed action) fixed is info made answer may was =
+    was ∙ ap (decision_of strategy) may ∙ ap (decision_or made) is
+decides_by objects strategy None (failing.Boxed object) fixed is info made answer may was = none_is_no_decision fixed is
+decides_by objects strategy (Some (handler.Fixed action)) (failing.Fixed other) fixed is info made None may was = absurd may
+decides_by objects strategy (Some (handler.Fixed action)) (failing.Fixed other) fixed is info made (Some answer) may was =
+    was ∙ ap (λ given. decision_of strategy (Some given)) may ∙ ap (decision_or made) is
+decides_by objects strategy (Some (handler.Fixed action)) (failing.Boxed object) fixed is info made answer may was =
+    none_is_no_decision fixed is
+decides_by objects strategy (Some (handler.Boxed object)) degrades fixed is info made answer may was = none_is_no_decision fixed is
+
+degrades_by : {X Y : Type 0} {F : X → Type 0} {G : Y → Type 0}
+    (objects : DynBox Y Global G → DegradationCause → DegradationInfo → DegradationAction → Type 0) (strategy : BackpressureStrategy)
+    (backpressure : Option (BackpressureHandler X F)) (degrades : DegradationHandler Y G) (fixed : BackpressureDecision)
+    → (if asks_object backpressure || is_object degrades then None else Some (decision_of strategy (fixed_answer backpressure)))
+    ≡ Some fixed → TakesOneAction (degradation.Allowed objects degrades)
+degrades_by objects strategy backpressure (failing.Fixed action) fixed is = (action, λ cause info answer may. may)
+degrades_by objects strategy None (failing.Boxed object) fixed is = none_is_no_decision fixed is
+degrades_by objects strategy (Some (handler.Fixed action)) (failing.Boxed object) fixed is = none_is_no_decision fixed is
+degrades_by objects strategy (Some (handler.Boxed other)) (failing.Boxed object) fixed is = none_is_no_decision fixed is
+
+-- A publisher's handlers decide as their fixed decision says, whatever their objects may answer.
+pub handlers_decide : {X Y : Type 0} {F : X → Type 0} {G : Y → Type 0}
+    (objects : DynBox X Global F → BackpressureInfo → BackpressureAction → Type 0) (handlers : Handlers X Y F G)
+    (fixed : BackpressureDecision) → fixed_decision handlers ≡ Some fixed → OnlyDecides (MayDecide objects handlers) fixed
+handlers_decide objects handlers fixed is info made may =
+    decides_by objects handlers.strategy handlers.backpressure handlers.degradation fixed is info made may.0 may.1 may.2
+
+-- Where they have a fixed decision, they take one action if a connection fails.
+pub handlers_degrade : {X Y : Type 0} {F : X → Type 0} {G : Y → Type 0}
+    (objects : DynBox Y Global G → DegradationCause → DegradationInfo → DegradationAction → Type 0) (handlers : Handlers X Y F G)
+    (fixed : BackpressureDecision) → fixed_decision handlers ≡ Some fixed → TakesOneAction (may_degrade objects handlers)
+handlers_degrade objects handlers fixed is =
+    degrades_by objects handlers.strategy handlers.backpressure handlers.degradation fixed is
+
+-- A subscriber's handler that is no object takes one action.
+pub handler_degrades : {Y : Type 0} {G : Y → Type 0}
+    (objects : DynBox Y Global G → DegradationCause → DegradationInfo → DegradationAction → Type 0) (it : DegradationHandler Y G)
+    → is_object it ≡ false → TakesOneAction (degradation.Allowed objects it)
+unfolding IsYes
+handler_degrades objects (failing.Fixed action) isnt = (action, λ cause info answer may. may)
+handler_degrades objects (failing.Boxed object) isnt = absurd (subst IsYes isnt tt)
+
+-- Without handlers a send blocks, and a failed connection is answered with `Warn`.
+pub nobody_decides : (fixed : BackpressureDecision) → Some decided.Retry ≡ Some fixed → OnlyDecides waits fixed
+unfolding decision_or
+nobody_decides fixed is info made was = was ∙ ap (decision_or made) is
+
+pub nobody_degrades : TakesOneAction passes_over
+nobody_degrades = (taken.Warn, λ cause info answer may. may)

@@ -31,8 +31,7 @@ abbrev pub has_growing : {T U : Type 0} → ServicePorts T U → Bool
 has_growing ports = list_any (λ entry. may_grow entry.1.allocation) ports.publishers
 
 -- The first reason that applies, or none. `decision` is what a publisher's handlers do at each full mailbox, if none of them is an object
--- of
--- the caller; `asks` is whether a subscriber's handler is one.
+-- of the caller; `asks` is whether a subscriber's handler is one.
 abbrev pub first_reason : {T U B D : Type 0} → (B → Option BackpressureDecision) → (D → Bool) → Domain T U B D → Option IntoLanesError
 first_reason decision asks domain =
     if is_blocked domain.state.ports then Some reason.Blocked

@@ -1,10 +1,12 @@
 -- The slots below the mark keep their uses, so the first slot without a use is the first one from the mark on.
 use Rattle.std.proofs.Common.{ℕ, zero, suc, ◌≡◌, ◌+◌, ◌-◌, ◌<◌, ◌≤◌, ◌==◌, nat_lt, List, [], ◌∷◌}
-use Rattle.std.proofs.Common.{length, set, get_or, false, Some, None, refl, sym, ◌∙◌, ap, subst, inl, inr, arith}
+use Rattle.std.proofs.Common.{length, set, get_or, Bool, true, false, ◌||◌, if◌then◌else◌, Some, None, refl, sym, ◌∙◌, ap, subst}
+use Rattle.std.proofs.Common.{inl, inr, arith}
+use Rattle.std.specs.List.{list_any}
 use Rattle.std.proofs.lemmas.Bool.{cases_lt, cases_eq, cond-true, cond-false, eq-eqb, eqb-false, ne_eqb, lt-ltb, le-ltb}
 use Rattle.std.proofs.lemmas.List.{length-set, get_or-set_same, get_or-set_other, get_or_default}
 use Rattle.iox_lanes_parties.specs.QueuesSteps.Access.{successor}
-use Rattle.iox_lanes_parties.specs.PublisherKeeping.{put_at, counted_up, counted_down, first_free}
+use Rattle.iox_lanes_parties.specs.PublisherKeeping.{put_at, counted_up, counted_down, first_free, stands_in}
 use Rattle.iox_lanes_parties.specs.UseCounts.{AreUsedBelow}
 
 found_from : (counts : List ℕ) (mark from : ℕ) → AreUsedBelow mark counts → get_or counts mark 0 ≡ 0 → mark < length counts
@@ -103,3 +105,12 @@ used_on counts mark used some slot below inside = elim (cases_eq slot mark) [
   ])
   | inr apart ↦ used slot (omega (arith, below, apart)) inside
 ]
+
+or_is : (b c : Bool) → (b || c) ≡ (if b then true else c)
+or_is true c = refl
+or_is false c = refl
+
+-- a number is in a list if one of the list equals it
+pub stands_if_any : (slot : ℕ) (xs : List ℕ) → list_any (λ x. x == slot) xs ≡ stands_in slot xs
+stands_if_any slot [] = refl
+stands_if_any slot (x ∷ xs) = ap (λ rest. (x == slot) || rest) (stands_if_any slot xs) ∙ or_is (x == slot) (stands_in slot xs)

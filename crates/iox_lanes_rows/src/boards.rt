@@ -5,8 +5,8 @@ ghost use Rattle.std.specs.Prelude.{◌<◌};
 use crate::answers::hold;
 use crate::service::opened;
 use iox_lanes::{
-    Delivery, LanePublisher, LaneSizes, LaneSubscriber, LaneThreads, LoanAnswer, Receipt, RingKind,
-    SendAnswer,
+    Delivery, LanePublisher, LaneSizes, LaneSubscriber, LaneThreads, LoanAnswer, Receipt,
+    ReleaseAnswer, RingKind, SendAnswer,
 };
 use std::alloc::{AllocError, Global};
 use std::sync::Wait;
@@ -180,7 +180,7 @@ fn takes(
             place == publisher
                 && is_read(port, slot, many, first_word(publisher as usize, message))
                 && is_at_its_limit(rt, port, many, publisher, message)
-                && port.release(slot)
+                && port.release(slot) == ReleaseAnswer::Released
         }
         _ => false,
     }

@@ -5,8 +5,8 @@ ghost use Rattle.std.specs.Prelude.{◌≡◌, ◌<◌};
 use crate::start::Start;
 use crate::{streams, turns};
 use iox_lanes::{
-    LaneMachine, LanePublisher, LaneSizes, LaneSubscriber, LaneThreads, LoanAnswer, RingKind,
-    SendAnswer, are_all, open_threads,
+    LaneMachine, LanePublisher, LaneSizes, LaneSubscriber, LaneThreads, LoanAnswer, ReleaseAnswer,
+    RingKind, SendAnswer, are_all, open_threads,
 };
 use std::alloc::{AllocError, Global};
 use std::sync::Wait;
@@ -89,7 +89,10 @@ pub(crate) fn read_eight(port: &mut LaneSubscriber, slot: u64) -> Option<u64> {
         return None;
     }
     let value = eight(port.words());
-    if port.release(slot) { value } else { None }
+    match port.release(slot) {
+        ReleaseAnswer::Released => value,
+        ReleaseAnswer::NotMine | ReleaseAnswer::RingFull => None,
+    }
 }
 
 /// What a publisher and a subscriber of one half do.

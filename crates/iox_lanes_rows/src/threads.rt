@@ -4,7 +4,7 @@ use crate::domain::in_both_words;
 use crate::ending::{another, narrow, pass, pass_last};
 use crate::lanes::{USER_HEADER, are_values};
 use crate::typed;
-use iox_lanes::{LanePublisher, LaneSubscriber, LoanAnswer, Receipt, SendAnswer};
+use iox_lanes::{LanePublisher, LaneSubscriber, LoanAnswer, Receipt, ReleaseAnswer, SendAnswer};
 use std::alloc::{AllocError, Global};
 use std::sync::Wait;
 
@@ -29,7 +29,8 @@ pub(crate) enum InThreads {
     Typed([u64; 3]),
     /// The send of the publisher with this id fails at a full mailbox.
     Fails(u64),
-    /// A publisher of narrower slots, of another board with the number of this one, stands in for the one with this id, and refuses a value.
+    /// A publisher of narrower slots, of another board with the number of this one, stands in for the one with this id, and refuses a
+    /// value.
     Narrow(u64),
 }
 
@@ -55,7 +56,9 @@ fn sends(ports: &mut [LanePublisher], place: usize, value: u64, answer: SendAnsw
 
 // Whether a sample is read as this message, and released.
 fn takes(port: &mut LaneSubscriber, sample: u64, sequence: u64, value: u64) -> bool {
-    port.read(sample) && are_values(port.values(), sequence, value) && port.release(sample)
+    port.read(sample)
+        && are_values(port.values(), sequence, value)
+        && port.release(sample) == ReleaseAnswer::Released
 }
 
 // Whether the subscriber at a place receives nothing.

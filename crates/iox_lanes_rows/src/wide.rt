@@ -4,7 +4,7 @@ use crate::service::started;
 use crate::stepping::{MOST_STEPS, whole};
 use iox_lanes::{
     Answer, Call, LaneMachine, LanePublisher, LaneSizes, LaneSubscriber, Lanes, LoanAnswer, Party,
-    Receipt, RingKind, WithSequence,
+    Receipt, ReleaseAnswer, RingKind, WithSequence,
 };
 use iox_lanes_machine::Found;
 use std::alloc::{AllocError, Global};
@@ -103,7 +103,9 @@ fn sends(port: &mut LanePublisher, sequence: u64) -> bool {
 fn takes(rt: &impl Wait, port: &mut LaneSubscriber, sequence: u64) -> bool {
     match port.receive(rt) {
         Receipt::Taken { slot, .. } => {
-            port.read(slot) && is_value(port.values(), sequence) && port.release(slot)
+            port.read(slot)
+                && is_value(port.values(), sequence)
+                && port.release(slot) == ReleaseAnswer::Released
         }
         _ => false,
     }

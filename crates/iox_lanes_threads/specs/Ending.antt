@@ -19,13 +19,21 @@ knows_publishers board ports = list_all (λ p. p.board == board.number) ports
 abbrev pub knows_subscribers : BoardState → List BoardSubscriber → Bool
 knows_subscribers board ports = list_all (λ p. p.board == board.number) ports
 
+-- If the publisher has the board's number, it steps on the board's words.
+abbrev pub IsPublisherOf : BoardState → BoardPublisher → Type 0
+IsPublisherOf board p = p.board ≡ board.number → p.own.table ≡ board.table
+
+-- If the subscriber has the board's number, it steps on the board's words.
+abbrev pub IsSubscriberOf : BoardState → BoardSubscriber → Type 0
+IsSubscriberOf board p = p.board ≡ board.number → p.own.table ≡ board.table
+
 -- Each of these publishers that has the board's number steps on the board's words.
 abbrev pub ArePublishersOf : BoardState → List BoardPublisher → Type 0
-ArePublishersOf board ports = All (λ p. p.board ≡ board.number → p.own.table ≡ board.table) ports
+ArePublishersOf board ports = All (IsPublisherOf board) ports
 
 -- Each of these subscribers that has the board's number steps on the board's words.
 abbrev pub AreSubscribersOf : BoardState → List BoardSubscriber → Type 0
-AreSubscribersOf board ports = All (λ p. p.board ≡ board.number → p.own.table ≡ board.table) ports
+AreSubscribersOf board ports = All (IsSubscriberOf board) ports
 
 -- These are all ports of the board: as many as it has, all with its number, and one at each place.
 pub record AreAll (board : BoardState) (ps : List BoardPublisher) (ss : List BoardSubscriber) : Type 0 where

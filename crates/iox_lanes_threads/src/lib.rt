@@ -35,6 +35,7 @@ pub mod threads;
 
 pub use ending::{EndedThreads, are_all, end};
 pub use errors::{EndError, OpenError};
+pub use iox_lanes_threads_ports::ReleaseAnswer;
 pub use opening::open_threads;
 pub use publisher::LanePublisher;
 pub use subscriber::LaneSubscriber;

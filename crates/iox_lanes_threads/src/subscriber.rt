@@ -13,7 +13,7 @@ use crate::table::Share;
 use crate::threads::OnBoard;
 use iox_lanes_base::calls::Receipt;
 use iox_lanes_parties::{Answer, Call, SubscriberLane, values_in};
-use iox_lanes_threads_ports::ThreadedSubscriber;
+use iox_lanes_threads_ports::{ReleaseAnswer, ThreadedSubscriber};
 use iox_lanes_threads_rule::WordSeat;
 use iox_queues_base::Words;
 use std::marker::Model;
@@ -117,14 +117,15 @@ impl LaneSubscriber {
         values_in::<T, U>(self.port.words())
     }
 
-    /// Releases a sample: it goes back to its publisher. Returns false, and does nothing, if the slot isn't a sample of this port. It also
-    /// returns false, and the sample is still borrowed, where the completion ring was full; that happens only where a write position was
-    /// 2^64 - 1 when the call loaded a word (`IsReleasedLate` of `iox_lanes_threads_ports`).
-    pub fn release(&mut self, sample: u64) -> bool
+    /// Releases a sample: it goes back to its publisher. Returns `NotMine`, and does nothing, exactly if the slot isn't a sample of this
+    /// port. A sample of this port comes back to its publisher unless a write position was 2^64 - 1 when the call loaded a word
+    /// (`IsReleasedLate` of `iox_lanes_threads_ports`); then the answer may be `RingFull`, and the sample is still borrowed.
+    pub fn release(&mut self, sample: u64) -> ReleaseAnswer
         ensures same { StaysSubscriber self.old self.new }
         ensures call { Releases self.old.own sample self.new.own result }
-        ensures put { result ≡ true → KnowsGivenBack self.old.own.port self.new.own.port self.old.own.lane sample }
-        ensures kept { result ≡ false → KeepsGivenBack self.old.own.port self.new.own.port self.old.own.lane sample }
+        ensures put { result ≡ ReleaseAnswer.Released → KnowsGivenBack self.old.own.port self.new.own.port self.old.own.lane sample }
+        ensures kept { (result ≡ ReleaseAnswer.Released → ⊥) → KeepsGivenBack self.old.own.port self.new.own.port self.old.own.lane
+            sample }
         ensures stood { StandsBetween self.old.own }
     {
         self.port.release(self.words.words(), sample)

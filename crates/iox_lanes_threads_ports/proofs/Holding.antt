@@ -47,6 +47,8 @@ use Rattle.iox_lanes_threads_ports.specs.Holding.GoesOnHolding.{stays as no_call
 use Rattle.iox_lanes_threads_ports.specs.OneValue.{IsAnsweredEarly, AreAnsweredEarly, HasThroughout}
 use Rattle.iox_lanes_threads_ports.specs.Ports.{SubscriberStands}
 use Rattle.iox_lanes_threads_ports.specs.Values.{SubscriberPort, Unmoved, Reads, ReadsWords, Releases}
+use Rattle.iox_lanes_threads_ports.specs.declared.subscriber.ReleaseAnswer.{ReleaseAnswer}
+use Rattle.iox_lanes_threads_ports.specs.declared.subscriber.ReleaseAnswer.TheVariants as answers
 use Rattle.iox_lanes_threads_ports.proofs.Between.{along, receive_fits}
 use Rattle.iox_lanes_threads_ports.proofs.OneValue.{goes_on_knowing}
 use Rattle.iox_lanes_threads_ports.proofs.PublisherSteps.{step_same}
@@ -330,13 +332,11 @@ module _ (s : Service) (sample : ℕ) (extent : SlotExtent) (lent : List ℕ) (f
       (all_early sample old.port (subscriber_begun 0 (call.Release other) old.lane) new.port ends.last ends.goes both.0)
       ends.after
 
-  release_on : (old new : SubscriberPort) (other : ℕ) (done : Bool) → Releases old other new done → StandsBetween old
+  release_on : (old new : SubscriberPort) (other : ℕ) (told : ReleaseAnswer) → Releases old other new told → StandsBetween old
       → (other ≡ sample → ⊥) → HoldsRead s sample extent lent old.port old.lane → HoldsRead s sample extent lent new.port new.lane
-  release_on old new other true release stands off was = done_on old new other true release.0 release.1 stands off was
-  release_on old new other false release stands off was = elim release [
-    | inl none ↦ unmoved_on old new none.1 was
-    | inr late ↦ done_on old new other false late.fits late.ends stands off was
-  ]
+  release_on old new other answers.Released release stands off was = done_on old new other true release.0 release.1 stands off was
+  release_on old new other answers.NotMine none stands off was = unmoved_on old new none.1 was
+  release_on old new other answers.RingFull late stands off was = done_on old new other false late.fits late.ends stands off was
 
   -- all calls
   calls_on : (from to : SubscriberPort) → GoesOnHolding sample from to → HoldsRead s sample extent lent from.port from.lane
@@ -352,8 +352,8 @@ module _ (s : Service) (sample : ℕ) (extent : SlotExtent) (lent : List ℕ) (f
       (all_early sample old.port (subscriber_begun 0 call.Receive old.lane) new.port asks.last asks.goes spares) asks.after
   calls_on from _ (reads old new other done before stands read early) was
       = asked_on old new other done read stands early (calls_on from old before was)
-  calls_on from _ (releases old new other done before stands release off) was
-      = release_on old new other done release stands off (calls_on from old before was)
+  calls_on from _ (releases old new other told before stands release off) was
+      = release_on old new other told release stands off (calls_on from old before was)
 
 pub held_reads_stay : HeldReadsStay
 held_reads_stay sample from to extent lent calls fits has read =

@@ -1,6 +1,6 @@
 -- After a release that was taken the port knows its sample in the ring of what was given back.
 use Rattle.std.proofs.Common.{ℕ, ◌≡◌, ◌-◌, ◌%◌, Bool, true, false, if◌then◌else◌, nat_lt, length, slice_get, Option, Some, None, refl}
-use Rattle.std.proofs.Common.{sym, ◌∙◌, ap, subst, inl, inr, arith}
+use Rattle.std.proofs.Common.{sym, ◌∙◌, ap, subst, arith}
 use Rattle.std.proofs.lemmas.Nat.{mod_below}
 use Rattle.iox_lanes_machine.specs.QueuesSteps.Access.{successor}
 use Rattle.iox_lanes_machine.specs.QueuesSteps.declared.access.Word.TheVariants.{Write, Read, Cell}
@@ -33,6 +33,8 @@ use Rattle.iox_lanes_threads_ports.specs.Ends.{knows}
 use Rattle.iox_lanes_threads_ports.specs.Known.{KnowsPut, KeepsWrite, KnowsGivenBack, KeepsGivenBack}
 use Rattle.iox_lanes_threads_ports.specs.Ports.{SubscriberStands}
 use Rattle.iox_lanes_threads_ports.specs.Values.{SubscriberPort, Releases}
+use Rattle.iox_lanes_threads_ports.specs.declared.subscriber.ReleaseAnswer.{ReleaseAnswer}
+use Rattle.iox_lanes_threads_ports.specs.declared.subscriber.ReleaseAnswer.TheVariants as release
 use Rattle.iox_lanes_threads_ports.proofs.Between.{call_after}
 use Rattle.iox_lanes_threads_ports.proofs.KnownReads.{subscriber_along}
 use Rattle.iox_lanes_threads_ports.proofs.SubscriberSteps.{begins, is_receiver, end_at, is_route_at}
@@ -192,20 +194,20 @@ module _ (p : Port) (lane : SubscriberLaneState) (sample : ℕ) (q : Port) (now 
   ends_kept ends = not_given p route sample q ends.last.port.call (last_stage ends.last ends.goes) ends.answers
 
 -- a release that answers that its sample went back
-pub release_known : (old new : SubscriberPort) (sample : ℕ) (done : Bool) → SubscriberStands old.port old.lane
-    → Releases old sample new done → done ≡ true → KnowsGivenBack old.port new.port old.lane sample
-release_known old new sample false stands h e = absurd (cc e)
-release_known old new sample true stands h e
+pub release_known : (old new : SubscriberPort) (sample : ℕ) (told : ReleaseAnswer) → SubscriberStands old.port old.lane
+    → Releases old sample new told → told ≡ release.Released → KnowsGivenBack old.port new.port old.lane sample
+release_known old new sample release.NotMine stands h e = absurd (cc e)
+release_known old new sample release.RingFull stands h e = absurd (cc e)
+release_known old new sample release.Released stands h e
     = λ place route at found. ends_known old.port old.lane sample new.port new.lane
     (begins old.port old.lane 0 (call.Release sample) stands h.0) place route at found h.1
 
 -- and one that answers that it did not
-pub release_kept : (old new : SubscriberPort) (sample : ℕ) (done : Bool) → SubscriberStands old.port old.lane
-    → Releases old sample new done → done ≡ false → KeepsGivenBack old.port new.port old.lane sample
-release_kept old new sample true stands h e = absurd (cc e)
-release_kept old new sample false stands h e = elim h [
-  | inl none ↦ λ place route at found. ap (λ (z : Port). knows z (Ring route.connection Completion Write)) none.1.1
-  | inr late ↦
-      λ place route at found. ends_kept old.port old.lane sample new.port new.lane
-      (begins old.port old.lane 0 (call.Release sample) stands late.fits) place route at found late.ends
-]
+pub release_kept : (old new : SubscriberPort) (sample : ℕ) (told : ReleaseAnswer) → SubscriberStands old.port old.lane
+    → Releases old sample new told → (told ≡ release.Released → ⊥) → KeepsGivenBack old.port new.port old.lane sample
+release_kept old new sample release.Released stands h not = absurd (not refl)
+release_kept old new sample release.NotMine stands h not =
+    λ place route at found. ap (λ (z : Port). knows z (Ring route.connection Completion Write)) h.1.1
+release_kept old new sample release.RingFull stands late not =
+    λ place route at found. ends_kept old.port old.lane sample new.port new.lane
+    (begins old.port old.lane 0 (call.Release sample) stands late.fits) place route at found late.ends

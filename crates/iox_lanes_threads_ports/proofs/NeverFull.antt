@@ -1,6 +1,6 @@
 -- No release finds its ring full, as long as no write position stood at 2^64 - 1 when it loaded a word.
 use Rattle.std.proofs.Common.{ℕ, ◌≡◌, ◌-◌, Bool, true, false, if◌then◌else◌, nat_lt, List, set, Option, Some, None, refl, sym}
-use Rattle.std.proofs.Common.{ap, subst, inr}
+use Rattle.std.proofs.Common.{ap, subst}
 use mathlib.Core.Option.{some}
 use lib.ListN.{get_elem?}
 use Rattle.atomic_table.proofs.Lists.{set_here}
@@ -38,7 +38,8 @@ use Rattle.iox_lanes_threads_ports.specs.Courses.{subscriber_party, SubscriberGo
 use Rattle.iox_lanes_threads_ports.specs.Courses.SubscriberGoes.{stays, goes}
 use Rattle.iox_lanes_threads_ports.specs.Paces.{IsLoadedEarly, AreFoundEarly}
 use Rattle.iox_lanes_threads_ports.specs.Ports.{SubscriberStands}
-use Rattle.iox_lanes_threads_ports.specs.Values.{SubscriberPort, is_released, Releases}
+use Rattle.iox_lanes_threads_ports.specs.Values.{SubscriberPort, release_answer_of, Releases}
+use Rattle.iox_lanes_threads_ports.specs.declared.subscriber.ReleaseAnswer.TheVariants as release
 use Rattle.iox_lanes_threads_ports.proofs.Between.{call_after}
 use Rattle.iox_lanes_threads_ports.proofs.Coming.{subscriber_makes}
 use Rattle.iox_lanes_threads_ports.proofs.Moments.{within_list}
@@ -174,10 +175,11 @@ refused_late old new sample stands fits ends early =
 pub releases_by : (old new : SubscriberPort) (sample : ℕ) (given : Option Answer) (done : Bool) → SubscriberStands old.port old.lane
     → subscriber_fits old.lane (Begin (call.Release sample)) ≡ true
     → SubscriberEnds old.port (subscriber_begun 0 (call.Release sample) old.lane) new.port new.lane (answer.Released done)
-    → given ≡ Some (answer.Released done) → Releases old sample new (is_released given)
-releases_by old new sample given done stands fits ends told = subst (Releases old sample new) (sym (ap is_released told)) (by done ends)
+    → given ≡ Some (answer.Released done) → Releases old sample new (release_answer_of given)
+releases_by old new sample given done stands fits ends told =
+    subst (Releases old sample new) (sym (ap release_answer_of told)) (by done ends)
   where
     by : (b : Bool) → SubscriberEnds old.port (subscriber_begun 0 (call.Release sample) old.lane) new.port new.lane (answer.Released b)
-        → Releases old sample new b
+        → Releases old sample new (if b then release.Released else release.RingFull)
     by true ends = (fits, ends)
-    by false ends = inr (record { fits = fits; ends = ends; late = refused_late old new sample stands fits ends })
+    by false ends = record { fits = fits; ends = ends; late = refused_late old new sample stands fits ends }

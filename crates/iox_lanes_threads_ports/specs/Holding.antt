@@ -19,6 +19,7 @@ use Rattle.iox_lanes_threads_ports.specs.Known.{KnowsRead, ListsRead}
 use Rattle.iox_lanes_threads_ports.specs.OneValue.{AreAnsweredEarly}
 use Rattle.iox_lanes_threads_ports.specs.Ports.{SubscriberStands}
 use Rattle.iox_lanes_threads_ports.specs.Values.{SubscriberPort, Reads, ReadsWords, Releases}
+use Rattle.iox_lanes_threads_ports.specs.declared.subscriber.ReleaseAnswer.{ReleaseAnswer}
 
 -- The subscriber is between calls, and its port knows what the next step needs.
 pub record StandsBetween (s : SubscriberPort) : Type 0 where
@@ -45,8 +46,8 @@ pub data GoesOnHolding (sample : ℕ) (from : SubscriberPort) : SubscriberPort �
       → GoesOnHolding sample from new
   reads : (old new : SubscriberPort) (other : ℕ) (done : Bool) → GoesOnHolding sample from old → StandsBetween old
       → (read : Reads old other new done) → (other ≡ sample → IsReadEarly old other new done read) → GoesOnHolding sample from new
-  releases : (old new : SubscriberPort) (other : ℕ) (done : Bool) → GoesOnHolding sample from old → StandsBetween old
-      → Releases old other new done → (other ≡ sample → ⊥) → GoesOnHolding sample from new
+  releases : (old new : SubscriberPort) (other : ℕ) (told : ReleaseAnswer) → GoesOnHolding sample from old → StandsBetween old
+      → Releases old other new told → (other ≡ sample → ⊥) → GoesOnHolding sample from new
 
 -- A subscriber that has read a sample still holds it after any calls that don't release it, and still knows its words to be these.
 abbrev pub HeldReadsStay : Type 0

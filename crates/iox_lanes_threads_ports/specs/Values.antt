@@ -30,6 +30,8 @@ use Rattle.iox_lanes_threads_rule.specs.declared.view.View.{View}
 use Rattle.iox_lanes_threads_ports.specs.Courses.{SubscriberGoes, SubscriberEnds}
 use Rattle.iox_lanes_threads_ports.specs.Paces.{loan_steps, write_steps, send_steps, PublisherEnds, StaysInside, PublisherRuns}
 use Rattle.iox_lanes_threads_ports.specs.Paces.{AreFoundEarly}
+use Rattle.iox_lanes_threads_ports.specs.declared.subscriber.ReleaseAnswer.{ReleaseAnswer}
+use Rattle.iox_lanes_threads_ports.specs.declared.subscriber.ReleaseAnswer.TheVariants as release
 
 -- A publisher: the table of words that it steps on, what its port knows, and its lane.
 pub record PublisherPort : Type 0 where
@@ -224,16 +226,16 @@ received_of (Some (answer.Received got)) = got
 received_of (Some (answer.Read from)) = receipt.Nothing
 received_of (Some (answer.Released done)) = receipt.Nothing
 
--- Whether this is the answer of a release whose sample went back.
-abbrev pub is_released : Option Answer → Bool
-is_released None = false
-is_released (Some (answer.Lent given)) = false
-is_released (Some answer.Written) = false
-is_released (Some (answer.Sent told)) = false
-is_released (Some answer.Dropped) = false
-is_released (Some (answer.Received got)) = false
-is_released (Some (answer.Read from)) = false
-is_released (Some (answer.Released done)) = done
+-- What a release that made its steps returns for its answer; `RingFull` for any other answer.
+abbrev pub release_answer_of : Option Answer → ReleaseAnswer
+release_answer_of None = release.RingFull
+release_answer_of (Some (answer.Lent given)) = release.RingFull
+release_answer_of (Some answer.Written) = release.RingFull
+release_answer_of (Some (answer.Sent told)) = release.RingFull
+release_answer_of (Some answer.Dropped) = release.RingFull
+release_answer_of (Some (answer.Received got)) = release.RingFull
+release_answer_of (Some (answer.Read from)) = release.RingFull
+release_answer_of (Some (answer.Released done)) = if done then release.Released else release.RingFull
 
 -- A release that fits made the steps of its call, and found the completion ring full, so the sample is still borrowed. This happens only
 -- where some write position was 2^64 - 1 when one of these steps loaded a word.
@@ -244,12 +246,12 @@ pub record IsReleasedLate (old : SubscriberPort) (sample : ℕ) (new : Subscribe
 
 -- A release that fits makes the steps of its call, and the sample went back, as long as no write position was 2^64 - 1
 -- (`IsReleasedLate`). A release that doesn't fit does nothing.
-abbrev pub Releases : SubscriberPort → ℕ → SubscriberPort → Bool → Type 0
-Releases old sample new false =
-    ((subscriber_fits old.lane (Begin (call.Release sample)) ≡ false) × Unmoved old new) ⊎ IsReleasedLate old sample new
-Releases old sample new true =
+abbrev pub Releases : SubscriberPort → ℕ → SubscriberPort → ReleaseAnswer → Type 0
+Releases old sample new release.Released =
     (subscriber_fits old.lane (Begin (call.Release sample)) ≡ true)
     × SubscriberEnds old.port (subscriber_begun 0 (call.Release sample) old.lane) new.port new.lane (answer.Released true)
+Releases old sample new release.NotMine = (subscriber_fits old.lane (Begin (call.Release sample)) ≡ false) × Unmoved old new
+Releases old sample new release.RingFull = IsReleasedLate old sample new
 
 -- A read that fits made its steps, and keeps the words that they loaded.
 pub record ReadsWords (old new : SubscriberPort) (sample : ℕ) : Type 0 where

@@ -27,4 +27,4 @@ mod subscriber_strides;
 mod subscribing;
 
 pub use publisher::{ThreadedPublisher, write_room};
-pub use subscriber::ThreadedSubscriber;
+pub use subscriber::{ReleaseAnswer, ThreadedSubscriber};

@@ -7,8 +7,8 @@ ghost use Rattle.iox_lanes_threads_ports.specs.Courses.{SubscriberEnds};
 ghost use Rattle.iox_lanes_threads_ports.specs.Holding.{StandsBetween};
 ghost use Rattle.iox_lanes_threads_ports.specs.Known.{KnowsRead, ListsRead, KnowsGivenBack, KeepsGivenBack};
 ghost use Rattle.iox_lanes_threads_ports.specs.Ports.{SubscriberStands};
-ghost use Rattle.iox_lanes_threads_ports.specs.Values.{IsSeated, IsBetween, SameSubscriber, received_of, is_released, settled, Releases};
-ghost use Rattle.iox_lanes_threads_ports.specs.Values.{Reads};
+ghost use Rattle.iox_lanes_threads_ports.specs.Values.{IsSeated, IsBetween, SameSubscriber, received_of, release_answer_of, settled};
+ghost use Rattle.iox_lanes_threads_ports.specs.Values.{Reads, Releases};
 
 use crate::subscribing::{finish, run_on};
 use iox_lanes_base::calls::Receipt;
@@ -17,6 +17,17 @@ use iox_lanes_parties::{Answer, Call, Move, SubscriberLane};
 use iox_lanes_threads_rule::{Opening, WordSeat, Words};
 use std::marker::Model;
 use std::sync::Wait;
+
+/// The answer of a release.
+#[derive(Clone, Copy, Debug, PartialEq, Eq)]
+pub enum ReleaseAnswer {
+    /// The sample went back to its publisher.
+    Released,
+    /// The slot isn't a sample of this port; nothing was done.
+    NotMine,
+    /// The completion ring was full, so the sample is still borrowed. This happens only where a write position was 2^64 - 1.
+    RingFull,
+}
 
 /// A subscriber whose calls make their steps on words that threads share.
 pub struct ThreadedSubscriber {
@@ -78,12 +89,19 @@ fn received(answer: Option<Answer>) -> Receipt
     }
 }
 
-fn is_released(answer: Option<Answer>) -> bool
-    ensures { result ≡ is_released answer }
+// What a release returns that made its steps.
+fn release_answer(answer: Option<Answer>) -> ReleaseAnswer
+    ensures { result ≡ release_answer_of answer }
 {
     match answer {
-        Some(Answer::Released(done)) => done,
-        _ => false,
+        Some(Answer::Released(done)) => {
+            if done {
+                ReleaseAnswer::Released
+            } else {
+                ReleaseAnswer::RingFull
+            }
+        }
+        _ => ReleaseAnswer::RingFull,
     }
 }
 
@@ -143,24 +161,24 @@ impl ThreadedSubscriber {
         self.lane.words_read()
     }
 
-    /// Releases a sample: it goes back to its publisher. Returns false, and does nothing, if the slot isn't a sample of this port. It also
-    /// returns false, and the sample is still borrowed, where the completion ring was full; that happens only where a write position was
-    /// 2^64 - 1 when the call loaded a word (`IsReleasedLate`).
-    pub fn release<K: Opening>(&mut self, words: &Words<K>, sample: u64) -> bool
+    /// Releases a sample: it goes back to its publisher. Returns `NotMine`, and does nothing, exactly if the slot isn't a sample of this
+    /// port. A sample of this port comes back to its publisher unless a write position was 2^64 - 1 when the call loaded a word
+    /// (`IsReleasedLate`); then the answer may be `RingFull`, and the sample is still borrowed.
+    pub fn release<K: Opening>(&mut self, words: &Words<K>, sample: u64) -> ReleaseAnswer
         requires { self.old.table ≡ words.now.table_id }
         ensures same { SameSubscriber self.old self.new }
         ensures stood { StandsBetween self.old }
         ensures call { Releases self.old sample self.new result }
-        ensures put { result ≡ true → KnowsGivenBack self.old.port self.new.port self.old.lane sample }
-        ensures kept { result ≡ false → KeepsGivenBack self.old.port self.new.port self.old.lane sample }
+        ensures put { result ≡ ReleaseAnswer.Released → KnowsGivenBack self.old.port self.new.port self.old.lane sample }
+        ensures kept { (result ≡ ReleaseAnswer.Released → ⊥) → KeepsGivenBack self.old.port self.new.port self.old.lane sample }
     {
         settle(&mut self.lane);
         if !self.lane.fits(&Move::Begin(Call::Release { sample })) {
-            return false;
+            return ReleaseAnswer::NotMine;
         }
         self.lane.begin(0, &Call::Release { sample });
         finish(words, &mut self.seat, &self.sizes, &mut self.lane);
-        is_released(self.lane.go_on(0, 0))
+        release_answer(self.lane.go_on(0, 0))
     }
 
     /// Takes the port apart into its seat and its lane.

@@ -47,6 +47,18 @@ pub enum SendError {
     UnableToDeliver(Delivery),
 }
 
+/// Why a sample wasn't released.
+#[derive(Clone, Copy, Debug, PartialEq, Eq, Error)]
+pub enum ReleaseError {
+    /// The sample isn't one of this port.
+    #[error("ReleaseError::NotMine")]
+    NotMine,
+    /// The ring of samples that came back is full, so the sample is still borrowed. This happens only where a write position came to
+    /// 2^64 - 1.
+    #[error("ReleaseError::RingFull")]
+    RingFull,
+}
+
 /// Why a subscriber took no message although one waits.
 #[derive(Clone, Copy, Debug, PartialEq, Eq, Error)]
 pub enum ReceiveError {

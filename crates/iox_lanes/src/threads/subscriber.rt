@@ -8,15 +8,15 @@ ghost use Rattle.iox_lanes_threads_ports.specs.Values.{Reads, Releases, Unmoved}
 ghost use Rattle.iox_lanes.specs.HeldByNone.{StandsInSlot};
 ghost use Rattle.iox_lanes.specs.Typed.{is_sample_of};
 ghost use Rattle.iox_lanes.specs.TypedCalls.{StaysTheSameSubscriber};
-ghost use Rattle.iox_lanes.specs.TypedReads.{ReadsMessage, answer_to};
+ghost use Rattle.iox_lanes.specs.TypedReads.{FindsNoMessage, IsUnreleased, ReadsMessage, answer_to};
 
-use crate::threads::errors::ReceiveError;
+use crate::threads::errors::{ReceiveError, ReleaseError};
 use crate::threads::message::{Message, message_in};
 use crate::threads::tokens::Sample;
 use iox_describe_base::Header;
 use iox_lanes_base::calls::Receipt;
 use iox_lanes_parties::{Answer, Call, FewWords};
-use iox_lanes_threads::LaneSubscriber;
+use iox_lanes_threads::{LaneSubscriber, ReleaseAnswer};
 use iox_queues_base::Words;
 use std::marker::{Model, PhantomData};
 use std::sync::Wait;
@@ -48,6 +48,17 @@ impl<T, U> Model for Subscriber<T, U> {
     ghost Value = { TypedSubscriber };
 
     ghost view = { λ s. record { port = s.port; id = s.id } };
+}
+
+/// A sample that wasn't released, and why.
+///
+/// Not in `iceoryx2`.
+#[derive(Drop)]
+pub struct Unreleased<T, U> {
+    /// Why.
+    pub error: ReleaseError,
+    /// The sample, as it was.
+    pub sample: Sample<T, U>,
 }
 
 impl<T, U> Subscriber<T, U> {
@@ -108,27 +119,38 @@ impl<T, U> Subscriber<T, U> {
         self.answer_to(receipt)
     }
 
-    /// Releases a sample: it goes back to its publisher. The sample comes back if it isn't one of this port; then nothing is done.
+    /// Releases a sample: it goes back to its publisher. Refused with `NotMine` if the sample isn't one of this port; then nothing is done,
+    /// and the sample comes back.
     ///
-    /// A sample that this port borrows always goes to its publisher, as long as no write position is 2^64 - 1; from then on it may come
-    /// back, and is still borrowed (`IsReleasedLate` of `iox_lanes_threads_ports`).
+    /// A sample that this port borrows always goes to its publisher, as long as no write position is 2^64 - 1. From then on the release may
+    /// be refused with `RingFull`; then the sample is still borrowed, and comes back.
     ///
     /// Ported from the drop of an `iceoryx2::sample::Sample`.
-    /// Example: `subscriber.release(sample);`
-    pub fn release(&mut self, sample: Sample<T, U>) -> Result<(), Sample<T, U>>
+    /// Example: `subscriber.release(sample).map_err(|unreleased| unreleased.error)?;`
+    pub fn release(&mut self, sample: Sample<T, U>) -> Result<(), Unreleased<T, U>>
         ensures same { StaysTheSameSubscriber self.old self.new }
         ensures released { OnOk result ((is_sample_of self.old sample ≡ true)
-            × Releases self.old.port.own sample.slot self.new.port.own true
+            × Releases self.old.port.own sample.slot self.new.port.own ReleaseAnswer.Released
             × KnowsGivenBack self.old.port.own.port self.new.port.own.port self.old.port.own.lane sample.slot) }
-        ensures refused { IfErr result (λ back. back ≡ sample) }
-        ensures why { IfErr result (λ _. (is_sample_of self.old sample ≡ false) × Unmoved self.old.port.own self.new.port.own
-            ⊎ Releases self.old.port.own sample.slot self.new.port.own false) }
+        ensures refused { IfErr result (λ unreleased. unreleased.sample ≡ sample) }
+        ensures why { IfErr result (λ unreleased. IsUnreleased self.old sample self.new unreleased.error) }
     {
-        if self.took(&sample) && self.give_back(sample.slot()) {
-            return Ok(());
+        if !self.took(&sample) {
+            return Err(refused(ReleaseError::NotMine, sample));
         }
-        Err(sample)
+        match self.give_back(&sample) {
+            ReleaseAnswer::Released => Ok(()),
+            ReleaseAnswer::NotMine => Err(refused(ReleaseError::NotMine, sample)),
+            ReleaseAnswer::RingFull => Err(refused(ReleaseError::RingFull, sample)),
+        }
     }
+}
+
+// A sample that comes back, and why.
+fn refused<T, U>(error: ReleaseError, sample: Sample<T, U>) -> Unreleased<T, U>
+    ensures { (result.error ≡ error) × (result.sample ≡ sample) }
+{
+    Unreleased { error, sample }
 }
 
 impl<T, U> Subscriber<T, U> {
@@ -146,13 +168,14 @@ impl<T, U> Subscriber<T, U> {
         }
     }
 
-    // Releases a slot, and returns whether it went back to its publisher.
-    fn give_back(&mut self, slot: u64) -> bool
+    // Releases the slot of a sample.
+    fn give_back(&mut self, sample: &Sample<T, U>) -> ReleaseAnswer
         ensures same { StaysTheSameSubscriber self.old self.new }
-        ensures call { Releases self.old.port.own slot self.new.port.own result }
-        ensures goes { result ≡ true → KnowsGivenBack self.old.port.own.port self.new.port.own.port self.old.port.own.lane slot }
+        ensures call { Releases self.old.port.own sample.now.slot self.new.port.own result }
+        ensures goes { result ≡ ReleaseAnswer.Released → KnowsGivenBack self.old.port.own.port self.new.port.own.port
+            self.old.port.own.lane sample.now.slot }
     {
-        self.port.release(slot)
+        self.port.release(sample.slot())
     }
 
     // Reads the words of a slot into the port, where `words` shows them.
@@ -181,10 +204,7 @@ impl<T: Words, U: FewWords> Subscriber<T, U> {
     pub fn message(&mut self, sample: &Sample<T, U>) -> Option<Message<T, U>>
         ensures same { StaysTheSameSubscriber self.old self.new }
         ensures reads { IfSome result (λ message. ReadsMessage T.of_parts U.of_parts T.WORDS U.WORDS self.old sample.now self.new message) }
-        ensures none { result ≡ None → ((is_sample_of self.old sample.now ≡ false) × Unmoved self.old.port.own self.new.port.own)
-            ⊎ Reads self.old.port.own sample.now.slot self.new.port.own false
-            ⊎ ((length self.new.port.own.words ≡ 3 + U.WORDS + T.WORDS → ⊥)
-            × (length self.new.port.own.words ≡ 4 + U.WORDS + T.WORDS → ⊥)) }
+        ensures none { result ≡ None → FindsNoMessage T.WORDS U.WORDS self.old sample.now self.new }
     {
         if !self.took(sample) || !self.read(sample.slot()) {
             return None;
@@ -200,6 +220,7 @@ impl<T: Words, U: FewWords> Subscriber<T, U> {
         ensures same { StaysTheSameSubscriber self.old self.new }
         ensures reads { IfSome result (λ value. (message : Message T U) × (value ≡ message.value)
             × ReadsMessage T.of_parts U.of_parts T.WORDS U.WORDS self.old sample.now self.new message) }
+        ensures none { result ≡ None → FindsNoMessage T.WORDS U.WORDS self.old sample.now self.new }
     {
         Some(self.message(sample)?.value)
     }
@@ -212,6 +233,7 @@ impl<T: Words, U: FewWords> Subscriber<T, U> {
         ensures same { StaysTheSameSubscriber self.old self.new }
         ensures reads { IfSome result (λ user_header. (message : Message T U) × (user_header ≡ message.user_header)
             × ReadsMessage T.of_parts U.of_parts T.WORDS U.WORDS self.old sample.now self.new message) }
+        ensures none { result ≡ None → FindsNoMessage T.WORDS U.WORDS self.old sample.now self.new }
     {
         Some(self.message(sample)?.user_header)
     }
@@ -224,6 +246,7 @@ impl<T: Words, U: FewWords> Subscriber<T, U> {
         ensures same { StaysTheSameSubscriber self.old self.new }
         ensures reads { IfSome result (λ header. (message : Message T U) × (header ≡ message.header)
             × ReadsMessage T.of_parts U.of_parts T.WORDS U.WORDS self.old sample.now self.new message) }
+        ensures none { result ≡ None → FindsNoMessage T.WORDS U.WORDS self.old sample.now self.new }
     {
         Some(self.message(sample)?.header)
     }

@@ -1,7 +1,9 @@
 //! All ports of a domain in threads.
-ghost use Rattle.std.specs.Prelude.{◌≡◌, ◌==◌, ◌≤◌, ◌∷◌, ◌++◌, [], ℕ, length, slice_get, position, vec_capacity, IfSome, IfNone, IfErr};
-ghost use Rattle.std.specs.Prelude.{OnOk, Some, None};
+ghost use Rattle.std.specs.Prelude.{◌≡◌, ◌==◌, ◌≤◌, ◌<◌, ◌∷◌, ◌++◌, [], ℕ, length, slice_get, position, vec_capacity};
+ghost use Rattle.std.specs.Prelude.{IfSome, IfNone, IfErr, OnOk, Some, None};
 ghost use Rattle.std.specs.List.{remove};
+ghost use Rattle.iox_lanes_threads.specs.Ending.{ArePublishersOf, AreSubscribersOf, IsPublisherOf, IsSubscriberOf};
+ghost use Rattle.iox_lanes_threads.specs.Ports.{BoardState};
 ghost use Rattle.iox_lanes.specs.Ids.{is_id, has_publisher_id, has_subscriber_id};
 
 use crate::threads::publisher::Publisher;
@@ -163,9 +165,51 @@ fn find_subscriber<T, U, B, D>(
         .position(|port| has_subscriber_id(board, id, port))
 }
 
+// Takes out the publisher at this index.
+fn take_publisher_at(ports: &mut Vec<LanePublisher>, at: usize) -> LanePublisher
+    requires { at < length ports.old.items }
+    ensures there { slice_get ports.old.items at ≡ Some result }
+    ensures left { ports.new.items ≡ remove ports.old.items at }
+    ensures own { (board : BoardState) → ArePublishersOf board ports.old.items
+        → ArePublishersOf board ports.new.items × IsPublisherOf board result }
+{
+    ports.remove(at)
+}
+
+// Appends a publisher.
+fn append_publisher(ports: &mut Vec<LanePublisher>, port: LanePublisher)
+    requires { length ports.old.items < vec_capacity ports.old }
+    ensures items { ports.new.items ≡ ports.old.items ++ port ∷ [] }
+    ensures own { (board : BoardState) → ArePublishersOf board ports.old.items → IsPublisherOf board port
+        → ArePublishersOf board ports.new.items }
+{
+    ports.push_reserved(port);
+}
+
+// Takes out the subscriber at this index.
+fn take_subscriber_at(ports: &mut Vec<LaneSubscriber>, at: usize) -> LaneSubscriber
+    requires { at < length ports.old.items }
+    ensures there { slice_get ports.old.items at ≡ Some result }
+    ensures left { ports.new.items ≡ remove ports.old.items at }
+    ensures own { (board : BoardState) → AreSubscribersOf board ports.old.items
+        → AreSubscribersOf board ports.new.items × IsSubscriberOf board result }
+{
+    ports.remove(at)
+}
+
+// Appends a subscriber.
+fn append_subscriber(ports: &mut Vec<LaneSubscriber>, port: LaneSubscriber)
+    requires { length ports.old.items < vec_capacity ports.old }
+    ensures items { ports.new.items ≡ ports.old.items ++ port ∷ [] }
+    ensures own { (board : BoardState) → AreSubscribersOf board ports.old.items → IsSubscriberOf board port
+        → AreSubscribersOf board ports.new.items }
+{
+    ports.push_reserved(port);
+}
+
 impl<T, U, B, D> DomainThreads<T, U, B, D> {
     /// Takes out the publisher with this id in the domain, as a port that knows the types of its service. None if it isn't among the
-    /// ports.
+    /// ports. The port and those that are left step on the board's own words, if all did (`own`).
     /// Example: `let mut publisher = threads.take_publisher(handle.id())?;`
     pub fn take_publisher(&mut self, id: u64) -> Option<Publisher<T, U>>
         ensures rest { self.new ≡ record self.old { publishers = self.new.publishers } }
@@ -175,14 +219,17 @@ impl<T, U, B, D> DomainThreads<T, U, B, D> {
             × (self.new.publishers.items ≡ remove self.old.publishers.items at)) }
         ensures none { IfNone result ((position (has_publisher_id self.old.board id) self.old.publishers.items ≡ None)
             × (self.new ≡ self.old)) }
+        ensures own { ArePublishersOf self.old.board.board self.old.publishers.items
+            → ArePublishersOf self.new.board.board self.new.publishers.items
+            × IfSome result (λ publisher. IsPublisherOf self.new.board.board publisher.port) }
     {
         let at = find_publisher(&self.board, id, &self.publishers)?;
-        let port = self.publishers.remove(at);
+        let port = take_publisher_at(&mut self.publishers, at);
         Some(Publisher::new(port, id))
     }
 
     /// Takes out the subscriber with this id in the domain, as a port that knows the types of its service. None if it isn't among the
-    /// ports.
+    /// ports. The port and those that are left step on the board's own words, if all did (`own`).
     /// Example: `let mut subscriber = threads.take_subscriber(handle.id())?;`
     pub fn take_subscriber(&mut self, id: u64) -> Option<Subscriber<T, U>>
         ensures rest { self.new ≡ record self.old { subscribers = self.new.subscribers } }
@@ -192,41 +239,51 @@ impl<T, U, B, D> DomainThreads<T, U, B, D> {
             × (self.new.subscribers.items ≡ remove self.old.subscribers.items at)) }
         ensures none { IfNone result ((position (has_subscriber_id self.old.board id) self.old.subscribers.items ≡ None)
             × (self.new ≡ self.old)) }
+        ensures own { AreSubscribersOf self.old.board.board self.old.subscribers.items
+            → AreSubscribersOf self.new.board.board self.new.subscribers.items
+            × IfSome result (λ subscriber. IsSubscriberOf self.new.board.board subscriber.port) }
     {
         let at = find_subscriber(&self.board, id, &self.subscribers)?;
-        let port = self.subscribers.remove(at);
+        let port = take_subscriber_at(&mut self.subscribers, at);
         Some(Subscriber::new(port, id))
     }
 
     /// Puts a publisher back among the ports, so that the board can end. Nothing is allocated: there is room for as many publishers as were
-    /// opened. If no room is left, the publisher comes back.
+    /// opened. If no room is left, the publisher comes back. All ports step on the board's own words, as `end` requires, if they did and
+    /// this one does (`own`).
     /// Example: `threads.put_publisher(publisher);`
     pub fn put_publisher(&mut self, publisher: Publisher<T, U>) -> Result<(), Publisher<T, U>>
         ensures rest { self.new ≡ record self.old { publishers = self.new.publishers } }
         ensures put { OnOk result (self.new.publishers.items ≡ self.old.publishers.items ++ publisher.port ∷ []) }
         ensures back { IfErr result (λ back. (back ≡ publisher) × (self.new ≡ self.old)
             × (vec_capacity self.old.publishers ≤ length self.old.publishers.items)) }
+        ensures own { ArePublishersOf self.old.board.board self.old.publishers.items → IsPublisherOf self.old.board.board publisher.port
+            → ArePublishersOf self.new.board.board self.new.publishers.items }
     {
         if self.publishers.len() >= self.publishers.capacity() {
             return Err(publisher);
         }
-        self.publishers.push_reserved(publisher.into_port());
+        append_publisher(&mut self.publishers, publisher.into_port());
         Ok(())
     }
 
     /// Puts a subscriber back among the ports, so that the board can end. Nothing is allocated: there is room for as many subscribers as
-    /// were opened. If no room is left, the subscriber comes back.
+    /// were opened. If no room is left, the subscriber comes back. All ports step on the board's own words, as `end` requires, if they did
+    /// and this one does (`own`).
     /// Example: `threads.put_subscriber(subscriber);`
     pub fn put_subscriber(&mut self, subscriber: Subscriber<T, U>) -> Result<(), Subscriber<T, U>>
         ensures rest { self.new ≡ record self.old { subscribers = self.new.subscribers } }
         ensures put { OnOk result (self.new.subscribers.items ≡ self.old.subscribers.items ++ subscriber.port ∷ []) }
         ensures back { IfErr result (λ back. (back ≡ subscriber) × (self.new ≡ self.old)
             × (vec_capacity self.old.subscribers ≤ length self.old.subscribers.items)) }
+        ensures own { AreSubscribersOf self.old.board.board self.old.subscribers.items
+            → IsSubscriberOf self.old.board.board subscriber.port
+            → AreSubscribersOf self.new.board.board self.new.subscribers.items }
     {
         if self.subscribers.len() >= self.subscribers.capacity() {
             return Err(subscriber);
         }
-        self.subscribers.push_reserved(subscriber.into_port());
+        append_subscriber(&mut self.subscribers, subscriber.into_port());
         Ok(())
     }
 }

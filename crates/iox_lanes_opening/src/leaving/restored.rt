@@ -12,6 +12,7 @@ use crate::leaving::restoring::{restore_history, restore_waiting};
 use iox_domain_ports::messages::Sender;
 use iox_lanes_machine::LaneMachine;
 use iox_queues_base::Words;
+use std::collections::VecDeque;
 
 /// What lanes leave of a publisher.
 #[derive(Clone, Copy)]
@@ -27,7 +28,7 @@ pub struct LeftPublisher<'a> {
     /// The number of its first slot in the lanes.
     pub first: u64,
     /// The slots of its history in the lanes, the oldest first.
-    pub history: &'a [u64],
+    pub history: &'a VecDeque<u64>,
 }
 
 /// Gives a publisher of a domain all that lanes leave of it, in place of its own waiting messages and history: the messages that wait at
@@ -47,7 +48,7 @@ pub fn restore<T: Words, U: Words>(
     ensures not { result ≡ false → IsRested sender.old → ⊥ }
     ensures rested { OnTrue result (IsRested sender.old) }
     ensures restored { OnTrue result (IsRestored T.of_parts (middle_of source.now.numbered U.of_parts) source.now.lanes.now
-        source.now.from source.now.indices.now source.now.first source.now.history.now sender.old sender.new) }
+        source.now.from source.now.indices.now source.now.first source.now.history.now.items sender.old sender.new) }
     ensures room { vec_capacity one.new ≡ vec_capacity one.old }
 {
     if !is_rested(sender) {

@@ -15,6 +15,7 @@ use iox_domain_ports::messages::Sender;
 use iox_lanes_base::words::WordTable;
 use iox_lanes_machine::LaneMachine;
 use iox_queues_base::Words;
+use std::collections::VecDeque;
 
 // The slots of a publisher in lanes, from `first` on. `numbered` says whether each slot has the sequence number of its message.
 #[derive(Clone, Copy)]
@@ -199,7 +200,7 @@ fn remember_own<T: Words, U: Words>(
 pub fn restore_history<T: Words, U: Words>(
     table: &WordTable,
     numbered: bool,
-    history: &[u64],
+    history: &VecDeque<u64>,
     first: u64,
     sender: &mut Sender<T, U>,
     one: &mut Vec<T>,
@@ -207,8 +208,8 @@ pub fn restore_history<T: Words, U: Words>(
     requires come { MayCome T.of_parts (middle_of numbered U.of_parts) T.WORDS (middle_count numbered U.WORDS) table.now first
         (vec_capacity one.old) sender.old }
     requires empty { sender.old.uses.history ≡ [] }
-    ensures remembers { MayRememberAll table.now history.now first sender.old
-        → sender.new.uses.history ≡ messages_in T.of_parts (middle_of numbered U.of_parts) table.now first history.now }
+    ensures remembers { MayRememberAll table.now history.now.items first sender.old
+        → sender.new.uses.history ≡ messages_in T.of_parts (middle_of numbered U.of_parts) table.now first history.now.items }
     ensures rest { OnlyRemembers sender.old sender.new }
     ensures left { AreLeft T.of_parts (middle_of numbered U.of_parts) table.now first sender.new.uses }
     ensures room { vec_capacity one.new ≡ vec_capacity one.old }

@@ -6,40 +6,60 @@ ghost use Rattle.iox_domain.specs.DomainValues.declared.backpressure.Backpressur
 ghost use Rattle.iox_domain.specs.Kept.{kept_under};
 ghost use Rattle.iox_lanes_opening.specs.Deciding.{asks_object, fixed_answer, fixed_decision, has_handlers, has_object, is_failure};
 ghost use Rattle.iox_lanes_opening.specs.Deciding.{is_kept_object, is_object, is_retry, is_retrying, retries, would_fail, would_wait};
+ghost use Rattle.iox_lanes_opening.specs.Deciding.{OnlyDecides, TakesOneAction};
+ghost use Rattle.iox_lanes_opening.specs.Deciding as deciding;
 
 use iox_domain::{Domain, Kept, Nobody};
 use iox_domain_ports::PublisherPort;
 use iox_domain_values::backpressure::decision;
 use iox_domain_values::{
-    BackpressureAction, BackpressureDecision, BackpressureHandler, DegradationHandler, Handlers,
+    BackpressureAction, BackpressureDecision, BackpressureHandler, Decides, DegradationHandler,
+    Degrades, Handlers,
 };
 
-/// Handlers of a publisher of which lanes know what they decide, since lanes don't ask.
+/// Handlers of a publisher of which lanes know what they decide, since lanes don't ask. An implementation proves that its handlers may
+/// decide nothing else.
 ///
 /// Not in `iceoryx2`.
-pub trait FixedDecision: Drop {
+pub trait FixedDecision: Decides + Degrades {
     // what a send does at each full mailbox, if no handler is an object of the caller
     ghost decision: { Self → Option BackpressureDecision };
 
     /// What a send does at each full mailbox. None if one of the handlers is an object of the caller.
     fn fixed_decision(&self) -> Option<BackpressureDecision>
         ensures { result ≡ decision self.now };
+
+    // where there is a fixed decision, no other one may be made at a full mailbox
+    ghost decides_so: { (handlers : Self) (fixed : BackpressureDecision) → decision handlers ≡ Some fixed
+        → OnlyDecides (Self.decides handlers) fixed };
+
+    // and only one action may be taken if a connection fails
+    ghost degrades_so: { (handlers : Self) (fixed : BackpressureDecision) → decision handlers ≡ Some fixed
+        → TakesOneAction (Self.degrades handlers) };
 }
 
-/// A handler of a subscriber of which lanes know whether it is an object of the caller, since lanes don't ask.
+/// A handler of a subscriber of which lanes know whether it is an object of the caller, since lanes don't ask. An implementation proves
+/// that its handler, if it is no object, may take only one action.
 ///
 /// Not in `iceoryx2`.
-pub trait AsksCaller: Drop {
+pub trait AsksCaller: Degrades {
     // whether the handler is an object of the caller
     ghost asks: { Self → Bool };
 
     /// Whether the handler is an object of the caller.
     fn asks_caller(&self) -> bool
         ensures { result ≡ asks self.now };
+
+    // a handler that is no object may take only one action if a connection fails
+    ghost degrades_so: { (handler : Self) → asks handler ≡ false → TakesOneAction (Self.degrades handler) };
 }
 
 impl FixedDecision for Handlers {
     ghost decision = { fixed_decision };
+
+    ghost decides_so = { deciding.handlers_decide _ };
+
+    ghost degrades_so = { deciding.handlers_degrade _ };
 
     fn fixed_decision(&self) -> Option<BackpressureDecision> {
         if asks_object(&self.backpressure) || is_object(&self.degradation) {
@@ -52,6 +72,8 @@ impl FixedDecision for Handlers {
 impl AsksCaller for DegradationHandler {
     ghost asks = { is_object };
 
+    ghost degrades_so = { deciding.handler_degrades _ };
+
     fn asks_caller(&self) -> bool {
         is_object(self)
     }
@@ -60,6 +82,10 @@ impl AsksCaller for DegradationHandler {
 impl FixedDecision for Nobody {
     ghost decision = { λ _. Some decided.Retry };
 
+    ghost decides_so = { λ nobody. deciding.nobody_decides };
+
+    ghost degrades_so = { λ nobody fixed is. deciding.nobody_degrades };
+
     fn fixed_decision(&self) -> Option<BackpressureDecision> {
         Some(BackpressureDecision::Retry)
     }
@@ -67,6 +93,8 @@ impl FixedDecision for Nobody {
 
 impl AsksCaller for Nobody {
     ghost asks = { λ _. false };
+
+    ghost degrades_so = { λ nobody no. deciding.nobody_degrades };
 
     fn asks_caller(&self) -> bool {
         false

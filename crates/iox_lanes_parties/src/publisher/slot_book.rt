@@ -10,6 +10,7 @@ use crate::places::put;
 use crate::publisher::use_counts::UseCounts;
 use iox_lanes_base::calls::PublisherChange;
 use std::alloc::{AllocError, Global};
+use std::collections::VecDeque;
 use std::marker::Model;
 
 /// Whether a slot is a loan, and whether it is written.
@@ -46,7 +47,7 @@ pub struct SlotBook {
     kept: usize,
     out: u64,
     loans: Vec<LoanMark>,
-    history: Vec<u64>,
+    history: VecDeque<u64>,
     // For each connection, and each slot, whether the connection has the slot.
     referred: Vec<bool>,
     // How many loans, places of the history and connections have each slot.
@@ -55,7 +56,8 @@ pub struct SlotBook {
 }
 
 impl Model for SlotBook {
-    ghost use Rattle.std.specs.Prelude.{◌≤◌, ◌<◌, ◌^◌, length, vec_capacity};
+    ghost use Rattle.std.specs.Prelude.{◌≤◌, ◌<◌, ◌^◌, length};
+    ghost use Rattle.std.specs.VecDeque.{deque_capacity};
     ghost use Rattle.iox_lanes_parties.specs.PublisherKeeping.{BookState};
 
     ghost Value = { BookState };
@@ -68,11 +70,11 @@ impl Model for SlotBook {
       loans = b.loans.items;
       history = b.history.items;
       referred = b.referred.items;
-      uses = b.uses;
+      uses = b.uses.counts;
       answer = b.answer;
     } };
 
-    ghost invariant = { λ b. (length b.history.items ≤ b.kept) × (b.kept ≤ vec_capacity b.history) };
+    ghost invariant = { λ b. (length b.history.items ≤ b.kept) × (b.kept ≤ deque_capacity b.history) };
 }
 
 impl SlotBook {
@@ -97,7 +99,7 @@ impl SlotBook {
             kept,
             out: 0,
             loans: vec![in alloc; LoanMark::No; slots]?,
-            history: Vec::with_capacity(alloc, kept)?,
+            history: VecDeque::with_capacity(alloc, kept)?,
             referred: vec![in alloc; false; marks]?,
             uses: UseCounts::new(alloc, slots)?,
             answer: None,
@@ -126,10 +128,10 @@ impl SlotBook {
     }
 
     /// The slots of its history, the oldest first.
-    pub fn history(&self) -> &[u64]
-        ensures { result.now ≡ self.now.history }
+    pub fn history(&self) -> &VecDeque<u64>
+        ensures { result.now.items ≡ self.now.history }
     {
-        self.history.as_slice()
+        &self.history
     }
 
     /// How many uses each slot has: one as a loan, one in the history, one at each connection that has it.
@@ -186,7 +188,7 @@ impl SlotBook {
         requires { may_remember slot self.old ≡ true }
         ensures { self.new ≡ found_newest slot self.old }
     {
-        self.history.push_reserved(slot);
+        self.history.push_back_reserved(slot);
         self.uses.count_up(slot.saturating_sub(self.first));
     }
 
@@ -273,11 +275,12 @@ impl SlotBook {
             self.uses.count_down(index);
             return;
         }
-        if self.history.len() == self.kept {
-            let oldest = self.history.remove(0);
+        if self.history.len() == self.kept
+            && let Some(oldest) = self.history.pop_front()
+        {
             self.uses.count_down(oldest.saturating_sub(self.first));
         }
-        self.history.push_reserved(slot);
+        self.history.push_back_reserved(slot);
     }
 
     fn refer(&mut self, place: u64, slot: u64)
@@ -310,17 +313,10 @@ impl SlotBook {
 }
 
 // Whether the number is in the list.
-fn stands_in(slot: u64, list: &[u64]) -> bool
-    ensures { result ≡ stands_in slot list.now }
+fn stands_in(slot: u64, list: &VecDeque<u64>) -> bool
+    ensures { result ≡ stands_in slot list.now.items }
 {
-    let mut rest = list;
-    while let Some((first, tail)) = rest.split_first() {
-        if *first == slot {
-            return true;
-        }
-        rest = tail;
-    }
-    false
+    list.contains(&slot)
 }
 
 // Whether no slot has a use.

@@ -38,7 +38,7 @@ restore_history-requires g c = record {
 pub returns-clause-restored : goal.returns-clause-restored
 returns-clause-restored g c = restored_is g.T.Words.of_parts (middle_of c.args.source.now.numbered g.U.Words.of_parts)
     c.args.source.now.lanes.now c.args.source.now.from c.args.source.now.indices.now c.args.source.now.first
-    c.args.source.now.history.now c.args.sender.now c.forget_messages.new.sender c.restore_connections.new.sender
+    c.args.source.now.history.now.items c.args.sender.now c.forget_messages.new.sender c.restore_connections.new.sender
     c.restore_history.new.sender
     c.forget_messages.ensures.rest c.forget_messages.ensures.cleared c.restore_connections.ensures.rest
     c.restore_connections.ensures.count c.restore_connections.ensures.each c.restore_connections.ensures.waits

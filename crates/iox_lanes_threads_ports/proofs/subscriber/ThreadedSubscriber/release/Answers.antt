@@ -46,7 +46,7 @@ returns-clause-call g c =
     c.finish.new.lane c.go_on.new.self c.go_on.result
     (ap (λ (v : SubscriberPort). v.port) (sym c.self.view_is)) lane_is fit c.begin.ensures
     c.finish.ensures.goes c.finish.ensures.over c.go_on.ensures.lane refl c.go_on.ensures.answer in
-    subst (Releases c.args.self.now c.args.sample new) (sym c.is_released.ensures)
+    subst (Releases c.args.self.now c.args.sample new) (sym c.release_answer.ensures)
     (releases_by c.args.self.now new c.args.sample c.go_on.result done.0
     (subst (λ (v : SubscriberPort). SubscriberStands v.port v.lane) c.self.view_is
     (lemmas.settled_stands (port_of c.self.inside.seat.me) c.self.inside.lane c.self.invariant.1))
@@ -60,7 +60,7 @@ returns-clause-put g c = λ e.
       lane = settled c.go_on.new.self;
       words = words_read c.go_on.new.self.port.call c.go_on.new.self.port.words;
     } in
-    release_known c.args.self.now new c.args.sample c.is_released.result
+    release_known c.args.self.now new c.args.sample c.release_answer.result
     (subst (λ (v : SubscriberPort). SubscriberStands v.port v.lane) c.self.view_is
     (lemmas.settled_stands (port_of c.self.inside.seat.me) c.self.inside.lane c.self.invariant.1)) (returns-clause-call g c) e
 
@@ -72,7 +72,7 @@ returns-clause-kept g c = λ e.
       lane = settled c.go_on.new.self;
       words = words_read c.go_on.new.self.port.call c.go_on.new.self.port.words;
     } in
-    release_kept c.args.self.now new c.args.sample c.is_released.result
+    release_kept c.args.self.now new c.args.sample c.release_answer.result
     (subst (λ (v : SubscriberPort). SubscriberStands v.port v.lane) c.self.view_is
     (lemmas.settled_stands (port_of c.self.inside.seat.me) c.self.inside.lane c.self.invariant.1)) (returns-clause-call g c) e
 
