@@ -4,6 +4,7 @@ pub mod SpacedLemmas
 pub mod AfterLemmas
 pub mod MarkLemmas
 pub mod NumberLemmas
+pub mod LeadingLemmas
 pub mod VisibleLemmas
 pub mod OptionLemmas
 pub mod ChoiceLemmas
@@ -21,6 +22,7 @@ pub mod PortOptionLemmas
 pub mod ReadingLemmas
 pub mod LineLemmas
 pub mod PortLemmas
+pub mod ReadLineLemmas
 pub mod PrintLemmas
 pub mod RefusalTextLemmas
 pub mod HasLineLemmas

@@ -110,7 +110,7 @@ no_port_foreign_words (w ∷ []) = refl
 no_port_foreign_words (w ∷ v ∷ ws) = no_port_foreign (pattern_named w) (name_of v) ws
 
 -- a verb that names a service asks no port
-no_port_service : (v : ServiceVerb) (ws : List (List ℕ)) → if_of_port (of_service v ws) ≡ None
+pub no_port_service : (v : ServiceVerb) (ws : List (List ℕ)) → if_of_port (of_service v ws) ≡ None
 no_port_service service.Create ws = no_port_made (λ s a t. command.Create s.node s.name s.options a t) specifier_of (λ s a t. refl)
     (service_of ws)
 no_port_service service.Open ws = no_port_made (λ s a t. command.Open s.node s.name s.options a t) verifier_of (λ s a t. refl)
@@ -131,14 +131,6 @@ no_port_verb v ws (inr (inr (inr e))) = ap (λ v. if_of_port (of_verb v ws)) e �
 pub spells_no_port : (line : List ℕ) (c : PortCommand ℕ) → if_of_port (of_words (words_of line)) ≡ None → Spells line (command_of c) → ⊥
 spells_no_port line c h s =
     let e : None ≡ Some (command_of c) = sym h ∙ ap if_of_port (line_complete line (command_of c) s) ∙ port_stays c in cc
-
-no_port_read : (u : Option ServiceVerb) (ws : List (List ℕ)) → if_of_port (of_read None u ws) ≡ None
-no_port_read None ws = refl
-no_port_read (Some u) ws = no_port_service u ws
-
--- words whose first is no verb, or one that names a service, ask no port
-pub no_port_words : (w : List ℕ) (ws : List (List ℕ)) → verb_of w ≡ None → if_of_port (of_words (w ∷ ws)) ≡ None
-no_port_words w ws e = ap (λ v. if_of_port (of_read v (service_verb_of w) ws)) e ∙ no_port_read (service_verb_of w) ws
 
 -- words whose first is a verb are read by it
 pub verb_words : (w : List ℕ) (ws : List (List ℕ)) (v : Verb) → verb_of w ≡ Some v → of_words (w ∷ ws) ≡ of_verb v ws

@@ -125,12 +125,6 @@ pieces_cut sep text i within here none =
 pub take-rest : (line : List ℕ) (i : ℕ) → take (length line - i) (drop i line) ≡ drop i line
 take-rest line i = take_all (length line - i) (drop i line) (omega (arith, length-drop i line))
 
--- digits that lead past the limit spell no number
-pub below_limit-past : (word : List ℕ) (i front : ℕ) → i < length word → digits_from 0 word ≡ digits_from front (drop i word)
-    → is_digit (get_or word i 0) ≡ true → 2 ^ 64 ≤ front * 10 + (get_or word i 0 - 48) → below_limit (digits_from 0 word) ≡ None
-below_limit-past word i front within so_far digit large =
-    rw (so_far, drop-cons word i 0 within, digit) (below_limit-too_large (front * 10 + (get_or word i 0 - 48)) (drop (suc i) word) large)
-
 -- digits that were read to their end spell what was counted
 pub below_limit-whole : (word : List ℕ) (i front : ℕ) → length word ≤ i → digits_from 0 word ≡ digits_from front (drop i word)
     → front < 2 ^ 64 → Some front ≡ below_limit (digits_from 0 word)

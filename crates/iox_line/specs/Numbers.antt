@@ -34,3 +34,18 @@ number_of (b ∷ c ∷ bs) = if b == 48 then None else below_limit (digits_from 
 abbrev pub tagged : ℕ → List ℕ → Option ℕ
 tagged letter [] = None
 tagged letter (b ∷ bs) = if b == letter then number_of bs else None
+
+-- A number and what is left after it, if there is a number.
+abbrev pub number_and_rest : {A : Type 0} → Option ℕ → A → Option (ℕ × A)
+number_and_rest None rest = None
+number_and_rest (Some n) rest = Some (n, rest)
+
+-- The number of the first word, and the other words.
+abbrev pub number_first : List (List ℕ) → Option (ℕ × List (List ℕ))
+number_first [] = None
+number_first (w ∷ ws) = number_and_rest (number_of w) ws
+
+-- The number of the first word after the letter of its kind, and the other words.
+abbrev pub tagged_first : ℕ → List (List ℕ) → Option (ℕ × List (List ℕ))
+tagged_first letter [] = None
+tagged_first letter (w ∷ ws) = number_and_rest (tagged letter w) ws

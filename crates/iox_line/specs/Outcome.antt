@@ -1,5 +1,5 @@
 -- What is answered of a line.
-use Rattle.std.specs.Prelude.{ℕ, ◌<◌, ◌≤◌, ◌≡◌, Bool, true, false, ◌||◌, List, length, Result, Ok, Err}
+use Rattle.std.specs.Prelude.{ℕ, ◌<◌, ◌≤◌, ◌≡◌, Bool, true, false, ◌||◌, List, Option, None, Some, length, Result, Ok, Err}
 use Rattle.std.specs.declared.alloc.AllocError.{AllocError}
 use Rattle.iox_command.specs.declared.command.Command.{Command}
 use Rattle.iox_command.specs.declared.command.Command.TheVariants as command
@@ -8,6 +8,10 @@ use Rattle.iox_line.specs.AttributesReading.{requires_some}
 use Rattle.iox_line.specs.declared.error.LineError.{LineError}
 use Rattle.iox_line.specs.declared.error.LineError.TheVariants as fault
 use Rattle.iox_line.specs.Spelling.{Spells}
+use Rattle.iox_command.specs.Ports.{command_of}
+use Rattle.iox_line.specs.Reading.{if_of_port}
+use Rattle.iox_line.specs.declared.read.ReadLine.{ReadLine}
+use Rattle.iox_line.specs.declared.read.ReadLine.TheVariants as read
 
 -- A line of at most 1,024 bytes is read as the command that it spells, or is faulty if it spells none; a longer line is too long.
 abbrev pub IsReadAs : List ℕ → Result (Command ℕ) LineError → Type 0
@@ -27,3 +31,17 @@ takes_memory other = false
 abbrev pub Answers : List ℕ → Result (Result (Command ℕ) LineError) AllocError → Type 0
 Answers line (Ok read) = IsReadAs line read
 Answers line (Err lacking) = (length line ≤ 1024) × (c : Command ℕ) × Spells line c × (takes_memory c ≡ true)
+
+-- What is read of a line without memory: the command on an existing port that it spells; or another command that it spells, or that it
+-- spells none; or the fault for which it spells none.
+abbrev pub IsReadSoFar : List ℕ → ReadLine → Type 0
+IsReadSoFar line (read.OfPort command) = IsReadAs line (Ok (command_of command))
+IsReadSoFar line (read.Other (Some command)) = IsReadAs line (Ok command) × (if_of_port (Some command) ≡ None)
+IsReadSoFar line (read.Other None) = IsReadAs line (Err fault.Faulty)
+IsReadSoFar line (read.Fault why) = IsReadAs line (Err why)
+
+-- These words are read as this.
+abbrev pub AreReadAs : Option (Command ℕ) → ReadLine → Type 0
+AreReadAs spelled (read.OfPort command) = spelled ≡ Some (command_of command)
+AreReadAs spelled (read.Other command) = (command ≡ spelled) × (if_of_port spelled ≡ None)
+AreReadAs spelled (read.Fault why) = (why ≡ fault.Faulty) × (spelled ≡ None)

@@ -28,6 +28,8 @@ use Rattle.iox_line.specs.StepsReading.{steps_of, lists_of}
 use Rattle.iox_line.specs.declared.verb.Verb.{Verb}
 use Rattle.iox_line.specs.declared.verb.Verb.TheVariants as verb
 use Rattle.iox_line.specs.declared.verb.ServiceVerb.{ServiceVerb}
+use Rattle.iox_line.specs.declared.verb.OtherVerb.{OtherVerb}
+use Rattle.iox_line.specs.declared.verb.OtherVerb.TheVariants as other
 use Rattle.iox_line.specs.declared.verb.ServiceVerb.TheVariants as service
 use Rattle.iox_line.specs.Verbs.{verb_of, service_verb_of}
 
@@ -189,6 +191,14 @@ of_verb verb.Leave words = option_map (λ p. command.Leave p) (port_of words)
 of_verb verb.Has words = option_map (λ n. command.Has n) (only (byte "s") words)
 of_verb verb.Publisher words = publisher_command words
 of_verb verb.Subscriber words = subscriber_command words
+
+-- The command of a verb of a command that isn't on an existing port, and of the words after it.
+abbrev pub of_other : OtherVerb → List (List ℕ) → Option (Command ℕ)
+of_other other.Node words = of_verb verb.Node words
+of_other other.Close words = of_verb verb.Close words
+of_other other.Publisher words = of_verb verb.Publisher words
+of_other other.Subscriber words = of_verb verb.Subscriber words
+of_other (other.Service verb) words = of_service verb words
 
 -- The command, if it is one on an existing port; none for any other command.
 abbrev pub if_of_port : Option (Command ℕ) → Option (Command ℕ)

@@ -49,5 +49,5 @@ pub mod verb;
 
 pub use error::LineError;
 pub use print::print_reply;
-pub use read::{read_command, read_port_command};
+pub use read::{OtherLine, ReadLine, read_command, read_line};
 pub use scratch::Scratch;

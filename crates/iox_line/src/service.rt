@@ -14,6 +14,7 @@ use iox_command::Command;
 use std::alloc::{AllocError, Global};
 
 /// The command of a verb that names a service, and of the words after it.
+#[inline(never)]
 pub(crate) fn of_service<'a>(
     alloc: Global,
     verb: ServiceVerb,

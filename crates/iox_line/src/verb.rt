@@ -61,6 +61,21 @@ pub enum ServiceVerb {
     Foreign,
 }
 
+/// The verb of a command that isn't on an existing port. Not in `iceoryx2`.
+#[derive(Clone, Copy)]
+pub enum OtherVerb {
+    /// `node`
+    Node,
+    /// `close`
+    Close,
+    /// `publisher`
+    Publisher,
+    /// `subscriber`
+    Subscriber,
+    /// The verb of a line that names a service.
+    Service(ServiceVerb),
+}
+
 // Whether a word is this text. Verbs are short: comparing their bytes one by one is quicker than comparing slices.
 #[inline(always)]
 fn is(word: &[u8], text: &[u8]) -> bool

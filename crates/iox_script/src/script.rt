@@ -1,20 +1,25 @@
 //! A hub that a script drives, one line at a time.
-ghost use Rattle.std.specs.Prelude.{◌≡◌, ◌⊎◌, ◌+◌, ◌<◌, ◌≤◌, ◌^◌, ℕ, List, true, OnOk, OnErr, IfErr, IfSome, Err, ◌++◌, codes};
+ghost use Rattle.std.specs.Prelude.{◌≡◌, ◌⊎◌, ◌+◌, ◌<◌, ◌≤◌, ◌^◌, ℕ, List, true, OnOk, OnErr, IfErr, IfSome, Ok, Err, ◌++◌, codes};
 ghost use Rattle.std.specs.Io.{StartsWith};
 ghost use Rattle.std.specs.Io.KnownBytes.{Appends};
 ghost use Rattle.iox_conversation.specs.Conversation.{IsConversation};
 ghost use Rattle.iox_conversation.specs.Lines.{heard_whole};
 ghost use Rattle.iox_conversation.specs.declared.error.ServeError.TheVariants as failed;
 ghost use Rattle.iox_hub_commands.specs.Numbers.{numbers_used};
+ghost use Rattle.iox_command.specs.declared.reply.Reply.{Reply};
 ghost use Rattle.iox_line.specs.LineFault.{fault_text};
+ghost use Rattle.iox_line.specs.Outcome.{IsReadSoFar};
+ghost use Rattle.iox_line.specs.ReplyText.{reply_text};
+ghost use Rattle.iox_line.specs.declared.read.ReadLine.TheVariants as read;
 ghost use Rattle.iox_script.specs.Answered.{AnswersAsNewMachine, BeginsAsNewMachine};
 ghost use Rattle.iox_script.specs.Conversation.{AnswersLine, IsNewScript, BreaksOffAnew, WritesABeginningAnew};
 ghost use Rattle.iox_script.specs.declared.script.Script.{Script};
 
+use iox_command::Reply;
 use iox_conversation::{AnswersLines, Input, Output, ServeError};
 use iox_hub_commands::{FixedDegradation, FixedHandlers, HubConfig, NumberedHub};
 use iox_hub_machine::runs::runs_answer;
-use iox_line::{LineError, Scratch, print_reply, read_command, read_port_command};
+use iox_line::{LineError, OtherLine, ReadLine, Scratch, print_reply, read_line};
 use std::alloc::{AllocError, Global};
 use std::io::{Read, Write};
 
@@ -39,36 +44,54 @@ impl AnswersLines for Script {
         line: &[u8],
         out: &mut Vec<u8>,
     ) -> Result<(), AllocError> {
-        if let Some(command) = read_port_command(line, &mut self.scratch) {
-            let reply = self.hub.step_port(alloc, command)?;
-            return print_reply(&reply, out);
+        match read_line(line, &mut self.scratch) {
+            ReadLine::OfPort(command) => {
+                let answered = self.hub.step_port(alloc, command);
+                print_answer(&answered, out)
+            }
+            ReadLine::Other(other) => self.answer_other(alloc, other, out),
+            ReadLine::Fault(fault) => print_fault(fault, out),
         }
-        self.answer_any(alloc, line, out)
     }
 }
 
 impl Script {
-    // Answers any line. `answer_line` tries commands on existing ports first, since most lines are such commands, and these are small
-    // values.
-    fn answer_any(
+    // Answers a line that begins with the verb of a command that isn't on an existing port. Such lines are seldom, and their commands
+    // large.
+    #[inline(never)]
+    fn answer_other(
         &mut self,
         alloc: Global,
-        line: &[u8],
+        other: OtherLine,
         out: &mut Vec<u8>,
     ) -> Result<(), AllocError>
         requires { numbers_used self.old.hub + 1 < 2 ^ 64 }
-        ensures answers { OnOk result ((text : List ℕ) × (out.new.items ≡ out.old.items ++ text)
-            × AnswersLine self.old line.now text self.new) }
+        ensures answers { (line : List ℕ) → IsReadSoFar line (read.Other other.entry) → OnOk result ((text : List ℕ)
+            × (out.new.items ≡ out.old.items ++ text) × AnswersLine self.old line text self.new) }
         ensures kept { OnErr result (StartsWith out.new.items out.old.items) }
         ensures counts { numbers_used self.new.hub ≤ numbers_used self.old.hub + 1 }
     {
-        match read_command(alloc, line, &mut self.scratch)? {
-            Ok(command) => {
-                let reply = self.hub.step(alloc, command)?;
-                print_reply(&reply, out)
+        match other.command(alloc)? {
+            Some(command) => {
+                let answered = self.hub.step(alloc, command);
+                print_answer(&answered, out)
             }
-            Err(fault) => print_fault(fault, out),
+            None => print_fault(LineError::Faulty, out),
         }
+    }
+}
+
+// Appends the bytes of a reply, if there is one.
+fn print_answer(
+    answered: &Result<Reply<u64>, AllocError>,
+    out: &mut Vec<u8>,
+) -> Result<(), AllocError>
+    ensures ok { OnOk result ((reply : Reply ℕ) × (answered.now ≡ Ok reply) × (out.new.items ≡ out.old.items ++ reply_text reply)) }
+    ensures kept { OnErr result (out.new.items ≡ out.old.items) }
+{
+    match answered {
+        Ok(reply) => print_reply(reply, out),
+        Err(lacking) => Err(*lacking),
     }
 }
 

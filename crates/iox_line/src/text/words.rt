@@ -1,8 +1,10 @@
 //! The words of a line, one after the other, and other pieces of a text.
 ghost use Rattle.std.specs.Prelude.{◌≡◌, ◌<◌, ◌==◌, [], ◌∷◌, None, length, IfSome};
 ghost use Rattle.std.specs.Option.{option_map};
+ghost use Rattle.iox_line.specs.Numbers.{number_first, tagged_first};
 ghost use Rattle.iox_line.specs.Words.{words_of, pieces_of, pieces_left, before, beyond, begins, front, back, marked_from, no_words, same};
 
+use crate::text::number::{leading_number, leading_numbered};
 use std::marker::Model;
 
 /// The words of a line that are still to be read, between its spaces; or the pieces of a text between other bytes. Contracts see the list
@@ -75,6 +77,32 @@ impl<'a> Words<'a> {
         let (word, rest) = split(text, self.separator);
         self.text = rest;
         Some(word)
+    }
+
+    /// Takes the next word, if one is left and it spells a number. Each of its bytes is read once.
+    #[inline(always)]
+    pub fn next_number(&mut self) -> Option<u64>
+        ensures { number_first self.old ≡ option_map (λ value. (value, self.new)) result }
+    {
+        let Some(text) = self.text else {
+            return None;
+        };
+        let (value, rest) = leading_number(text, self.separator)?;
+        self.text = rest;
+        Some(value)
+    }
+
+    /// Takes the next word, if one is left and it spells a number after the letter of its kind. Each of its bytes is read once.
+    #[inline(always)]
+    pub fn next_numbered(&mut self, letter: u8) -> Option<u64>
+        ensures { tagged_first letter self.old ≡ option_map (λ value. (value, self.new)) result }
+    {
+        let Some(text) = self.text else {
+            return None;
+        };
+        let (value, rest) = leading_numbered(letter, text, self.separator)?;
+        self.text = rest;
+        Some(value)
     }
 
     /// The words before the first one that begins with this byte, and the others.

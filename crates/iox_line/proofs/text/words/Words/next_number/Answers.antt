@@ -1,0 +1,14 @@
+use Rattle.std.proofs.Common.{◌≡◌}
+use Rattle.iox_line.specs.Words.{pieces_of}
+use Rattle.iox_line.proofs.LeadingLemmas.{first_none, first_some}
+use Rattle.iox_line.proofs.text.words.Words.next_number.Goals as goal
+
+pub returns-in_err-value : goal.returns-in_err-value
+returns-in_err-value c =
+    let left : pieces_of c.self.inside.separator c.in-Some.text.now ≡ c.args.self.now = rw c.in-Some.is at c.self.view_is in
+    rw (← left, c.from_residual.ensures) (first_none c.self.inside.separator c.in-Some.text.now c.in_err-value.ensures)
+
+pub returns : goal.returns
+returns c =
+    let left : pieces_of c.self.inside.separator c.in-Some.text.now ≡ c.args.self.now = rw c.in-Some.is at c.self.view_is in
+    rw (← left) (first_some _ _ _ _ c.in_ok-value.ensures)
