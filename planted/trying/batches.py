@@ -10,16 +10,17 @@ import re
 import shutil
 import tempfile
 from collections.abc import Iterator
-from dataclasses import dataclass
+from dataclasses import dataclass, replace
 from pathlib import Path
 
 from planted.trying import callees, prover
+from planted.trying.definitions import laws_near
 from planted.trying.edits import TOP, Edit, changed, fault_of, write
 from planted.trying.functions import asked_about
 from planted.trying.prover import Answer, Libraries, Verdict
 
-# As many edits at once at most: each leaves open goals, which take memory.
-MOST_AT_ONCE = 16
+# As many edits at once at most: each leaves open goals, which take memory. What the prover reads first takes some 20 seconds a run.
+MOST_AT_ONCE = 32
 PARTS = ("src", "specs", "proofs")
 
 
@@ -54,7 +55,10 @@ def wanted_of(edits: list[Edit], crate: str, libraries: Libraries, known: dict[s
             yield Found(edit, "unfit", why=fault)
             continue
         asked = asked_about(edit, folder, names)
-        yield Wanted(edit, known.get(edit.key) or asked.paths or None, not asked.is_bodies)
+        before = known.get(edit.key, ())
+        # An edit that was written anew may change another function than the one that refused it.
+        is_of_edit = not asked.paths or overlaps(before, set(asked.paths))
+        yield Wanted(edit, (before if is_of_edit else ()) or asked.paths or None, not asked.is_bodies)
 
 
 def batches(wanted: list[Wanted]) -> Iterator[list[Wanted]]:
@@ -211,7 +215,7 @@ def try_crate(crate: str, edits: list[Edit], libraries: Libraries, known: dict[s
         else:
             wanted.append(it)
     for batch in batches([it for it in wanted if not is_for_above(it)]):
-        for found in try_batch(crate, batch, libraries):
+        for found in try_near(crate, batch[0], libraries) if batch[0].asked is None else try_batch(crate, batch, libraries):
             if found.kind in ("through", "weakly") and found.edit.above:
                 yield try_above(found.edit, libraries, None, found.seconds)
             else:
@@ -219,6 +223,20 @@ def try_crate(crate: str, edits: list[Edit], libraries: Libraries, known: dict[s
     for it in wanted:
         if is_for_above(it):
             yield try_above(it.edit, libraries, it.asked, 0.0)
+
+
+def try_near(crate: str, it: Wanted, libraries: Libraries) -> Iterator[Found]:
+    """What came of an edit that the whole crate must judge: the functions that are likeliest to refuse it are asked before."""
+    spent = 0.0
+    near = laws_near(it.edit, TOP / "crates" / crate, libraries.functions(crate))
+    if near:
+        found = next(try_batch(crate, [Wanted(it.edit, near, is_alone=True)], libraries))
+        if found.kind in ("refused", "unfit"):
+            yield found
+            return
+        spent = found.seconds
+    for found in try_batch(crate, [it], libraries):
+        yield replace(found, seconds=found.seconds + spent)
 
 
 def is_for_above(it: Wanted) -> bool:

@@ -9,8 +9,8 @@ from planted.trying.table import HELD, Row
 
 GATE = PLANTED / "gate.txt"
 OTHERS = 20
-# In seconds of processor time, by the table: what the others may take together.
-MOST_SECONDS = 240.0
+# In seconds of processor time, by the table: what those of each gate and the others may take together, and the others at most.
+ALL_SECONDS, MOST_SECONDS = 900.0, 240.0
 
 
 def promised() -> dict[str, list[str]]:
@@ -37,7 +37,7 @@ def others(edits: list[Edit], rows: dict[str, Row], named: set[str], by: str) ->
     tried = [it for it in edits if it.key not in named and it.key in rows and rows[it.key].how in HELD]
     start = int(by, 16) % len(tried) if tried else 0
     chosen: list[Edit] = []
-    left = MOST_SECONDS
+    left = min(MOST_SECONDS, ALL_SECONDS - sum(float(rows[key].seconds) for key in named & rows.keys()))
     for it in tried[start:] + tried[:start]:
         seconds = float(rows[it.key].seconds)
         if len(chosen) < OTHERS and seconds <= left:

@@ -27,16 +27,20 @@ class Edit:
     changes: tuple[Change, ...]
     # A crate above, whose laws must refuse what the edit's own crate lets through.
     above: str = ""
+    # The functions that are to refuse a changed definition, where the edit names them.
+    laws: tuple[str, ...] = ()
+    # The case of ./check that must notice the edit, where no clause and no test can: what it changes is a cost.
+    case: str = ""
 
     @property
     def key(self) -> str:
         return f"{self.crate}/{self.name}"
 
 
-def crate_above(path: Path) -> str:
-    """What an edit's line `above: CRATE` names."""
+def said_of(path: Path, key: str) -> str:
+    """What an edit's line of this key says, as `above: CRATE`, `laws: FUNCTION..` and `case: NAME`."""
     lines = path.read_text(encoding="utf-8").splitlines()
-    return next((line.partition(": ")[2] for line in lines if line.startswith("above: ")), "")
+    return next((line.partition(": ")[2] for line in lines if line.startswith(f"{key}: ")), "")
 
 
 def changes(path: Path) -> tuple[Change, ...]:
@@ -56,7 +60,8 @@ def changes(path: Path) -> tuple[Change, ...]:
 def edit_of(path: Path) -> Edit:
     """The edit of a file: it lies in planted/CRATE or in crates/CRATE/must-fail."""
     folder = path.parent if path.parent.name != "must-fail" else path.parent.parent
-    return Edit(folder.name, path.stem, path, changes(path), crate_above(path))
+    laws = tuple(said_of(path, "laws").split())
+    return Edit(folder.name, path.stem, path, changes(path), said_of(path, "above"), laws, said_of(path, "case"))
 
 
 def every_edit() -> list[Edit]:

@@ -37,8 +37,9 @@ class Judge:
     rows: dict[str, Row]
     take: Callable[[Row], None]
     has_tests: bool = True
-    # Whether the test or case that a row names is run at once, and the prover isn't asked if that falls.
+    # Whether the test or case that a row names is run at once, and the prover isn't asked if that falls; or all that may notice a body.
     is_by_rows: bool = False
+    are_tests_first: bool = False
 
     def judge(self, edits: list[Edit], jobs: int) -> None:
         """Each job has a crate at a time."""
@@ -49,13 +50,20 @@ class Judge:
     def judge_crate(self, edits: list[Edit]) -> None:
         known, by, left = asked_before(self.rows), by_commit(), []
         for edit in edits:
-            fallen = fall_as_before(edit, self.rows.get(edit.key)) if self.is_by_rows else None
-            if fallen:
+            fallen = self.fall_at_once(edit)
+            if fallen and fallen.kind:
                 self.take(Row(edit.crate, edit.name, fallen.kind, fallen.where, fallen.what, f"{fallen.seconds:.0f}", by))
             else:
                 left.append(edit)
         for found in batches.try_crate(edits[0].crate, left, self.libraries, known):
-            self.take(noticed(found, self.rows.get(found.edit.key), by) if self.has_tests else row_of(found, by))
+            has_more = self.has_tests and not self.are_tests_first
+            self.take(noticed(found, self.rows.get(found.edit.key), by) if has_more else row_of(found, by))
+
+    def fall_at_once(self, edit: Edit) -> tests.Fallen | None:
+        """What falls before the prover is asked."""
+        if self.are_tests_first:
+            return fall_as_before(edit, self.rows.get(edit.key)) or fall_anywhere(edit)
+        return fall_as_before(edit, self.rows.get(edit.key)) if self.is_by_rows else None
 
 
 def noticed(found: Found, before: Row | None, by: str) -> Row:
@@ -84,6 +92,8 @@ def fall_anywhere(edit: Edit) -> tests.Fallen:
 
     A body of each gate must fall for a test, if one notices it: a text that differs tells less of it.
     """
+    if edit.case:
+        return tests.fall_in_cases(edit, (edit.case,))
     spent, text, counting = 0.0, tests.CASES[:1], tests.CASES[1:]
     is_of_gate = any(edit.key in keys for keys in promised().values())
     for cases in (text, None, counting) if not is_of_gate else (None, text, counting):

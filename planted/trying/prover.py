@@ -1,8 +1,10 @@
 """Asks the prover about some functions of a crate, over the libraries that are built."""
 from __future__ import annotations
 
+import atexit
 import os
 import re
+import shutil
 import signal
 import subprocess
 import tempfile
@@ -99,6 +101,23 @@ class Libraries:
         return flags
 
 
+@cache
+def kept_by_all() -> Path:
+    """Where the prover keeps what it checked of each crate for the next run: for this process, or for good where PLANTED_KEPT names it."""
+    if "PLANTED_KEPT" in os.environ:
+        return Path(os.environ["PLANTED_KEPT"]).resolve()
+    place = Path(tempfile.mkdtemp(prefix="planted-kept-"))
+    atexit.register(shutil.rmtree, place, ignore_errors=True)
+    return place
+
+
+def kept(crate: str) -> Path:
+    """The same of a crate."""
+    place = kept_by_all() / crate
+    place.mkdir(parents=True, exist_ok=True)
+    return place
+
+
 @dataclass
 class Answer:
     """What the prover said, and how much processor time it took."""
@@ -114,7 +133,7 @@ def ask(crate: str, folder: Path, libraries: Libraries, only: list[str] | None, 
     root = "src/main.rt" if (folder / "src" / "main.rt").exists() else "src/lib.rt"
     command = [str(home / "bin" / "rattle"), "check", "--crate-name", crate, root, *libraries.flags(crate)]
     command += ["--antt-project", str(home / "rattle" / "logic" / "antt-project.json"), "--logic-built", str(home / "logic_built")]
-    command += ["--jobs", "1", *["--allow-holes"] * has_holes]
+    command += ["--jobs", "1", "--incremental", str(kept(crate)), *["--allow-holes"] * has_holes]
     for name in only or []:
         command += ["--only", name.removeprefix(f"{crate}::")]
     return timed(command, folder)

@@ -3,7 +3,8 @@ from __future__ import annotations
 
 import fcntl
 import os
-from collections.abc import Iterable
+from collections.abc import Iterable, Iterator
+from contextlib import contextmanager
 from dataclasses import astuple, dataclass, fields
 from pathlib import Path
 
@@ -70,13 +71,27 @@ def write(rows: Iterable[Row], file: Path = TABLE) -> None:
     file.write_text("\n".join(lines) + "\n", encoding="utf-8")
 
 
-def keep(row: Row, file: Path = TABLE) -> None:
-    """Puts a row into a table that other processes write, too."""
+@contextmanager
+def locked(file: Path) -> Iterator[dict[str, Row]]:
+    """The rows of a table that other processes write, too: what is done to them is written."""
     lock = os.open(file.parent, os.O_RDONLY)
     try:
         fcntl.flock(lock, fcntl.LOCK_EX)
         rows = read(file)
-        rows[row.key] = row
+        yield rows
         write(rows.values(), file)
     finally:
         os.close(lock)
+
+
+def keep(row: Row, file: Path = TABLE) -> None:
+    """Puts a row into a table."""
+    with locked(file) as rows:
+        rows[row.key] = row
+
+
+def keep_only(keys: set[str], file: Path = TABLE) -> None:
+    """Takes the rows of other bodies out of a table."""
+    with locked(file) as rows:
+        for key in rows.keys() - keys:
+            del rows[key]

@@ -7,6 +7,7 @@ import subprocess
 import sys
 import tempfile
 from dataclasses import dataclass
+from functools import cache
 from pathlib import Path
 
 from planted.trying import prover
@@ -135,20 +136,24 @@ def counted_program(top: Path, case: str) -> tuple[dict[str, str], float]:
 
 
 def fall_in_text(edit: Edit) -> Fallen:
-    """The case on the libraries' text, if it fails with an edit: in a copy of what it reads, which takes seconds."""
+    """The case on the libraries' text, if it tells of a place with an edit that it doesn't tell of without."""
+    before, _ = told_of_text(edit.crate)
+    after, seconds = told_of_text(edit.crate, edit)
+    return Fallen("case", "check", TEXT, seconds) if after - before else Fallen("", "", "", seconds)
+
+
+@cache
+def told_of_text(crate: str, edit: Edit | None = None) -> tuple[frozenset[str], float]:
+    """What that case tells of places, where this crate alone is there, with an edit or without; and what it took."""
     with tempfile.TemporaryDirectory(prefix="planted-") as folder:
         top = Path(folder)
         shutil.copytree(TOP / "docs", top / "docs", ignore=unread)
         shutil.copy(TOP / "crates.txt", top)
-        (top / "crates").mkdir()
-        for crate in (TOP / "crates").iterdir():
-            if crate.name != edit.crate:
-                (top / "crates" / crate.name).symlink_to(crate)
-        shutil.copytree(TOP / "crates" / edit.crate, top / "crates" / edit.crate, ignore=LEFT_OUT)
-        write(changed(edit, top / "crates" / edit.crate), top / "crates" / edit.crate)
+        shutil.copytree(TOP / "crates" / crate, top / "crates" / crate, ignore=LEFT_OUT)
+        if edit:
+            write(changed(edit, top / "crates" / crate), top / "crates" / crate)
         ran = prover.timed([sys.executable, "docs/memory.py"], top)
-        fell = ran.status != 0 and bool(re.search("(?m)^(a new or changed place of out of memory|no place any longer): ", ran.said))
-    return Fallen("case", "check", TEXT, ran.seconds) if fell else Fallen("", "", "", ran.seconds)
+    return frozenset(re.findall("(?m)^(?:a new or changed place of out of memory|no place any longer): .*$", ran.said)), ran.seconds
 
 
 def unread(folder: str, names: list[str]) -> list[str]:
