@@ -3,10 +3,10 @@
 
 `bench/fail_allocations.py [--program PROGRAM] [SCRIPT ..]`: the program that `./iox` built, and all scripts below examples/, where
 none are named. The line at which the request was made is known from the requests of all beginnings of the script; the lines before it are
-answered as with ample memory, always. A run is as it may be if all lines are; or if it ends with status 2, `out of memory` on standard error
-and a beginning of those replies; or if that line is answered by a refusal that tells want of memory, and all lines behind it as the model
-in model/ answers them where that line does nothing, unless nodes of others stepped there: what they did before stays done, and the lines
-behind aren't held against anything; nor are they if that line is one of a port, and answered as ever: then a connection wasn't made,
+answered as with ample memory, always. A run is as it may be if all lines are; or if it ends with status 2, `out of memory` on standard
+error and a beginning of those replies; or if that line is answered by a refusal that tells want of memory, and all lines behind it as the
+model in model/ answers them where that line does nothing, unless nodes of others stepped there: what they did before stays done, and the
+lines behind aren't held against anything; nor are they if that line is one of a port, and answered as ever: then a connection wasn't made,
 which a handler passes over where nobody says otherwise. Prints a line a script, and each run that is none of these.
 """
 import os
@@ -74,7 +74,8 @@ class Runs:
             return "without a connection", None
         if differing[0] != at:
             at = differing[0]
-            return "wrong", f"made at line {self.line_of(refused) + 1}; line {at + 1}, {self.lines[at]!r}: {got[at]!r}, and not {self.whole[at]!r}"
+            told = f"line {at + 1}, {self.lines[at]!r}: {got[at]!r}, and not {self.whole[at]!r}"
+            return "wrong", f"made at line {self.line_of(refused) + 1}; {told}"
         if not LACKING.fullmatch(got[at]):
             return "wrong", f"line {at + 1}, {self.lines[at]!r}: {got[at]!r}, and not {self.whole[at]!r}"
         if bytes(self.lines[at]).startswith(b"foreign") or b"|" in bytes(self.lines[at]):

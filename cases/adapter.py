@@ -1,5 +1,5 @@
 #!/usr/bin/env python3
-"""An adapter for `./iox --against`, by the plain model: as it is, or with the fault that its argument names.
+"""An adapter for `./iox --against`, by the Python model: as it is, or with the fault that its argument names.
 
 `cases/against.py` wants each fault found, and those without one (`none`, `last-first`, `tells-little`) to pass.
 """

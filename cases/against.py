@@ -7,7 +7,7 @@ from pathlib import Path
 
 from cases.kit import SCRIPT, TOP, Ran, case, case_of_program, expect, expect_in
 
-ADAPTER = f"{sys.executable} {TOP / 'cases' / 'adapter.py'}"
+ADAPTER = f"{sys.executable} -S {TOP / 'cases' / 'adapter.py'}"
 # Each planted fault, and the scripts within which it is found. Eight loans have to be lost before the sixth is seen.
 FAULTS = {it: "10" for it in ("newest-first", "holds-one-more", "drops-the-newest", "history-of-one-less", "numbers-received")}
 FAULTS["keeps-loans"] = "10,loans"

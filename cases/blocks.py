@@ -1,4 +1,4 @@
-"""The blocks of script lines of `crates/script_cases` beside the plain model: their replies are typed, and both follow the formats."""
+"""The blocks of script lines of `crates/script_cases` beside the Python model: their replies are typed, and both follow the formats."""
 import re
 import sys
 from unittest import mock

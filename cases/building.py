@@ -35,6 +35,7 @@ def wrong_arguments_end_before_a_build():
     with Copy() as copy:
         copy.run("--fast").expect_one_line(64, "--fast")
         copy.run("-n").expect_one_line(64, "-n")
+        copy.run("--json=x").expect_one_line(64, "argument --json: takes no such value: 'x'")
         copy.run(SCRIPT, "second").expect_one_line(64, "second")
         copy.run("--model", "--proved").expect_one_line(64, "--proved")
         copy.run("--svg").expect_one_line(64, "--svg")
@@ -217,7 +218,8 @@ def a_case_that_does_not_end_is_told_by_its_name_and_line_and_holds_nobody_up():
         shutil.copytree(TOP / "examples", copy.top / "examples", dirs_exist_ok=True)
         (copy.top / "cases" / "stuck.py").write_text(STUCK.format(folder=folder), encoding="utf-8")
         words = [sys.executable, copy.top / "check", "--without-proofs", "it_never_ends", "it_ends"]
-        how = {"stdout": subprocess.PIPE, "stderr": subprocess.STDOUT, "timeout": PATIENCE, "env": {**os.environ, "CHECK_LIMIT": "3", "CHECK_TIMES": ""}}
+        how = {"stdout": subprocess.PIPE, "stderr": subprocess.STDOUT, "timeout": PATIENCE}
+        how["env"] = {**os.environ, "CHECK_LIMIT": "3", "CHECK_TIMES": ""}
         ran = subprocess.run(words, **how)
         late = "FAILED it_never_ends: not ended after 0.1 minutes, it is at cases/stuck.py:11"
         # The process of the case is ended: as long as it lived, what was read here would have no end.

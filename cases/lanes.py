@@ -1,7 +1,8 @@
 """Schedules of lanes that are cut: one party has no further entry, the other one goes on, and what is read then is whole."""
 import re
 
-from cases.kit import answered, asks_what_others_build, case, expect
+from cases.kit import asks_what_others_build, case, expect
+from cases.programs import answered
 
 # Two schedules of one publisher and one subscriber, at whose connection one message may wait: each line with how many entries it has,
 # by the word steps of docs/FORMATS.md. Slot K is sent with message K + 1. In the first a receive overtakes the put of a send; in the
@@ -101,7 +102,7 @@ def differs(lines, behind, is_at_its_end, kept, told):
 def each_read_is_whole_where_a_schedule_of_lanes_is_cut():
     asked = [it for schedule in SCHEDULES.items() for it in blocks(*schedule)]
     given = "\n\n".join("\n".join(lines) for lines, *_ in asked)
-    told = [it.splitlines() for it in answered("script_cases", f"{given}\n".encode()).decode().strip("\n").split("\n\n")]
+    told = [it.splitlines() for it in answered(f"{given}\n".encode()).decode().strip("\n").split("\n\n")]
     expect(len(told), len(asked))
     wrong = ((block[0][0], differs(*block, lines)) for block, lines in zip(asked, told))
     expect(next((it for it in wrong if it[1] is not None), None), None)

@@ -1,5 +1,7 @@
 """The API pages: what docs/api.py writes, held against a plain count of the sources, and their links against their places; other pages."""
+import ast
 import atexit
+import errno
 import functools
 import html
 import json
@@ -12,7 +14,7 @@ import tempfile
 import threading
 from pathlib import Path
 
-from cases.kit import TOP, NotHere, case, expect, expect_in
+from cases.kit import KEPT, TOP, NotHere, case, expect, expect_in
 
 SCRIPT = TOP / "docs" / "api.py"
 LOCK = threading.Lock()
@@ -27,7 +29,12 @@ SAID = [
         "The hub has no nodes and no services, and has the id and the capacity for expired connections of its configuration.",
     ),
     ("iox_hub_base", "hub.Hub.foreign", "Foreign.ActsOn", "The actions are done on the table of the hub, and all else stays."),
-    ("iox_conversation", "conversation.serve", "Conversation.IsConversation", "The output answers each line of the input, from this state of the machine on."),
+    (
+        "iox_conversation",
+        "conversation.serve",
+        "Conversation.IsConversation",
+        "The output answers each line of the input, from this state of the machine on.",
+    ),
 ]
 
 
@@ -231,13 +238,40 @@ def each_path_that_a_page_runs_is_executable():
 def mypy_finds_nothing_wrong_in_what_is_annotated():
     if not shutil.which("mypy"):
         raise NotHere("no mypy: Debian's package has it")
-    # Each program is a module of its own; what they import is found below these folders.
+    # Each program is a module of its own; what they import is found below these folders. `docs/api.py` has the name of its folder.
     scripts = [it.relative_to(TOP).as_posix() for it in sorted((TOP / "docs").glob("*.py")) if it.name != "api.py"]
-    roots = (["tool", "cases", "model"], ["vendor"], ["check"], ["iox"], ["docs/api.py"], scripts)
-    for asked in roots:
-        words = ["mypy", "--cache-dir", os.devnull, *asked]
+    for asked in (["tool", "cases", "model", "vendor", "check", "iox"], ["docs/api.py"], scripts):
+        # What was read for one is kept for the next.
+        words = ["mypy", "--cache-dir", Path(KEPT.name) / "mypy", "--scripts-are-modules", *asked]
         ran = subprocess.run(words, cwd=TOP, env={**os.environ, "MYPYPATH": "model:docs"}, capture_output=True, text=True)
         expect((asked, ran.returncode, ran.stdout * (ran.returncode > 0)), (asked, 0, ""))
+
+
+# What the system says of files and addresses.
+REASONS = {os.strerror(it) for it in errno.errorcode}
+
+
+def endings(script):
+    """The texts of each call by which a part of the launcher, or `vendor`, ends with a message."""
+    for it in ast.walk(ast.parse(script.read_text(encoding="utf-8"))):
+        if isinstance(it, ast.Call) and ast.unparse(it.func) in ("stop", "made.error", "parser.error"):
+            texts = [part.value for part in ast.walk(it) if isinstance(part, ast.Constant) and isinstance(part.value, str)]
+            yield it.lineno, [text.replace("`", "") for text in texts if text.strip(" :") not in REASONS]
+
+
+@case
+def each_message_that_ends_the_launcher_or_vendor_is_on_the_page_of_errors():
+    """Some three words of it at least, one after the other; the page leaves out what a message is about, and its end."""
+    page = " ".join(re.sub(r"[`\\]", "", (TOP / "docs" / "ERRORS.md").read_text(encoding="utf-8")).split())
+    found = 0
+    for script in sorted((TOP / "tool").glob("*.py")):
+        for line, texts in endings(script):
+            words = [text.split() for text in texts]
+            runs = [" ".join(it[at : at + 3]) for it in words for at in range(len(it) - 2)]
+            told = [it for it in runs if "see ./" not in it]
+            expect((script.name, line, texts, not told or any(it in page for it in told)), (script.name, line, texts, True))
+            found += bool(told)
+    expect(found > 30, True)
 
 
 @case

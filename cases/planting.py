@@ -27,6 +27,15 @@ def each_planted_fault_fits_the_text_that_it_changes():
 
 
 @case
+def each_law_that_a_planted_fault_names_is_a_function_of_its_crate():
+    wrong = []
+    for it in every_edit():
+        text = "".join(file.read_text(encoding="utf-8") for file in (TOP / "crates" / it.crate / "src").rglob("*.rt")) if it.laws else ""
+        wrong += [f"{it.key}: {law}" for law in it.laws if not re.search(rf"\bfn {law}\b", text)]
+    expect(wrong, [])
+
+
+@case
 def each_body_of_the_gate_is_planted_and_its_row_names_what_refuses_it():
     rows, there = table.read(), {it.key for it in every_edit()}
     named = [key for keys in choosing.promised().values() for key in keys]

@@ -77,6 +77,15 @@ def the_page_has_reasons_and_what_was_missed():
     expect([row["missed"] for row in told["rows"] if row["missed"]], ["1 message of p1 is missing before this one"])
 
 
+@case
+def the_state_names_the_sample_of_each_subscriber_that_holds_a_message():
+    given = b"node\ncreate n1 ps A\nsubscriber f1\nsubscriber f1\npublisher f1\nput p1 7\nreceive s1\nreceive s2\n"
+    page = Ran("--model", "-q", "--html", "-", given=given).out.decode()
+    told = json.loads(re.search(r'<script id="told" type="application/json">(.*?)</script>', page, re.S)[1])
+    held = {it["name"]: [box["held"] for box in it["mailboxes"]] for it in told["states"][-1]["subscribers"]}
+    expect(held, {"s1": [["m1"]], "s2": [["m2"]]})
+
+
 # What a reader does, and what is to be seen then.
 READS = """(async () => {
   const seen = [location.hash], moment = () => new Promise(done => setTimeout(done, 50));

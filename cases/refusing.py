@@ -344,13 +344,14 @@ def want_of_room_for_a_service_is_told_before_any_step_of_its_line():
         library = refuser_in(folder)
         for pattern in (b" ev ", b" ps "):
             found = []
-            # Beside a factory there is room for another, among the counts and among the domains.
+            # Beside a factory there is room for another among the counts, among the domains, and among the older factories: a list of such
+            # small items begins with capacity for four. The ring of the newest factories asks for four places more in either case.
             for before in (b"", b"create n1 ev D\n"):
                 script = (b"node\n" * 3 + before + BESIDE).replace(b" ev ", pattern)
                 line = script.splitlines().index(COMING.replace(b" ev ", pattern))
                 found.append(Counter(what for at, _, what in outcomes(program, library, script) if at == line))
             first, second = found
-            expect((first["refused"] - second["refused"], first["refused late"] - second["refused late"]), (2, 0))
+            expect((first["refused"] - second["refused"], first["refused late"] - second["refused late"]), (3, 0))
             expect_in("refused late", second)
 
 

@@ -1,4 +1,4 @@
-"""What is said beside replies: where a line is faulty, why one is skipped; records, pictures, the prompt. By the plain model."""
+"""What is said beside replies: where a line is faulty, why one is skipped; records, pictures, the prompt. By the Python model."""
 import contextlib
 import json
 import re

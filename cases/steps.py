@@ -1,10 +1,11 @@
-"""Machines that go a step at a time: schedules as lines of `crates/script_cases`, beside the plain models of `model/step_machines.py`.
+"""Machines that go a step at a time: schedules as lines of `crates/script_cases`, beside the Python models of `model/step_machines.py`.
 
 What calls take is counted too: it doesn't grow with the capacity.
 """
 import sys
 
-from cases.kit import TOP, answered, asks_what_others_build, case, expect
+from cases.kit import TOP, asks_what_others_build, case, expect
+from cases.programs import answered
 
 sys.path.insert(0, str(TOP / "model"))
 from step_machines import KINDS, answers, schedules
@@ -34,6 +35,6 @@ def the_models_answer_the_stored_schedules_of_steps():
 def schedules_of_chance_are_answered_as_the_models_answer_them():
     blocks = schedules(SEED, LINES)
     given = "\n\n".join("\n".join(it.partition(" -> ")[0] for it in block) for block in blocks)
-    told = answered("script_cases", f"{given}\n".encode()).decode().strip("\n").split("\n\n")
+    told = answered(f"{given}\n".encode()).decode().strip("\n").split("\n\n")
     for block, lines in zip(blocks, told):
         expect(lines.split("\n"), block)

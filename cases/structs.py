@@ -73,7 +73,7 @@ use iox_hub::prelude::*;
 pub type Bus = Hub<u64, (), Nobody, Nobody>;
 
 EXAMPLES
-pub fn run_all(alloc: Global, hub: &mut Bus) -> Result<(usize, usize, u64, usize)> {
+pub fn run_all(alloc: Global, hub: &mut Bus) -> Result<(usize, usize, u64, usize, usize)> {
     let node = hub.new_node()?;
     let asked = hub.service_builder(&node, ServiceName::new(b"single values")?).publish_subscribe::<u64>();
     let service = asked.create_in(alloc, hub, Vec::new(alloc))?;
@@ -83,12 +83,15 @@ pub fn run_all(alloc: Global, hub: &mut Bus) -> Result<(usize, usize, u64, usize
     let subscriber = builder.set_handler(Nobody).create(alloc, hub)?;
     let asked = hub.service_builder(&node, ServiceName::new(b"slices")?).publish_subscribe::<Slice<u64>>();
     let service = asked.create_in(alloc, hub, Vec::new(alloc))?;
-    let builder = hub.publisher_builder(&service).context("no domain")?.initial_max_slice_len(2);
+    let builder = hub.slice_publisher_builder(&service).context("no domain")?.initial_max_slice_len(2);
     let of_slices = builder.set_handlers(Nobody).create_slice(alloc, hub)?;
+    let without = send_values(alloc, hub, of_slices, &[5, 6])?;
+    let builder = hub.slice_subscriber_builder(&service).context("no domain")?;
+    builder.set_handler(Nobody).create_slice(alloc, hub)?;
     let first = send_value(alloc, hub, publisher, 3)?;
     let second = send_in_place(alloc, hub, publisher, 4)?;
     let sum = receive_all(alloc, hub, subscriber)?;
-    Ok((first, second, sum, send_values(alloc, hub, of_slices, &[5, 6])?))
+    Ok((first, second, sum, without, send_copied(alloc, hub, of_slices, &[7, 8])?))
 }
 """
 STRUCTS = """\
@@ -121,7 +124,7 @@ pub struct Lamp {
 }
 """
 OUTPUT = (
-    "(1, 1, 7, 0)\nImu { a: 255, b: 65535, c: 2147483648, d: 18446744073709551615, e: -128, f: -2, g: -2147483648,"
+    "(1, 1, 7, 0, 1)\nImu { a: 255, b: 65535, c: 2147483648, d: 18446744073709551615, e: -128, f: -2, g: -2147483648,"
     " h: -9223372036854775808, i: 7, j: -7, k: 0.5, l: -2.25, m: 'ß', n: true, o: [1.5, -0.5, 0.0], p: [0, 255] }\n"
     "Lamp { is_on: false }\n88 8 88 3\n"
 )
@@ -150,6 +153,9 @@ def a_struct_that_is_not_supported_is_refused_with_its_line():
             ran, made = written(folder, text)
             expect((text, ran.returncode, ran.stdout, made), (text, 64, "", None))
             expect_in(f"own.rt: {why}", ran.stderr)
+        (Path(folder) / "latin.rt").write_bytes("// Größe\n".encode("latin-1"))
+        ran = vendor("--struct", f"{folder}/latin.rt")
+        expect((ran.returncode, ran.stdout, ran.stderr), (66, "", f"vendor: {folder}/latin.rt has bytes that aren't UTF-8\n"))
         misused = {64: (["--struct"], ["--struct", "x", "--list"]), 66: [["--struct", it] for it in (f"{folder}/missing.rt", folder, ".")]}
         for status, words in ((status, it) for status, calls in misused.items() for it in calls):
             refused = vendor(*words)
@@ -165,7 +171,7 @@ def a_file_that_was_written_otherwise_stays():
             ran, made = written(folder, fields)
             expect((ran.returncode, ran.stderr), (0, ""))
         first = made.partition("\n")[0]
-        # A file of the user's, also below such a first line, and what was written and then changed. Lines that are broken otherwise are none.
+        # A file of the user's, also below such a first line, and what was written and then changed. Other breaks of lines are no change.
         for mine in ("mine\n", f"{first}\n// mine\n", made.replace("_ => 0", "_ => 1"), made + "// mine\n"):
             own.write_text(mine, encoding="utf-8")
             ran, left = written(folder, text)

@@ -1,4 +1,4 @@
-"""What the launcher answers and says, on the program that is there and on the plain model."""
+"""What the launcher answers and says, on the program that is there and on the Python model."""
 import os
 import shutil
 import subprocess
@@ -14,7 +14,7 @@ from cases.kit import (
     TOP,
     NotHere,
     Ran,
-    answered,
+    asks_what_others_build,
     built,
     case,
     case_of_program,
@@ -24,6 +24,7 @@ from cases.kit import (
     takes_long,
     tries_unproved,
 )
+from cases.programs import answered
 
 STORED = TOP / "crates" / "iox"
 
@@ -153,7 +154,7 @@ def a_read_fault_ends_with_status_1():
 
 
 @case
-@takes_long
+@asks_what_others_build
 def each_read_or_write_of_an_example_that_fails_leaves_the_replies_before_it():
     told = []
     for script in sorted((TOP / "examples").rglob("*.iox")):
@@ -171,7 +172,7 @@ def each_read_or_write_of_an_example_that_fails_leaves_the_replies_before_it():
         answers = [f"{line} -> {reply}" for line, reply in zip(lines.splitlines(), replies)]
         given.append(f"{stem}\n{lines}faults")
         wanted.append("\n".join([stem, *answers, f"faults -> {len(answers) + 1} reads, {len(answers)} writes", "", ""]))
-    expect(answered("script_cases", "\n\n".join(given).encode()).decode(), "".join(wanted))
+    expect(answered("\n\n".join(given).encode()).decode(), "".join(wanted))
 
 
 @case

@@ -31,7 +31,7 @@ class Small:
         self.kept = tempfile.TemporaryDirectory(prefix="iox-check-")
         self.top, self.user = Path(self.kept.name) / "small", Path(self.kept.name) / "user"
         (self.top / "tool").mkdir(parents=True)
-        for it in ("vendor", "LICENSE", "NOTICE", "tool/__init__.py", "tool/vendor.py"):
+        for it in ("vendor", "LICENSE", "NOTICE", "tool/__init__.py", "tool/files.py", "tool/vendor.py"):
             shutil.copy2(TOP / it, self.top / it)
         self.write(self.top, {"crates.txt": LINES, "HANDLES": f"{HANDLES}\n"})
         for it in ("low", "high", "waiting"):
@@ -164,6 +164,8 @@ def vendor_refuses_what_stands_in_its_way():
         small.write(small.user, {"third_party": "a file\n"})
         small.expect_refused(66, [small.user, "low"], "third_party: not a directory")
         (small.user / "third_party").unlink()
+        (small.user / "crates.txt").write_bytes(b"mine: high  # Gr\xf6\xdfe\n")
+        small.expect_refused(66, [small.user, "low"], "crates.txt has bytes that aren't UTF-8")
         (small.user / "crates.txt").unlink()
         (small.user / "crates.txt").mkdir()
         small.expect_refused(66, [small.user, "low"], "crates.txt: Is a directory")

@@ -1,14 +1,15 @@
-"""The way of a line through the program: docs/WAY.md, held against the sources, and its overview in docs/ARCHITECTURE.md."""
+"""The ways of lines through the program: docs/WAY.md, held against the sources, and the overview of one in docs/ARCHITECTURE.md."""
 import functools
 import re
 
 from cases.kit import TOP, case, expect, expect_in
 
 CRATES = TOP / "crates"
-# What functions on the way call, too, where the line doesn't pass: to make the hub; at the end of the input, at a line that came in
+# What functions on a way call, too, where its line doesn't pass: to make the hub; at the end of the input, at a line that came in
 # pieces, of other commands; where a number is old, where another port was lent last, where slots came back or all are held, at a value that
 # is longer than the slots, where a send is refused, where values were written one by one, where the list changed, a history is kept, or a
-# mailbox takes nothing.
+# mailbox takes nothing; where nothing waits, where connections expired or ended, where a slot is held twice or not in its own cell, and
+# where a port is closed.
 NOT_PASSED = {
     "main": "reached Input::new Output::new status",
     "script::serve": "runs_answer NumberedHub::new Scratch::new",
@@ -16,14 +17,18 @@ NOT_PASSED = {
     "converse": ".finish",
     "Session::take_bytes": "self.hear",
     "Session::end_line": "self.hear",
-    "Script::answer_line": "self.answer_any",
+    "Script::answer_line": "self.answer_other print_fault",
+    "of_words": "service_verb other_line",
+    "of_verb": "other_line",
+    "leading_number": "alone",
     "first_verb": "seldom_verb",
     "of_port_verb": "only with_number with_two port",
     "NumberedHub::carry_out_port": "lending::loan lending::loan_uninit receiving::receive following::update following::leave following::has"
     " messages::set messages::fill messages::drop_loan messages::send messages::retry messages::give_up messages::read messages::sequence"
     " messages::release",
     "Numbered::get": "value_of",
-    "place_of": "search_of",
+    "entry_of": "search_of",
+    "near": "search_of",
     "note_lent": "share_in",
     "PublisherPort::lend": "self.lend_longer",
     "Link::take_back": "self.take_one_back",
@@ -35,10 +40,27 @@ NOT_PASSED = {
     "PublisherPort::step": ".pass self.info .decide self.decide",
     "PublisherPort::put": ".asked_at",
     "UniqueIndexSet::settle": "self.borrowed_indices",
-    "append_reply": "append_sample append_read append_refusal",
+    "print_reply": "append_made append_sample append_read append_refusal",
+    "subscribers::note_lent": "share_in",
+    "SubscriberPort::update_each": "self.follow_list",
+    "SubscriberPort::receive_now": "nothing_taken",
+    "SubscriberPort::receive_from": "nothing_taken self.first_data",
+    "SubscriberPort::meet": "first_of",
+    "SubscriberPort::look_through": "first_of self.unmet_behind",
+    "SubscriberPort::seen": "nothing_seen",
+    "seen_at": "nothing_seen",
+    "Keys::has": "is_in",
+    "SubscriberPort::sweep": "self.sweep_at",
+    "oldest": ".oldest_of",
+    "Links::give_back": "self.let_go self.settle",
+    "step_at": "steps_behind",
+    "Publishers::settle": ".note remove_port",
+    "Subscribers::settle": ".note",
+    "is_over": ".loans has_connections",
+    "Numbered::remove": "take_of",
 }
-# Each call on the way that looks a thing up by its number, id or place: the number of the publisher, the domain, who decides for the port,
-# the port, and by their places the others that it is tied to and the connection.
+# Each call on a way that looks a thing up by its number, id or place: the number of the port or sample, the domain, who decides for the
+# port, the port, the publisher of a message, and by their places the others that a port is tied to and the connection.
 LOOK_UPS = {
     "Made::lender": ["self.publishers.get"],
     "domain_mut": ["home.place"],
@@ -47,13 +69,38 @@ LOOK_UPS = {
     "Presences::place": ["self.entries.place"],
     "DomainState::put": ["self.publisher_handlers.get"],
     "Kept::get": ["self.values.get"],
+    "ByNumber::get": ["self.place"],
     "ServicePorts::put": ["self.publishers.get_mut"],
     "Publishers::get_mut": ["self.ports.get_mut"],
+    "ByNumber::get_mut": ["self.place"],
     "PublisherPort::meet": ["self.ties.get"],
     "SlotUses::link": ["self.links.get"],
+    "Made::subscriber": ["self.subscribers.get"],
+    "receive_at": ["home.place"],
+    "DomainState::receive": ["self.subscriber_handlers.get"],
+    "ServicePorts::receive": ["self.subscribers.get_mut"],
+    "Subscribers::get_mut": ["self.ports.get_mut"],
+    "Keys::at": ["self.items.get"],
+    "SubscriberPort::attached": ["self.connections.get"],
+    "SlotMap::get": ["self.values.get"],
+    "Places::get": ["self.cells.get"],
+    "seen_at": ["publishers.get"],
+    "Publishers::get": ["self.ports.get"],
+    "Publishers::take": ["self.get_mut"],
+    "ServicePorts::payload": ["self.publishers.get"],
+    "Made::read": ["self.samples.get"],
+    "home::domain": ["home.place"],
+    "Made::release": ["self.samples.get"],
+    "ServicePorts::release": ["self.subscribers.get"],
+    "Subscribers::get": ["self.ports.get"],
+    "Publishers::give_back_there": ["self.get_mut"],
+    "Publishers::is_over": ["self.get"],
+    "ServicePorts::let_go": ["self.subscribers.get_mut"],
+    "Subscribers::is_over": ["self.get"],
 }
-# Calls of these names on the way are the standard library's, though a function of ours has the name, too.
-OF_OTHERS = ".as_bytes .as_ref .first .is_empty .is_some .kind .push_reserved .reserve .truncate".split()
+# Calls of these names on a way are the standard library's, though a function of ours has the name, too.
+OF_OTHERS = ".as_bytes .as_mut .as_ref .first .is_empty .is_none .is_some .kind .push_reserved .reserve .truncate".split()
+OF_OTHERS += ".unwrap .unwrap_or".split()
 
 
 @functools.cache
@@ -131,42 +178,53 @@ def page():
 
 
 @functools.cache
-def rows():
-    """The rows of the page: function, who calls it first, file, what it does."""
-    return re.findall(r"(?m)^\| `([\w:]+)` \| `?([\w:]*)`? ?\| `(\w+/src/[\w/]+\.rt)` \| (.*?) ?\|$", page())
+def ways():
+    """The ways of the page, each as its text and its rows: function, who calls it first, file, what it does."""
+    rows = r"(?m)^\| `([\w:]+)` \| `?([\w:]*)`? ?\| `(\w+/src/[\w/]+\.rt)` \| (.*?) ?\|$"
+    return [(text, re.findall(rows, text)) for text in re.split(r"(?m)^(?=## )", page())]
 
 
 @case
 def each_function_on_the_way_of_a_line_is_called_by_the_one_beside_it():
-    expect((len(rows()), rows()[0][1]), (page().count("\n| `"), ""))
-    files, above, places = {name: file for name, _, file, _ in rows()}, [], {}
-    expect(len(files), len(rows()))
-    for name, caller, file, _ in rows():
-        expect((name, bool(body_of(name, file))), (name, True))
-        # Row by row the way goes down into a function, or back to one that isn't at its end.
-        expect_in(caller, [*above, ""])
-        above = [*above[: above.index(caller) + 1], name] if caller else [name]
-        if caller:
-            made = [at for at, it in enumerate(calls(body_of(caller, files[caller]))) if may_call(caller, it, name, file)]
-            place = next((it for it in made if it >= places.get(caller, 0)), None)
-            expect((caller, name, place is None), (caller, name, False))
-            places[caller] = place
+    expect(sum(len(rows) for _, rows in ways()), page().count("\n| `"))
+    # The first way begins with `main`, and the others where that one carries the command out.
+    expect([rows[0][1] for _, rows in ways()], ["", *["NumberedHub::carry_out_port"] * (len(ways()) - 1)])
+    files = dict[str, str]()
+    for _, rows in ways():
+        above, places = [rows[0][1]], dict[str, int]()
+        for name, caller, file, _ in rows:
+            expect((name, bool(body_of(name, file))), (name, True))
+            # Row by row the way goes down into a function, or back to one that isn't at its end.
+            expect_in(caller, above)
+            above = [*above[: above.index(caller) + 1], name]
+            if caller:
+                made = [at for at, it in enumerate(calls(body_of(caller, files[caller]))) if may_call(caller, it, name, file)]
+                place = next((it for it in made if it >= places.get(caller, 0)), None)
+                expect((caller, name, place is None), (caller, name, False))
+                places[caller] = place
+            files[name] = file
+        expect(len({(name, file) for name, _, file, _ in rows}), len(rows))
 
 
 @case
 def no_function_of_ours_is_left_out_of_the_way_of_a_line():
-    files = {name: file for name, _, file, _ in rows()}
-    for name, file in files.items():
-        made = [it for it in calls(body_of(name, file)) if not any(may_call(name, it, *other) for other in files.items())]
-        left = {as_written(it) for it in made if any(may_call(name, it, *other) for other in of_ours().items())}
-        expect((name, sorted(left - {*OF_OTHERS})), (name, sorted(NOT_PASSED.get(name, "").split())))
-    expect(sorted({*NOT_PASSED} - {*files}), [])
+    known = list[tuple[str, str]]()
+    for _, rows in ways():
+        # A way leaves out what one before it has.
+        own = [(name, file) for name, _, file, _ in rows]
+        expect([it for it in own if it in known], [])
+        known += own
+        for name, file in own:
+            made = [it for it in calls(body_of(name, file)) if not any(may_call(name, it, *other) for other in known)]
+            left = {as_written(it) for it in made if any(may_call(name, it, *other) for other in of_ours().items())}
+            expect((name, sorted(left - {*OF_OTHERS})), (name, sorted(NOT_PASSED.get(name, "").split())))
+    expect(sorted({*NOT_PASSED} - {name for name, _ in known}), [])
 
 
 @case
 def a_line_looks_its_number_its_domain_and_its_port_up_once():
     made = {}
-    for name, _, file, _ in rows():
+    for name, _, file, _ in [it for _, rows in ways() for it in rows]:
         body = re.sub(r"\s*\n\s*", "", body_of(name, file))
         made[name] = [it[1] for it in re.finditer(r"([\w.:?]+\.(?:domain|get|get_mut|place))\((?!\))", body)]
     expect({name: looked for name, looked in made.items() if looked}, LOOK_UPS)
@@ -174,17 +232,17 @@ def a_line_looks_its_number_its_domain_and_its_port_up_once():
 
 @case
 def the_counts_of_the_way_of_a_line_are_those_of_its_rows():
-    crates = list(dict.fromkeys(file.partition("/")[0] for _, _, file, _ in rows()))
-    counts = (len(rows()), len(crates), sum(what.startswith("looks ") for *_, what in rows()))
     overview = (TOP / "docs" / "ARCHITECTURE.md").read_text(encoding="utf-8").partition("\n## The way of `put p1 3`\n")[2]
     overview = overview.partition("\n## ")[0]
-    said = "These are {} functions in {} crates, with {} look-ups."
-    for text in (page(), overview):
-        expect_in(said.format(*counts), text)
+    first = ways()[0][1]
+    for text, rows in [*ways(), (overview, first)]:
+        crates = {file.partition("/")[0] for _, _, file, _ in rows}
+        looks = sum(what.startswith("looks ") for *_, what in rows)
+        expect_in(f"These are {len(rows)} functions in {len(crates)} crates, with {looks} look-ups.", text)
     # The overview has the way's functions in their order, and each of its crates.
     shown = re.findall(r"(?m)^\| (`.*?) \| `(\w+)` \| ", overview)
     shown = [(it, crate) for names, crate in shown for it in re.findall(r"`([\w:]+)`", names)]
-    of_way = [(name, file.partition("/")[0]) for name, _, file, _ in rows()]
+    of_way = [(name, file.partition("/")[0]) for name, _, file, _ in first]
     expect([it for it in shown if it not in of_way], [])
     expect([of_way.index(it) for it in shown], sorted(of_way.index(it) for it in shown))
-    expect({crate for _, crate in shown}, {*crates})
+    expect({crate for _, crate in shown}, {crate for _, crate in of_way})

@@ -80,11 +80,22 @@ OUTCOMES = [
     ("--it framed own.iox", 64, "framed exists, and ./iox didn't write it: --force replaces it", ""),
     ("--it quoting own.iox", 64, "quoting exists, and ./iox didn't write it: --force replaces it", ""),
     ("--it template own.iox", 64, "template exists, and ./iox didn't write it: --force replaces it", ""),
-    ("--it empty own.iox", 0, "iox: wrote empty", "empty"),
+    ("--it empty own.iox", 64, "empty exists, and ./iox didn't write it: --force replaces it", ""),
+    ("--it empty --force own.iox", 0, "iox: wrote empty", "empty"),
     ("--it new own.iox", 0, "iox: wrote new", "new"),
     # The name of FILE is the default, where it has one.
     ("own.iox --it", 0, "iox: wrote own.end", "own.end"),
-    ("--it= own.iox", 0, "iox: wrote own.end", "own.end"),
+    # An empty name, as of a variable that isn't set, is none.
+    ("--it= own.iox", 64, "iox: --it got an empty name for OUT: see ./iox --help", ""),
+    ("--it  own.iox", 64, "iox: --it got an empty name for OUT: see ./iox --help", ""),
+    ("--it  --force own.iox", 64, "iox: --it got an empty name for OUT", ""),
+    ("--it own.end --it= own.iox", 64, "iox: --it got an empty name for OUT", ""),
+    # Without an OUT there is nothing to replace.
+    ("--force own.iox", 64, "iox: --force replaces an OUT, so it needs --svg or --html: see ./iox --help", ""),
+    ("--json --force own.iox", 64, "iox: --force replaces an OUT, so it needs --svg or --html", ""),
+    ("--force --expect own.replies own.iox", 64, "iox: --force replaces an OUT, so it needs", ""),
+    ("--force --listen 0", 64, "iox: --force replaces an OUT, so it needs", ""),
+    ("--force --path", 64, "iox: --force replaces an OUT, so it needs", ""),
     ("--it <-", 64, "--it needs OUT, since the script isn't read from a file with a name", ""),
     ("- --it <own.iox", 64, "--it needs OUT", ""),
     ("/dev/stdin --it <-", 64, "--it needs OUT", ""),
@@ -306,7 +317,7 @@ import os, sys
 from pathlib import Path
 from unittest import mock
 sys.path.insert(0, sys.argv[1])
-from tool.outputs import put
+from tool.files import put
 for call in ("os.replace", "os.chmod", "os.umask", "builtins.open"):
     for stopped in (KeyboardInterrupt, SystemExit, OSError(28, "No space left on device")):
         for name in ("ours.svg", "new"):
@@ -368,6 +379,14 @@ def replies_are_compared_with_those_that_are_expected():
                 one = ran("--expect", "own.replies", *quiet, given=given, cwd=script.parent)
                 expect((one.status, one.out.count(b"\n"), one.err.count(b"iox: ")), (5, given.count(b"\n"), 1))
                 expect_in(f"iox: {told}", one.err.decode())
+        # Of a reply that is expected nothing is said, unless that is asked for.
+        wanted.write_bytes(b"skip\nok n1\n")
+        told = b"line 1, skip: p1 doesn't exist\n"
+        for words, said in (([], b""), (["--numbers"], b"line 1: put p1 1\n" + told)):
+            ran("--expect", "own.replies", *words, given=b"put p1 1\nnode\n", cwd=script.parent).expect(0, b"skip\nok n1\n", said)
+        wanted.write_bytes(b"skip\nok n2\n")
+        one = ran("--expect", "own.replies", given=b"put p1 1\nput p1 1\n", cwd=script.parent)
+        expect((one.status, one.err.count(b"line 1"), one.err.count(b"line 2, skip: p1 doesn't exist\n")), (5, 0, 1))
         wanted.write_bytes(b"ok f1\n")
         one = ran("--expect", "own.replies", given=b"open n1 ps A\n", cwd=script.parent)
         expect_in("n1 doesn't exist", one.err.decode())
@@ -405,6 +424,56 @@ def no_file_is_taken_for_a_stream_that_is_closed():
         asked = ["sh", "-c", f'exec "$0" "$1" --model {words}', sys.executable, TOP / "iox"]
         closed = subprocess.run(asked, input=b"nod\n", capture_output=True)
         expect((words, closed.returncode, closed.stdout, closed.stderr), (words, *wanted))
+
+
+# Where replies or messages would go into a file that is read, and what is said then; nothing, where it would go there, too.
+INTO_WHAT_IS_READ = {
+    "own.iox >>own.iox": "iox: own.iox is the script, and the replies go there too, so nothing is run\n",
+    "<own.iox >>own.iox": "iox: standard input is the script, and the replies go there too, so nothing is run\n",
+    "-q link >>other.txt": "iox: link is the script, and the replies go there too, so nothing is run\n",
+    "own.iox 2>>own.iox": "iox: own.iox is the script, and messages go there too, so nothing is run\n",
+    "own.iox >>own.iox 2>&1": "",
+    "--expect own.replies own.iox >>own.replies": "iox: own.replies is what is expected, and the replies go there too, so nothing is run\n",
+}
+
+
+@case
+def no_reply_and_no_message_goes_into_a_file_that_is_read():
+    for words, told in INTO_WHAT_IS_READ.items():
+        with own_folder(".svg") as folder:
+            before = contents(folder)
+            asked = ["sh", "-c", f'exec "$0" "$1" --model {words}', sys.executable, TOP / "iox"]
+            one = subprocess.run(asked, cwd=folder, capture_output=True, text=True, timeout=PATIENCE)
+            expect((words, one.returncode, one.stdout + one.stderr), (words, 64, told))
+            expect((words, contents(folder)), (words, before))
+
+
+@contextmanager
+def nobody_reads():
+    """The end of a pipe that nobody reads."""
+    reads, nobody = os.pipe()
+    os.close(reads)
+    with open(nobody, "wb") as end:
+        yield end
+
+
+@case_of_program
+def a_message_that_cannot_be_written_holds_no_reply_up():
+    replies = b"ok n1\nskip\nerr faulty line\n"
+    for words in ([], ["--model"], ["--model", "--time"], ["--model", "--svg", "drawn.svg"]):
+        for stream in (nobody_reads, lambda: open(os.devnull, "rb")):
+            with own_script() as script, stream() as messages:
+                one = Ran(*words, given=b"node\nput p9 1\nnod\n", stderr=messages, cwd=script.parent)
+                expect((words, one.status, one.out), (words, 0, replies))
+                expect((words, script.with_name("drawn.svg").exists()), (words, "--svg" in words))
+
+
+@case
+def nothing_is_drawn_where_nobody_reads_the_replies_and_that_is_told():
+    with own_script() as script, nobody_reads() as nobody:
+        one = ran(script, "--svg", stdout=nobody)
+        expect((one.status, one.err), (1, b"iox: nothing is drawn, since nobody reads the replies any more\n"))
+        expect([it.name for it in script.parent.iterdir()], [script.name])
 
 
 @case_of_program

@@ -112,7 +112,8 @@ def row(ring, y, number="", access="", party=""):
 def picture():
     ring = Ring()
     ends = {"P": push(ring, "b"), "S": pop(ring)}
-    titles = {"publisher": "a publisher sends b", "subscriber": "a subscriber receives", "ring": "the ring", "mailbox": "mailbox", "order": "what comes into the order"}
+    titles = {"publisher": "a publisher sends b", "subscriber": "a subscriber receives", "ring": "the ring", "mailbox": "mailbox"}
+    titles |= {"order": "what comes into the order"}
     body = [text(COLUMNS[at], 26, title, "title") for at, title in titles.items()]
     body += row(ring, TOP - ROW + 2)
     for at, party in enumerate(SCHEDULE):

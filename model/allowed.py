@@ -1,4 +1,4 @@
-"""The plain model led by another program's replies: whether it allows them, over all states that it may be in.
+"""The Python model led by another program's replies: whether it allows them, over all states that it may be in.
 
 docs/FORMATS.md says which connection gives at a receive. Another program may choose otherwise. So any connection with a waiting message
 may give here, if fewer than `borrowed` of its samples are held. A word `_` of a reply isn't told, and fits any word.
@@ -60,7 +60,7 @@ class FreeSubscriber(Subscriber):
 
 
 class FreeMachine(Machine):
-    """The plain model in which any connection may give."""
+    """The Python model in which any connection may give."""
 
     def __init__(self):
         super().__init__()

@@ -173,7 +173,8 @@ class Scenes:
         name = self.dice.of(NAMES + [f"E{self.dice.below(9)}"])
         option = "nodes=16777216"
         if pattern == "ps":
-            option = self.dice.of([option, "buffer=4294967296", "publishers=16777216", "overflow=0 buffer=1 history=2", "overflow=0 buffer=2 history=3"])
+            too_much = ["buffer=4294967296", "publishers=16777216", "overflow=0 buffer=1 history=2", "overflow=0 buffer=2 history=3"]
+            option = self.dice.of([option, *too_much])
         yield f"{verb} {self.node()} {pattern} {name} {option}"
 
     def foreign(self):
@@ -209,7 +210,8 @@ class Scenes:
             last = 4 + self.dice.below(2)
             yield f"{verb} {node} {pattern} {name} " + " ".join(f"|{2 * i} {AGAIN}" for i in range(1, last + 1))
         elif phase is None:
-            lists = self.dice.of(["|2 lock:x1", "|1 lock:x1", "|2 lock:x1 publish:x1", "|2 lock:x1 |3 giveup:x1", "|1 lock:x1 publish:x1 |2 leave:x1"])
+            longer = ["|2 lock:x1 publish:x1", "|2 lock:x1 |3 giveup:x1", "|1 lock:x1 publish:x1 |2 leave:x1"]
+            lists = self.dice.of(["|2 lock:x1", "|1 lock:x1", *longer])
             yield f"{self.dice.of(['create', 'open_or_create'])} {node} {pattern} {name} {lists}"
         elif not isinstance(phase, Life):
             yield f"{self.dice.of(['create', 'open', 'open_or_create'])} {node} {pattern} {name}"
@@ -253,7 +255,8 @@ class Scenes:
 
     def publisher(self):
         values = {"loans": [0, 1, 2, 3], "strategy": ["retry", "discard"], "slots": [0, 1, 2, 3, 4, 9], "slice": [0, 1, 2, 3, 4]}
-        values |= {"alloc": ["static", "best", "power"], "handler": ["follow", "retry", "discard", "fail"], "degrade": ["ignore", "warn", "fail"]}
+        values |= {"alloc": ["static", "best", "power"], "handler": ["follow", "retry", "discard", "fail"]}
+        values |= {"degrade": ["ignore", "warn", "fail"]}
         options = [f"{key}={self.dice.of(values[key])}" for key in values if self.dice.chance(30)]
         if self.dice.chance(3):
             options = [self.dice.of(["slice=4294967296", "loans=4294967295"])]
@@ -418,7 +421,9 @@ class Scenes:
 
     def faulty(self):
         """A line that is nearly one, or far too long."""
-        line = self.dice.of(["node", "create n1 ps A buffer=2 @a=1 |1 lock:x1", "open n1 ev A maxid=3", "publisher f1 loans=2", "put p1 1 2", "set l1 0 1", "foreign rr A lock:x1", "receive s1", "loan p1 1", "sequence m1", "foreign ps A publish1:x1:sequence=0"])
+        lines = ["node", "create n1 ps A buffer=2 @a=1 |1 lock:x1", "open n1 ev A maxid=3", "publisher f1 loans=2", "put p1 1 2"]
+        lines += ["set l1 0 1", "foreign rr A lock:x1", "receive s1", "loan p1 1", "sequence m1", "foreign ps A publish1:x1:sequence=0"]
+        line = self.dice.of(lines)
         at = self.dice.below(len(line) + 1)
         kind = self.dice.below(7)
         if kind == 0:
@@ -439,9 +444,10 @@ class Scenes:
 
     def any(self):
         scene = self.dice.weighted([
-            (1, self.nodes), (7, self.agree), (6, self.ask_too_much), (2, self.crowd), (3, self.past_limits), (3, self.foreign), (1, self.unblock_name),
-            (9, self.rounds), (6, self.wind_up), (1, self.close), (6, self.publisher), (6, self.subscriber), (20, self.put), (3, self.fill_up), (3, self.narrow), (3, self.numbered), (10, self.lend),
-            (3, self.end_loan), (3, self.with_loan), (1, self.last_of_a_publisher), (4, self.retry), (16, self.receive), (6, self.old_sample),
+            (1, self.nodes), (7, self.agree), (6, self.ask_too_much), (2, self.crowd), (3, self.past_limits), (3, self.foreign),
+            (1, self.unblock_name), (9, self.rounds), (6, self.wind_up), (1, self.close), (6, self.publisher), (6, self.subscriber),
+            (20, self.put), (3, self.fill_up), (3, self.narrow), (3, self.numbered), (10, self.lend), (3, self.end_loan),
+            (3, self.with_loan), (1, self.last_of_a_publisher), (4, self.retry), (16, self.receive), (6, self.old_sample),
             (6, self.look_in), (2, self.leave), (2, self.faulty),
         ])
         return scene()
@@ -463,7 +469,8 @@ def reachable():
     texts += [f"err LoanError::{it}" for it in loans] + [f"err SendError::LoanError({it})" for it in loans]
     texts += ["err SendError::ConnectionBrokenSinceSenderNoLongerExists", "err SendError::UnableToDeliver", "err CloseError::StillInUse"]
     texts += ["err PublisherCreateError::UnableToCreateDataSegment", "err PublisherCreateError::ExceedsMaxSupportedPublishers"]
-    texts += ["err SubscriberCreateError::BufferSizeExceedsMaxSupportedBufferSizeOfService", "err SubscriberCreateError::ExceedsMaxSupportedSubscribers"]
+    texts += ["err SubscriberCreateError::BufferSizeExceedsMaxSupportedBufferSizeOfService"]
+    texts += ["err SubscriberCreateError::ExceedsMaxSupportedSubscribers"]
     texts += ["err ReceiveError::ExceedsMaxBorrows", f"err ReceiveError::ConnectionFailure({FULL})", f"err ConnectionFailure::{FULL}"]
     return texts
 
@@ -473,8 +480,10 @@ def kind_of(line, reply):
     if reply.startswith("err"):
         return reply
     words = reply.split(" ")
-    rest = ["" if len(words) == 1 else " " + (words[1] if words[1] in ("true", "false", "none") else words[1][:1] + "K" if words[1][:1].isalpha() else "N")]
-    return f"{line.split(' ')[0]}: {words[0]}{rest[0]}"
+    told = "".join(words[1:2])
+    if told not in ("", "true", "false", "none"):
+        told = told[:1] + "K" if told[:1].isalpha() else "N"
+    return f"{line.split(' ')[0]}: {' '.join(filter(None, (words[0], told)))}"
 
 
 def random_script(seed, length, scenes_of=Scenes):

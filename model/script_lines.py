@@ -1,4 +1,4 @@
-"""The lines of a script: what each spells, as a plain model reads them. It follows docs/FORMATS.md and nothing else of this repository."""
+"""The lines of a script: what each spells, as the Python model reads them. It follows docs/FORMATS.md and nothing else here."""
 import re
 
 LARGEST = 2**64 - 1

@@ -1,5 +1,5 @@
 #!/usr/bin/env python3
-"""A plain model of the machine that a script drives: a script on standard input, one reply a line on standard output.
+"""A Python model of the machine that a script drives: a script on standard input, one reply a line on standard output.
 
 It follows docs/FORMATS.md and nothing else of this repository, keeps lists and searches them, and lacks memory only where it is told to.
 What the program answers to a script with memory to spare is what this answers.

@@ -4,5 +4,5 @@ from pathlib import Path
 
 VERSION = "0.1.0"
 TOP = Path(__file__).resolve().parent.parent
-# The plain model and the spelling of lines are imported from there.
+# The Python model and the spelling of lines are imported from there.
 sys.path.insert(0, str(TOP / "model"))

@@ -1,4 +1,4 @@
-"""Another program held against the plain model: it answers each line first, and the model says whether it may answer so.
+"""Another program held against the Python model: it answers each line first, and the model says whether it may answer so.
 
 The program reads a line and writes its reply, and begins anew at `:reset`. A reply `unsupported ..` takes the line back; `_` is a word
 that isn't told. Of the first reply that isn't allowed the shortest script is looked for, run three times and drawn.
@@ -25,7 +25,7 @@ from script_model import lines_of
 
 from tool.converse import Line
 from tool.draw import svg
-from tool.outputs import put
+from tool.files import put
 from tool.progress import DIFFERS, MISUSED, NO_INPUT, Progress, say, stop
 from tool.trace import Trace
 

@@ -31,7 +31,9 @@ def version() -> str:
 
 # The options in the order of the help: names, help, and how argparse reads them. Those of an inner list exclude each other.
 FLAG: dict = {"action": "store_true"}
-OUT: dict = {"metavar": "OUT", "nargs": "?", "const": ""}
+# (No argument can have this character, so an empty OUT is told from none.)
+NO_NAME = "\0"
+OUT: dict = {"metavar": "OUT", "nargs": "?", "const": NO_NAME}
 PRINT: dict = {"action": "store_const", "dest": "prints"}
 OPTIONS: list = [
     [
@@ -72,7 +74,7 @@ APART = {
 
 class Parser(argparse.ArgumentParser):
     def error(self, message):
-        stop(MISUSED, f"{message}: see ./iox --help")
+        stop(MISUSED, f"{message.replace('ignored explicit argument', 'takes no such value:')}: see ./iox --help")
 
 
 def parser() -> Parser:
@@ -104,6 +106,13 @@ def read_arguments() -> argparse.Namespace:
     options.file = None if options.file == "-" else options.file
     if options.expect == "":
         made.error("--expect needs the name of a file")
+    for name in ("svg", "html"):
+        if getattr(options, name) == "":
+            made.error(f"--{name} got an empty name for OUT")
+        if getattr(options, name) == NO_NAME:
+            setattr(options, name, "")
+    if options.force and options.svg is None and options.html is None:
+        made.error("--force replaces an OUT, so it needs --svg or --html")
     for name, others in APART.items():
         found = [it for it in others if getattr(options, it) not in (None, False)]
         if getattr(options, name) not in (None, False) and found:

@@ -1,4 +1,4 @@
-"""A conversation: lines come in, each gets one reply, by a built program or by the plain model, and both go on together."""
+"""A conversation: lines come in, each gets one reply, by a built program or by the Python model, and both go on together."""
 from __future__ import annotations
 
 import contextlib

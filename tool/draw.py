@@ -9,13 +9,18 @@ import re
 from collections import namedtuple
 from collections.abc import Iterator
 from dataclasses import asdict
+from html import escape as escape_with_quotes
 from itertools import product
 from pathlib import Path
-from xml.sax.saxutils import escape
 
 from tool import outputs
 from tool.state import KINDS, message_shown
 from tool.trace import Conversation, Delivery, Lifeline
+
+
+def escape(text: str) -> str:
+    return escape_with_quotes(text, quote=False)
+
 
 # In pixels: a row, a lifeline, a letter of the font, the margin, and what is above the first row.
 ROW, COLUMN, LETTER, MARGIN, TOP = 24, 64, 7.9, 16, 64

@@ -1,9 +1,12 @@
 """The launcher: finds who answers, hands the script over, and says what is to be said beside the replies."""
 from __future__ import annotations
 
+import contextlib
 import errno
+import io
 import os
 import signal
+import stat
 import sys
 import time
 from argparse import Namespace
@@ -13,7 +16,7 @@ from typing import Any
 
 from tool.arguments import read_arguments
 from tool.converse import Fault
-from tool.progress import NO_INPUT, NOT_BUILT, UNPROVED, say, stop
+from tool.progress import MISUSED, NO_INPUT, NOT_BUILT, UNPROVED, Messages, say, stop
 from tool.stops import STOPS
 
 # The options that have a way of their own to run: the module with its `run(options)`, which returns the status.
@@ -26,6 +29,20 @@ def open_file(file: str):
     if os.path.isdir(file):
         raise IsADirectoryError(errno.EISDIR, os.strerror(errno.EISDIR), file)
     os.dup2(given, 0)
+
+
+def refuse_own_words(options: Namespace):
+    """Ends if replies or messages go into the script, which then has no end, or into the expected replies."""
+    read = [(options.file or "standard input", "the script", os.fstat(0))]
+    with contextlib.suppress(OSError):
+        read += [(options.expect, "what is expected", os.stat(options.expect))] if options.expect else []
+    for name, what, found in read:
+        goes = [stat.S_ISREG(found.st_mode) and os.path.samestat(found, os.fstat(it)) for it in (1, 2)]
+        if any(goes):
+            if goes[1]:
+                # (No message goes into this file.)
+                os.dup2(os.open(os.devnull, os.O_WRONLY) if goes[0] else 1, 2)
+            stop(MISUSED, f"{name} is {what}, and {'the replies' if goes[0] else 'messages'} go there too, so nothing is run")
 
 
 def find_program(options: Namespace) -> Path | None:
@@ -87,7 +104,8 @@ def serve(options: Namespace, begun: float) -> int:
     if options.expect or options.strict:
         from tool.verdicts import Expect, Strict
 
-        held = ([Expect(options.expect, follower)] if options.expect else []) + [Strict()] * options.strict
+        notes.expected = Expect(options.expect, follower) if options.expect else None
+        held = [it for it in (notes.expected, Strict() if options.strict else None) if it]
     if options.svg or options.html:
         from tool.trace import Trace
 
@@ -100,8 +118,13 @@ def serve(options: Namespace, begun: float) -> int:
         from tool.prompt import Prompt
 
         pieces = Prompt(follower, notes).lines()
-    takes = [follower.take, *written, notes.take, clock.take, *(it.take for it in held)]
-    status = converse(answers, lines_of(pieces, options.comments), takes, out)
+    takes = [follower.take, *written, *(it.take for it in held), notes.take, clock.take]
+    try:
+        status = converse(answers, lines_of(pieces, options.comments), takes, out)
+    except BrokenPipeError:
+        if options.svg or options.html:
+            say("nothing is drawn, since nobody reads the replies any more")
+        raise
     if options.time:
         clock.tell()
     for it in held:
@@ -117,6 +140,7 @@ def main() -> int:
             return import_module(module).run(options)
     if options.file is not None:
         open_file(options.file)
+    refuse_own_words(options)
     if options.svg is not None or options.html is not None:
         from tool.outputs import choose_outputs
 
@@ -135,7 +159,8 @@ def run() -> int:
     for number, how in enumerate((os.O_WRONLY, os.O_RDONLY, os.O_WRONLY)):
         if not os.path.exists(f"/dev/fd/{number}"):
             os.open(os.devnull, how)
-    sys.stderr = sys.stderr or open(os.devnull, "w")
+    stream, encoding = io.BufferedWriter(Messages(2, "w", closefd=False)), sys.stderr.encoding if sys.stderr else "utf-8"
+    sys.stderr = io.TextIOWrapper(stream, encoding, "backslashreplace", line_buffering=True)
     STOPS.begin()
     try:
         return main()

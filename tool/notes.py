@@ -6,6 +6,7 @@ import sys
 from argparse import Namespace
 from collections import namedtuple
 from functools import cache
+from typing import Any
 
 from tool import TOP
 from tool.converse import Line, Output
@@ -142,6 +143,8 @@ class Notes:
         self.shows_lines = options.numbers or options.verbose
         self.is_silent = options.quiet and not self.shows_lines
         self.prompts, self.is_asked = prompts, prompts or not self.is_silent
+        # What the replies are held against, if they are: of a reply that is expected nothing is said.
+        self.expected: Any = None
         # What was said last, for who asks again, and hints that are given once.
         self.last, self.hints = "", set[str]()
 
@@ -154,7 +157,7 @@ class Notes:
         return text
 
     def take(self, line: Line, reply: bytes):
-        if not self.is_asked:
+        if not self.is_asked or (self.expected and self.expected.is_met and not self.shows_lines):
             return
         told, at = about(line, reply, self.follower), f"{self.who}line {line.number}"
         shown = [f"{at}{it.where}: {self.without_known_hint(it.text)}" for it in told]

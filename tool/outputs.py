@@ -6,11 +6,11 @@ import hashlib
 import os
 import re
 import stat
-import tempfile
 from argparse import Namespace
 from pathlib import Path
 
 from tool.converse import Output
+from tool.files import put
 from tool.progress import MISUSED, NO_INPUT, say, stop
 
 # The options that write a file, with the suffix of its name if none is given, the line that marks such a file, and what it is.
@@ -72,8 +72,8 @@ def with_sum(text: bytes, script: str) -> bytes:
 
 
 def why_not_ours(path: str, found: os.stat_result, script: str) -> str | None:
-    """Why something is lost with this file, unless it is empty, no file on a disk, or what was written here of the same script."""
-    if not stat.S_ISREG(found.st_mode) or not found.st_size:
+    """Why something is lost with this file, unless it is no file on a disk, or what was written here of the same script."""
+    if not stat.S_ISREG(found.st_mode):
         return None
     text = b""
     with contextlib.suppress(PermissionError), open(path, "rb") as file:
@@ -157,28 +157,6 @@ def choose_outputs(options: Namespace):
         if place in chosen:
             stop(MISUSED, f"{chosen[place]} and --{name} can't both be written to {shown}")
         chosen[place] = f"--{name}"
-
-
-def put(target: Path, text: bytes, out: str = ""):
-    """Writes a new file beside the target, and gives it the target's name. A failure names it, or OUT."""
-    fresh = None
-    try:
-        if target.exists() and not target.is_file():
-            target.write_bytes(text)
-            return
-        number, fresh = tempfile.mkstemp(prefix=".iox-", dir=target.parent)
-        with open(number, "wb") as file:
-            file.write(text)
-        mask = os.umask(0)
-        os.umask(mask)
-        os.chmod(fresh, stat.S_IMODE(target.stat().st_mode) if target.exists() else 0o666 & ~mask)
-        os.replace(fresh, target)
-        fresh = None
-    except OSError as error:
-        raise OSError(error.errno, error.strerror, out or str(target)) from None
-    finally:
-        if fresh:
-            os.unlink(fresh)
 
 
 def write_output(name: str, text: str, options: Namespace):

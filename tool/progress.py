@@ -1,6 +1,8 @@
 """What the launcher says on standard error, beside replies: its own lines, and how far a build is."""
 from __future__ import annotations
 
+import contextlib
+import io
 import sys
 import time
 from typing import NoReturn
@@ -8,7 +10,16 @@ from typing import NoReturn
 # The statuses of the launcher; those of the program are 0, 1 and 2.
 NOT_BUILT, NOT_STRICT, DIFFERS, MISUSED, NO_INPUT = 3, 4, 5, 64, 66
 # What is said if the program was built without its proofs.
-UNPROVED = "unproved: the program that answers was built without its proofs (`./iox --proved` proves it first)"
+UNPROVED = "unproved: the program that answers was built without its proofs (`./iox --proved` proves it first, in an hour or more)"
+
+
+class Messages(io.FileIO):
+    """Standard error: what can't be written there is dropped, and the replies go on."""
+
+    def write(self, text) -> int:
+        with contextlib.suppress(OSError):
+            super().write(text)
+        return len(text)
 
 
 def say(text: str):

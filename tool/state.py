@@ -81,7 +81,7 @@ def publisher(watched: Watched, name: str, it) -> dict:
 
 def mailboxes(watched: Watched, subscriber) -> list[dict]:
     """What waits for a subscriber, and what it holds, by the publisher that it is of."""
-    held = {id(it.message): name for name, it in watched.living("m")}
+    held = {(id(it.connection), id(it.message)): name for name, it in watched.living("m")}
     known = [it for it in subscriber.domain.connections if it.subscriber is subscriber]
     known += [it for it in subscriber.keys.values() if all(it is not other for other in known)]
     return [
@@ -89,7 +89,7 @@ def mailboxes(watched: Watched, subscriber) -> list[dict]:
             "publisher": watched.name(it.publisher),
             "left": it.publisher.has_left,
             "waiting": [list(message.values) for message in it.waiting],
-            "held": [held.get(id(message), "m?") for message in it.borrowed],
+            "held": [held.get((id(it), id(message)), "m?") for message in it.borrowed],
         }
         for it in known
     ]

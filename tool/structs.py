@@ -9,7 +9,7 @@ import re
 from dataclasses import dataclass
 from pathlib import Path
 
-from tool.outputs import put
+from tool.files import put
 
 # The first line of each file that this writes. Its sum is of the words below it, so that no file is written over that was changed since.
 HEAD = "//! Written by `vendor --struct` from the fields in `{}.rt`, sum {}: write it again when they change.\n"
@@ -18,7 +18,8 @@ PRELUDE = "Rattle.std.specs.Prelude"
 HUB = "Rattle.iox_hub.specs"
 # Where a name of a clause is imported from, in the order of the lines.
 IMPORTS = {
-    PRELUDE: "◌≡◌ ◌∷◌ [] ◌<◌ ◌^◌ ◌==◌ ℕ List length All Bool true false codes slice_index T to_bits from_bits FitsSigned refl",
+    PRELUDE: "◌≡◌ ◌∷◌ [] ◌<◌ ◌^◌ ◌==◌ ℕ List length All Bool true false"
+    " codes slice_index T to_bits from_bits FitsSigned refl",
     "Rattle.std.proofs.Common": "arith rules ap ◌∙◌ sym",
     "Rattle.std.proofs.lemmas.List": "drop_more drop_all",
     "Rattle.std.specs.Float": "binary32 binary64",
@@ -341,11 +342,11 @@ def is_ours(text: str) -> bool:
     return head is not None and head[2] == sum_of(text[head.end() :])
 
 
-def write_for(source: Path) -> Path:
-    """Writes what the structs of a file need into a file beside it, and returns that file."""
-    text = written(source.stem, read_structs(source.read_text(encoding="utf-8")))
+def write_for(source: Path, text: str) -> Path:
+    """Writes what the structs of a file with this text need into a file beside it, and returns that file."""
+    blocks = written(source.stem, read_structs(text))
     made = source.with_name(f"{source.stem}_words.rt")
     if made.exists() and not is_ours(made.read_text(encoding="utf-8", errors="replace")):
         raise NotTaken(f"{made} exists, and `vendor --struct` didn't write it, or it was changed since: move it away")
-    put(made, text.encode())
+    put(made, blocks.encode())
     return made

@@ -49,7 +49,6 @@ class Delivery:
     received: int | None = None
     released: int | None = None
     lost: int | None = None
-    sample: str = ""
     # Its number, where messages have any, and how many messages are missing between it and the one that was received before it.
     sequence: int | None = None
     missing: int = 0
@@ -137,7 +136,6 @@ class Trace:
         is_sent = reply.startswith(("ok", "blocked", "err SendError::UnableToDeliver"))
         if line.startswith(("put ", "send ")) and is_sent:
             self.note_origin(row, line)
-        samples = {id(it.message): name for name, it in self.watched.living("m")}
         now = self.connections()
         for key, link in now.items():
             self.links.setdefault(key, (link, {}))
@@ -148,7 +146,7 @@ class Trace:
                 there[each] = self.delivery(link, waiting[each], row)
             for each, it in list(there.items()):
                 is_new = it.received is None and each in held
-                self.follow(it, each in waiting, each in held, samples.get(each, ""), row)
+                self.follow(it, each in waiting, each in held, row)
                 if is_new and it.sequence is not None:
                     it.missing = it.sequence - self.last_received.get(key, it.sequence - 1) - 1
                     self.last_received[key] = it.sequence
@@ -164,9 +162,9 @@ class Trace:
         self.told.deliveries.append(Delivery(list(message.values), origin, *ends, row, sequence=message.sequence))
         return self.told.deliveries[-1]
 
-    def follow(self, it: Delivery, is_waiting: bool, is_held: bool, sample: str, row: int):
+    def follow(self, it: Delivery, is_waiting: bool, is_held: bool, row: int):
         if it.received is None and is_held:
-            it.received, it.sample = row, sample
+            it.received = row
         elif it.received is not None and not is_held:
             it.released = row
         elif it.received is None and not is_waiting:

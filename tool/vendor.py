@@ -19,6 +19,7 @@ from pathlib import Path
 from typing import NoReturn
 
 from tool import TOP, VERSION
+from tool.files import put
 
 MISUSED, NO_FOLDER = 64, 66
 # No part of a library: what rt makes, and the planted faults.
@@ -50,9 +51,16 @@ def stop(status: int, why: str) -> NoReturn:
     sys.exit(status)
 
 
+def text_of(file: Path) -> str:
+    try:
+        return file.read_text(encoding="utf-8")
+    except UnicodeError:
+        stop(NO_FOLDER, f"{file} has bytes that aren't UTF-8")
+
+
 def lines_of(file: Path) -> dict[str, str]:
     """Returns the line of each crate that a crates.txt names, as the file has it."""
-    lines = file.read_text(encoding="utf-8").splitlines() if file.exists() else []
+    lines = text_of(file).splitlines() if file.exists() else []
     named = [(re.match(r"\s*([\w/-]+)", it), it) for it in lines]
     return {name[1]: it for name, it in named if name}
 
@@ -209,17 +217,6 @@ def refuse_files_in_the_way(folder: Path) -> None:
             stop(NO_FOLDER, f"{it}: not a directory")
 
 
-def write_whole(file: Path, text: str) -> None:
-    """Writes a file beside the old one first, so that a full disk leaves that as it was."""
-    file = file.resolve()
-    beside = file.with_name(f".vendor-{file.name}")
-    try:
-        beside.write_text(text, encoding="utf-8")
-        beside.replace(file)
-    finally:
-        beside.unlink(missing_ok=True)
-
-
 def write_files(to: Path, files: dict[str, bytes]) -> None:
     """Writes files into a folder, all of them beside it first. A new folder gets its name when it is whole."""
     to.parent.mkdir(parents=True, exist_ok=True)
@@ -271,18 +268,18 @@ def put_line(listed: Path, step: Step) -> str:
     ours, there = step.ours.line, step.there.line
     if ours is None or words_of(there) == words_of(ours):
         return ""
-    lines = listed.read_text(encoding="utf-8").splitlines() if listed.exists() else []
+    lines = text_of(listed).splitlines() if listed.exists() else []
     if there is None:
         lines.append(ours)
     else:
         said = there.partition("#")[0].rstrip()
         lines = [ours + there[len(said) :] if it == there else it for it in lines]
-    write_whole(listed, "".join(f"{it}\n" for it in lines))
+    put(listed.resolve(), "".join(f"{it}\n" for it in lines).encode())
     return f", its line {'added to' if there is None else 'changed in'} crates.txt"
 
 
 def words_of_handles(file: Path) -> set[str]:
-    text = file.read_text(encoding="utf-8") if file.exists() else ""
+    text = file.read_text(encoding="utf-8", errors="replace") if file.exists() else ""
     return set(re.findall(r"\w+", text.partition(":")[2]))
 
 
@@ -310,7 +307,7 @@ def names_to_update(folder: Path, record: Record | None, ours: Repository) -> li
 
 def write_record(folder: Path, before: Record | None, copied: dict[str, str]) -> str:
     record = Record("Kohepuri", VERSION, *source(), copied)
-    write_whole(folder / RECORD, json.dumps(asdict(record), indent=2) + "\n")
+    put((folder / RECORD).resolve(), (json.dumps(asdict(record), indent=2) + "\n").encode())
     was = f"; before: {before.of_commit()}" if before and before.of_commit() != record.of_commit() else ""
     return f"{RECORD}: {record.of_commit()}{was}"
 
@@ -381,11 +378,11 @@ def write_structs(source: Path) -> None:
     from tool import structs
 
     try:
-        made = structs.write_for(source)
+        made = structs.write_for(source, text_of(source))
     except structs.NotTaken as why:
         stop(MISUSED, f"{source}: {why}")
-    except (OSError, UnicodeError) as error:
-        stop(NO_FOLDER, f"{getattr(error, 'filename', None) or source}: {getattr(error, 'strerror', None) or error}")
+    except OSError as error:
+        stop(NO_FOLDER, f"{error.filename or source}: {error.strerror}")
     print(f"wrote {made}: name it beside `mod {source.stem};` by `mod {made.stem};`")
 
 
@@ -401,8 +398,8 @@ def run(given: argparse.Namespace) -> None:
         vendor(folder, given.names, given.update, given.force)
     except BrokenPipeError:
         raise
-    except (OSError, UnicodeError) as error:
-        stop(NO_FOLDER, f"{getattr(error, 'filename', None) or folder}: {getattr(error, 'strerror', None) or error}")
+    except OSError as error:
+        stop(NO_FOLDER, f"{error.filename or folder}: {error.strerror}")
 
 
 def main() -> int:

@@ -17,13 +17,14 @@ class Expect:
     status = DIFFERS
 
     def __init__(self, file: str, follower: Follower):
-        self.file, self.follower, self.count, self.failed = file, follower, 0, False
+        self.file, self.follower, self.count, self.failed, self.is_met = file, follower, 0, False, False
         with open(file, "rb") as it:
             self.wanted = it.read().splitlines()
 
     def take(self, line: Line, reply: bytes):
         self.count += 1
-        if not self.failed and self.wanted[self.count - 1 : self.count] != [reply.rstrip(b"\n")]:
+        self.is_met = self.wanted[self.count - 1 : self.count] == [reply.rstrip(b"\n")]
+        if not self.failed and not self.is_met:
             self.failed = True
             why = "; ".join(known(line, reply, self.follower)[2])
             say(f"line {line.number}: {self.difference(reply.rstrip())}{f': {why}' * bool(why)}")

@@ -1,16 +1,18 @@
 """Ceilings of cost: what lines take of the program once much has been, in instructions and in memory, held against tables.
 
-`rows.txt` has what a line may take once much has been, `verbs.txt` what a line of each verb takes, `memory.txt` what asks for no memory and
-what keeps none. It is the proved program that is counted, as `rt ci` built it, or the one that COSTS_OF names in the environment.
-`machines.txt` has what a call of a set, a ring or a container takes whatever its capacity is: there it is crates/script_cases that is counted.
+`rows.txt` has what a line may take once much has been, `much.txt` what it may take after a million times, and how much memory is resident
+then. `verbs.txt` has what a line of each verb takes, `memory.txt` what asks for no memory and what keeps none. It is the proved program
+that is counted, as `rt ci` built it, or the one that COSTS_OF names in the environment. `machines.txt` has what a call of a set, a ring or
+a container takes whatever its capacity is: there crates/script_cases is counted.
 With CHECK_TIMES=1 each figure is printed.
 """
 import os
+import re
 from concurrent.futures import ThreadPoolExecutor
 
 from cases.costs import counting
 from cases.costs.table import HERE, Line, Script, at, read
-from cases.kit import COMMANDS, Differs, case, case_of_program, expect
+from cases.kit import COMMANDS, Differs, case, case_of_program, expect, takes_long
 
 # Lines that take more instructions are counted only after the least number of times and the most.
 FEW = 20_000
@@ -21,6 +23,12 @@ GROWTH, MARGIN = 1.15, 1.15
 GONE = 1.05
 # In bytes, how much more may be in use after 10,000 times than after 10.
 KEPT = 16_384
+# In kilobytes, how much more may be resident after a million times than after a thousand.
+RESIDENT = 64
+# So many instructions may a line take more for each digit that its numbers have more.
+DIGIT = 30
+# How a call is answered that isn't made, or finds nothing.
+UNDONE = "-> (unknown|none|false|err|skip)"
 # How many places a set, a ring or a container has.
 CAPACITIES = (10, 10_000)
 # A domain that is taken out of its hub and put back after so many messages, of which some wait and one is held.
@@ -113,6 +121,42 @@ def a_line_takes_no_more_once_much_has_been():
     judged(read("rows.txt"), judge_one)
 
 
+# ---- after a million times
+
+
+def judge_much(name, lines, resident):
+    """What is wrong after the most times: of each line with its figures, and of the kilobytes that were resident by the times."""
+    wrong = []
+    for line, found in lines:
+        least, most = found[min(found)], found[max(found)]
+        digits = len(at(line.text, 0, max(found))) - len(at(line.text, 0, min(found)))
+        if most > GONE * least + DIGIT * digits:
+            wrong.append(f"{name}: `{line.text}` takes {least:,} after {min(found):,} times, and {most:,} after {max(found):,}")
+    least, most = resident[min(resident)], resident[max(resident)]
+    if most > least + RESIDENT:
+        wrong.append(f"{name}: {least:,} kB are resident after {min(resident):,} times, and {most:,} after {max(resident):,}")
+    return wrong
+
+
+@takes_long
+@case_of_program
+def a_line_takes_no_more_and_no_more_is_resident_after_a_million_times():
+    of, wrong = counting.program(), []
+    for script in read("much.txt"):
+        lines, resident = [(it, {}) for it in script.counted()], {}
+        for times in script.times:
+            given = script_of(script, times)
+            for (_, found), steps in zip(lines, counting.instructions(of, given), strict=True):
+                found[times] = steps
+            resident[times] = counting.resident(of, [it.removeprefix(counting.COUNT) for it in given])
+        for line, found in lines:
+            note(f"{script.name}: {line.text}: {', '.join(f'{it:,}' for it in found.values())}")
+        note(f"{script.name}: {', '.join(f'{it:,}' for it in resident.values())} kB resident")
+        wrong += judge_much(script.name, lines, resident)
+    if wrong:
+        raise Differs("; ".join(wrong))
+
+
 # ---- instructions of one line
 
 
@@ -194,10 +238,11 @@ def measured(what, given):
 
 
 def judge_capacity(at_few, at_many):
-    """Which calls take more at the larger capacity."""
+    """Which calls take more at the larger capacity, or aren't made."""
     wrong = []
-    for (line, few), (_, many) in zip(at_few, at_many, strict=True):
+    for (line, few), (other, many) in zip(at_few, at_many, strict=True):
         note(f"{line}: {few.steps:,} at few places, {many.steps:,} at many")
+        wrong += [f"`{it}`" for it in (line, other) if re.search(UNDONE, it)]
         if many.steps > GROWTH * few.steps:
             wrong.append(f"`{line}` takes {few.steps:,} at few places, and {many.steps:,} at many")
     return wrong
@@ -206,7 +251,7 @@ def judge_capacity(at_few, at_many):
 @case
 def a_call_takes_no_more_at_a_larger_capacity():
     text = "".join(it for it in (HERE / "machines.txt").read_text(encoding="ascii").splitlines(True) if not it.startswith("#")).strip()
-    few, many = (measured("steps", text.replace("{n}", str(times))) for times in CAPACITIES)
+    few, many = (measured("steps", at(text, times, times)) for times in CAPACITIES)
     wrong = judge_capacity(few, many)
     if wrong or not few:
         raise Differs("; ".join(wrong) or "no line is measured")
@@ -264,6 +309,18 @@ def a_line_that_grows_and_a_known_one_that_does_not_are_told():
 
 
 @case
+def a_line_that_grows_or_memory_that_stays_resident_after_a_million_times_is_told():
+    line, few = Line("put p1 3", True), {1_000: 500}
+    expect_told(judge_much("visits", [(line, {1_000: 1_000, 1_000_000: 1_050})], few | {1_000_000: 500 + RESIDENT}))
+    digits = Line("release m{N}", True)
+    expect_told(judge_much("visits", [(digits, {1_000: 1_000, 1_000_000: 1_050 + 3 * DIGIT})], few | {1_000_000: 500}))
+    more = [(line, {1_000: 1_000, 1_000_000: 1_051})]
+    expect_told(judge_much("visits", more, few | {1_000_000: 500}), "takes 1,000 after 1,000 times, and 1,051 after 1,000,000")
+    kept = few | {1_000_000: 501 + RESIDENT}
+    expect_told(judge_much("visits", [], kept), "500 kB are resident after 1,000 times, and 565 after 1,000,000")
+
+
+@case
 def memory_that_is_asked_for_or_kept_is_told():
     at = lambda requests, in_use: counting.Counted(0, requests, in_use, in_use)
     none, often = {10: (at(5, 9), at(5, 9)), 10_000: (at(7, 9), at(7, 9))}, {10: (at(5, 9), at(5, 9)), 10_000: (at(7, 9), at(8, 9))}
@@ -285,3 +342,5 @@ def a_call_that_takes_more_at_a_larger_capacity_is_told():
     at = lambda steps: [("measure 0 set 5 -> true", counting.Counted(steps, 0, 0, 0))]
     expect_told(judge_capacity(at(1_000), at(1_149)))
     expect_told(judge_capacity(at(1_000), at(1_151)), "`measure 0 set 5 -> true` takes 1,000 at few places, and 1,151 at many")
+    undone = [("measure s0 receive -> none", counting.Counted(1_000, 0, 0, 0))]
+    expect_told(judge_capacity(undone, undone), "`measure s0 receive -> none`")

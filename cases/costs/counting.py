@@ -107,3 +107,25 @@ def memory(of, lines):
     if found and not found[-1].requests:
         raise NotHere("this program asks something else than the C library for memory")
     return found
+
+
+def resident(of, lines):
+    """How many kilobytes of a program's own memory are resident once all these lines are answered."""
+    lines = [*WARM, *lines]
+    with subprocess.Popen([of], stdin=subprocess.PIPE, stdout=subprocess.PIPE) as ran:
+
+        def give():
+            ran.stdin.write("\n".join([*lines, ""]).encode())
+            ran.stdin.flush()
+
+        given = threading.Thread(target=give)
+        given.start()
+        left = len(lines)
+        while left and (read := ran.stdout.read1()):
+            left -= read.count(b"\n")
+        given.join()
+        status = Path(f"/proc/{ran.pid}/status").read_text()
+        ran.stdin.close()
+    if left or ran.returncode:
+        raise Differs(f"{left} lines have no reply, and the status is {ran.returncode}")
+    return int(re.search(r"^RssAnon:\s*(\d+)", status, re.M)[1])

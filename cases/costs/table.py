@@ -49,6 +49,8 @@ class Script:
 
 def at(text, number, times):
     """A line as it is at a time."""
+    if "{" not in text:
+        return text
     return NUMBER.sub(lambda it: str((number if it[1] == "n" else times) + int(it[2] or 0)), text)
 
 

@@ -1,9 +1,9 @@
 """Examples of the public functions of ports, builders and hubs: which function has none, and which example calls what isn't there.
 
 An example is code in the function's own comment, in a block or behind `Example: `, or in a `//!` of its crate. The functions of modules
-of laws do nothing, and need none. An example in a function's own comment calls that function, with as many arguments as it has, each lent or
-handed on as it is taken; `?` stands only behind what may fail. Of all other calls in examples some public function must have the name and
-the number of arguments.
+of laws do nothing, and need none. An example in a function's own comment calls that function, with as many arguments as it has, each lent
+or handed on as it is taken; `?` stands only behind what may fail. Of all other calls in examples some public function must have the name
+and the number of arguments.
 """
 
 import re

@@ -240,7 +240,7 @@ class CratePage:
             href = place.href if place else f"{found.crate}.html" if found and not isinstance(found, tuple) else None
             shown = f"<code>{escape('::'.join(path))}{f' as {name}' if name != path[-1] else ''}</code>"
             rows.append(f"<li>{anchor(href, shown) if href else shown}</li>")
-        title = f"<code>{escape(module.name)}</code> hands on"
+        title = f"<code>{escape(module.name)}</code> re-exports"
         return f'<p class="from">{title}</p><ul class="names">{"".join(rows)}</ul>' if rows else ""
 
     def module(self, module):

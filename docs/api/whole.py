@@ -1,4 +1,4 @@
-"""Whole functions that the API pages show at calls whose short examples can't stand alone: docs/api/whole.md has them, `check` runs them."""
+"""Whole functions that the API pages show at calls whose short examples can't stand alone: docs/api/whole.md has them; a case runs them."""
 
 import re
 from pathlib import Path

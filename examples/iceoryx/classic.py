@@ -1,5 +1,5 @@
 #!/usr/bin/env python3
-"""What iceoryx 2.0.3 does with a script: the plain model, with four rules changed.
+"""What iceoryx 2.0.3 does with a script: the Python model, with four rules changed.
 
 1. A subscriber has one queue for all publishers.
 2. Ports are connected as soon as they are there, and the history is handed over then.

@@ -1,5 +1,5 @@
 #!/usr/bin/env python3
-"""Draws the scripts of `scripts/`, NAME.svg: what iceoryx2 does by the plain model, and what iceoryx 2.0.3 replies where that is another.
+"""Draws the scripts of `scripts/`, NAME.svg: what iceoryx2 does by the Python model, and what iceoryx 2.0.3 replies where that is another.
 
 `examples/iceoryx/draw.py` writes the pictures; `--check` only compares them.
 """

@@ -65,14 +65,20 @@ fn subscribes<'a>(
     notes: &'a Cell<u64>,
     port: u64,
 ) {
-    let subscribers = subscriber_builder(domain, 4, 3).set_handler(notes_about(notes, 2, port));
+    let Some(subscribers) = subscriber_builder(domain, 4, 3) else {
+        return;
+    };
+    let subscribers = subscribers.set_handler(notes_about(notes, 2, port));
     must_be_there(rt, subscribers.holds(domain));
     let _ = subscribers.create(alloc, domain);
 }
 
 // The publisher is created as port 2, where port 1 is a subscriber.
 fn publishes<'a>(rt: &impl Abort, alloc: Global, domain: &mut Noted<'a>, notes: &'a Cell<u64>) {
-    let publishers = publisher_builder(domain, 4, 3).set_handlers(notes_about(notes, 2, 1));
+    let Some(publishers) = publisher_builder(domain, 4, 3) else {
+        return;
+    };
+    let publishers = publishers.set_handlers(notes_about(notes, 2, 1));
     must_be_there(rt, publishers.holds(domain));
     let _ = publishers.create(alloc, domain);
 }

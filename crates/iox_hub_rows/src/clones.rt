@@ -1,7 +1,9 @@
 //! What ports report about themselves whose builders were cloned, and what they do at a full mailbox.
 use crate::ports::{must_be_free, must_be_there, sent_to};
 use iox_delivery::{Publisher, Subscriber, UpdateConnections};
-use iox_delivery_factories::{publisher_builder, subscriber_builder};
+use iox_delivery_factories::{
+    publisher_builder, slice_publisher_builder, slice_subscriber_builder, subscriber_builder,
+};
 use iox_describe_base::{AttributeSpecifier, Header, MessageTypeDetails, ServiceName, TypeVariant};
 use iox_describe_settings::publish_subscribe::StaticConfig;
 use iox_describe_settings::{Description, Settings};
@@ -110,10 +112,10 @@ fn are_numbered<T: Copy, U: Copy>(
 
 // What ports of single values report whose builders were cloned; and whether a send of them skips a full mailbox.
 fn values(rt: &impl Abort, alloc: Global, domain: &mut Asking) -> Option<bool> {
-    let publishers = publisher_builder(domain, 4, 3)
+    let publishers = publisher_builder(domain, 4, 3)?
         .backpressure_strategy(TOLD.0)
         .partial_clone();
-    let subscribers = subscriber_builder(domain, 4, 3)
+    let subscribers = subscriber_builder(domain, 4, 3)?
         .buffer_size(TOLD.1)
         .partial_clone();
     must_be_there(rt, subscribers.holds(domain));
@@ -130,11 +132,11 @@ fn values(rt: &impl Abort, alloc: Global, domain: &mut Asking) -> Option<bool> {
 
 // The same of slices, but for what is sent.
 fn slices(rt: &impl Abort, alloc: Global, domain: &mut Asking) -> Option<Told> {
-    let publishers = publisher_builder(domain, 4, 3)
+    let publishers = slice_publisher_builder(domain, 4, 3)?
         .backpressure_strategy(TOLD.0)
         .initial_max_slice_len(TOLD.2)
         .partial_clone();
-    let subscribers = subscriber_builder(domain, 4, 3)
+    let subscribers = slice_subscriber_builder(domain, 4, 3)?
         .buffer_size(TOLD.1)
         .partial_clone();
     must_be_there(rt, subscribers.holds(domain));
@@ -148,16 +150,17 @@ fn slices(rt: &impl Abort, alloc: Global, domain: &mut Asking) -> Option<Told> {
     ))
 }
 
-// Whether both are so in this domain.
-fn are_told(rt: &impl Abort, alloc: Global, domain: &mut Asking) -> bool {
-    values(rt, alloc, domain) == Some(true) && slices(rt, alloc, domain) == Some(TOLD)
+// Whether both are so, each in a domain of its kind.
+fn are_told(rt: &impl Abort, alloc: Global) -> Option<bool> {
+    let mut of_values = made(alloc, TypeVariant::FixedSize)?;
+    let mut of_slices = made(alloc, TypeVariant::Dynamic)?;
+    let values = values(rt, alloc, &mut of_values)?;
+    let slices = slices(rt, alloc, &mut of_slices)?;
+    Some(values && slices == TOLD)
 }
 
 #[test]
 fn ports_tell_what_their_copied_builders_were_told(rt: HostRuntime) {
-    let told = match made(rt.alloc(), TypeVariant::FixedSize) {
-        Some(mut domain) => are_told(&rt, rt.alloc(), &mut domain),
-        None => false,
-    };
-    assert!(rt; told);
+    let told = are_told(&rt, rt.alloc());
+    assert!(rt; told == Some(true));
 }

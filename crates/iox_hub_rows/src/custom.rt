@@ -2,9 +2,8 @@
 use crate::ports::{is_given_up, meet, must_be_free, must_be_there, sent_to, taken};
 use iox_delivery::Sent;
 use iox_delivery::slices::{Publisher, SampleMutUninit, Subscriber};
-use iox_delivery_factories::{
-    PortFactoryPublisher, PortFactorySubscriber, publisher_builder, subscriber_builder,
-};
+use iox_delivery_factories::slices::{PortFactoryPublisher, PortFactorySubscriber};
+use iox_delivery_factories::{slice_publisher_builder, slice_subscriber_builder};
 use iox_describe_base::{
     AttributeSpecifier, Header, MessageTypeDetails, ServiceName, TypeDetail, TypeVariant,
     ZeroCopySend,
@@ -78,12 +77,13 @@ enum Call {
 }
 
 // What makes a publisher with one loan.
-fn publishers(domain: &Elements, case: &Case) -> PortFactoryPublisher<Byte, Any, Nobody> {
-    publisher_builder(domain, 4, 3)
+fn publishers(domain: &Elements, case: &Case) -> Option<PortFactoryPublisher<Byte, Any, Nobody>> {
+    let builder = slice_publisher_builder(domain, 4, 3)?
         .max_loaned_samples(1)
         .allocation_strategy(case.allocation)
         .initial_max_slice_len(case.first)
-        .set_handlers(Nobody)
+        .set_handlers(Nobody);
+    Some(builder)
 }
 
 // How many values were loaned. They are dropped again.
@@ -174,14 +174,18 @@ fn goes<U: Copy, H: Home<Byte, U>>(
     must_be_free(rt, publisher.holds(home), publisher.is_blocked(home));
     match *call {
         Call::Lends(len, bytes) => {
+            must_be_there(rt, publisher.may_have(len));
             values_of(publisher.loan_custom_payload(alloc, home, len), home) == bytes
         }
         Call::Room(bytes) => room(home, publisher) == Some(bytes),
-        Call::Sends(len, bytes) => match publisher.loan_custom_payload(alloc, home, len) {
-            Ok(loan) => sends(rt, alloc, home, loan, SEVEN_BYTE) == Ok(1)
-                && receives(rt, alloc, home, subscriber, len, bytes),
-            Err(_) => false,
-        },
+        Call::Sends(len, bytes) => {
+            must_be_there(rt, publisher.may_have(len));
+            match publisher.loan_custom_payload(alloc, home, len) {
+                Ok(loan) => sends(rt, alloc, home, loan, SEVEN_BYTE) == Ok(1)
+                    && receives(rt, alloc, home, subscriber, len, bytes),
+                Err(_) => false,
+            }
+        }
         Call::SendsNothing(waits) => {
             let sent = publisher.send_slice(alloc, home, &[]);
             is_sent(rt, sent, home, publisher, waits)
@@ -217,9 +221,16 @@ fn converse<
 
 // How many calls of a case go as stated with new ports of a domain.
 fn goes_in(rt: &impl Abort, alloc: Global, domain: &mut Elements, case: &Case) -> usize {
-    let publishers = publishers(domain, case);
-    let subscribers = subscriber_builder(domain, 4, 3).set_handler(Nobody);
-    converse(rt, alloc, domain, publishers, subscribers, case.calls)
+    match (
+        publishers(domain, case),
+        slice_subscriber_builder(domain, 4, 3),
+    ) {
+        (Some(publishers), Some(subscribers)) => {
+            let subscribers = subscribers.set_handler(Nobody);
+            converse(rt, alloc, domain, publishers, subscribers, case.calls)
+        }
+        _ => 0,
+    }
 }
 
 // How many calls go as stated in a new domain.

@@ -5,7 +5,8 @@ use crate::ports::{is_given_up, must_be_free, must_be_there};
 use crate::values::kept_once;
 use iox_delivery::slices::Publisher;
 use iox_delivery_factories::{
-    PortFactoryPublisher, PortFactorySubscriber, publisher_builder, subscriber_builder,
+    PortFactoryPublisher, PortFactorySubscriber, publisher_builder, slice_publisher_builder,
+    slice_subscriber_builder, slices, subscriber_builder,
 };
 use iox_describe_base::{
     AttributeSpecifier, Header, MessageTypeDetails, ServiceName, TypeVariant, ZeroCopySend,
@@ -70,6 +71,7 @@ fn grows<U: Copy, H: Home<CustomPayloadMarker, U>>(
     publisher: Publisher<CustomPayloadMarker, U>,
 ) -> Result<bool, AllocError> {
     must_be_free(rt, publisher.holds(home), publisher.is_blocked(home));
+    must_be_there(rt, publisher.may_have(9));
     match publisher.loan_custom_payload(alloc, home, 9) {
         Ok(loan) => Ok(is_given_up(loan, home)),
         Err(error) => told::<(), LoanError>(Err(error), LoanError::OutOfMemory),
@@ -87,8 +89,8 @@ fn elements<
     rt: &impl Abort,
     alloc: Global,
     home: &mut H,
-    publishers: PortFactoryPublisher<CustomPayloadMarker, U, B, O>,
-    subscribers: PortFactorySubscriber<CustomPayloadMarker, U, D>,
+    publishers: slices::PortFactoryPublisher<CustomPayloadMarker, U, B, O>,
+    subscribers: slices::PortFactorySubscriber<CustomPayloadMarker, U, D>,
 ) -> Result<bool, AllocError> {
     must_be_there(rt, subscribers.holds(home));
     let came = subscribers.create_slice(alloc, home);
@@ -122,20 +124,32 @@ fn domain<T: Words + ZeroCopySend, U: Copy + ZeroCopySend>(
 
 // Ports of single values, of which a publisher has as many slots as an object says.
 fn come(rt: &impl Abort, alloc: Global, domain: &mut Values) -> Result<bool, AllocError> {
-    let publishers = publisher_builder(domain, 4, 3)
+    let (Some(publishers), Some(subscribers)) = (
+        publisher_builder(domain, 4, 3),
+        subscriber_builder(domain, 4, 3),
+    ) else {
+        return Ok(false);
+    };
+    let publishers = publishers
         .override_sample_preallocation(kept_once(alloc)?)
         .set_handlers(Nobody);
-    let subscribers = subscriber_builder(domain, 4, 3).set_handler(Nobody);
+    let subscribers = subscribers.set_handler(Nobody);
     single(rt, alloc, domain, publishers, subscribers)
 }
 
 // Ports of elements, whose segments grow.
 fn come_growing(rt: &impl Abort, alloc: Global, domain: &mut Elements) -> Result<bool, AllocError> {
-    let publishers = publisher_builder(domain, 4, 3)
+    let (Some(publishers), Some(subscribers)) = (
+        slice_publisher_builder(domain, 4, 3),
+        slice_subscriber_builder(domain, 4, 3),
+    ) else {
+        return Ok(false);
+    };
+    let publishers = publishers
         .allocation_strategy(AllocationStrategy::PowerOfTwo)
         .initial_max_slice_len(2)
         .set_handlers(Nobody);
-    let subscribers = subscriber_builder(domain, 4, 3).set_handler(Nobody);
+    let subscribers = subscribers.set_handler(Nobody);
     elements(rt, alloc, domain, publishers, subscribers)
 }
 

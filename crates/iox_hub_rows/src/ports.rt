@@ -4,7 +4,7 @@ ghost use Rattle.std.specs.Prelude.{◌≡◌, false, true};
 use iox_delivery::Sent;
 use iox_delivery::loan::{Loan, LoanState};
 use iox_delivery::slices::{Publisher, Sample, Subscriber};
-use iox_delivery_factories::{PortFactoryPublisher, PortFactorySubscriber};
+use iox_delivery_factories::slices::{PortFactoryPublisher, PortFactorySubscriber};
 use iox_domain::Home;
 use iox_domain_values::{Decides, Degrades, Overrides, SendError};
 use std::alloc::Global;

@@ -6,7 +6,7 @@ ghost use Rattle.iox_command.specs.declared.command.Command.TheVariants as comma
 ghost use Rattle.iox_hub_commands.specs.Container.NumberTable.{value_at};
 ghost use Rattle.iox_hub_commands.specs.Asked.{types_of};
 ghost use Rattle.iox_hub_commands.specs.declared.services.made.MadeFactory.TheVariants as made_factory;
-ghost use Rattle.iox_hub.specs.Machine.Choices.{as_named};
+ghost use Rattle.iox_hub.specs.Machine.Choices.{Handed, chosen_by};
 ghost use Rattle.iox_hub.specs.Recorded.{AreFollowed};
 ghost use Rattle.iox_hub.specs.RecordedLaws.{WasSentBefore};
 
@@ -143,18 +143,19 @@ fn is_sent(
 }
 
 // The values of a sample. They were put earlier if `AreFollowed` holds. It says that the services named in the commands have different
-// hashes, that there are fewer than 2^56 commands, that the values of each message received before fit in a vector, and that a handler
-// made of a fixed action always decides by this action.
+// hashes, that there are fewer than 2^56 commands, that the values of each message received before fit in a vector, and that the machine
+// has the handlers of the ports, or a handler made of a fixed action always decides by this action.
 fn put_values<'a, B: PublisherHandlers, D: SubscriberHandler>(
     hub: &'a RecordedHub<u64, (), B, D>,
     sample: &Named<slice::Sample<u64, ()>>,
 ) -> Option<&'a [u64]>
     requires { value_at hub.now.calls.made.samples sample.now.number.value
         ≡ Some (record { port = sample.now.it.port; taken = sample.now.it.taken }) }
-    ensures put { IfSome result (λ values. AreFollowed B.fixed (λ handlers. B.degrades handlers) (λ handlers. B.decides handlers)
-        D.fixed (λ handler. D.degrades handler)
+    ensures put { IfSome result (λ values. (handed : Handed B D) → AreFollowed B.fixed (λ handlers. B.degrades handlers)
+        (λ handlers. B.decides handlers) D.fixed (λ handler. D.degrades handler) handed
         (record hub.now.calls { asked = hub.now.calls.asked ++ command.Read sample.now.number.value ∷ [] })
-        → WasSentBefore (types_of (codes "u64") 8 8 (codes "()") 0 1) (as_named (λ value. value ≡ 0))
+        → WasSentBefore (types_of (codes "u64") 8 8 (codes "()") 0 1) (chosen_by (λ value. value ≡ 0)
+        (λ handlers. B.decides handlers) (λ handlers. B.degrades handlers) (λ handler. D.degrades handler) handed)
         hub.now.calls.config.expired_connection_buffer sample.now.number.value values.now hub.now.calls.asked hub.now.calls.answers) }
 {
     let values = hub.payload(sample)?;

@@ -3,9 +3,8 @@ use crate::custom::make;
 use crate::ports::{is_given_up, meet, must_be_free, must_be_there, sent_to, taken};
 use crate::values::kept_once;
 use iox_delivery::slices::{Publisher, SampleMutUninit, Subscriber};
-use iox_delivery_factories::{
-    PortFactoryPublisher, PortFactorySubscriber, publisher_builder, subscriber_builder,
-};
+use iox_delivery_factories::slices::{PortFactoryPublisher, PortFactorySubscriber};
+use iox_delivery_factories::{slice_publisher_builder, slice_subscriber_builder};
 use iox_describe_base::{Header, MessageTypeDetails, TypeVariant};
 use iox_describe_settings::publish_subscribe::StaticConfig;
 use iox_domain::{Domain, Home, Nobody};
@@ -59,7 +58,7 @@ fn publishers(
     len: usize,
 ) -> Option<PortFactoryPublisher<u64, u8, Nobody>> {
     let overriding = kept_once(alloc).ok()?;
-    let builder = publisher_builder(domain, 4, 3)
+    let builder = slice_publisher_builder(domain, 4, 3)?
         .override_sample_preallocation(overriding)
         .initial_max_slice_len(len)
         .first_sequence(41)
@@ -139,7 +138,10 @@ fn converse<
 
 // The same with new ports of a domain, and with this many values.
 fn goes_in(rt: &impl Abort, alloc: Global, domain: &mut Slices, len: usize) -> bool {
-    let subscribers = subscriber_builder(domain, 4, 3).set_handler(Nobody);
+    let Some(subscribers) = slice_subscriber_builder(domain, 4, 3) else {
+        return false;
+    };
+    let subscribers = subscribers.set_handler(Nobody);
     match (publishers(alloc, domain, len), SEVENS.get(..len)) {
         (Some(publishers), Some(values)) => {
             converse(rt, alloc, domain, publishers, subscribers, values)
@@ -197,7 +199,7 @@ fn sample_comes_back(
 fn comes_back(rt: &impl Abort, alloc: Global) -> Option<bool> {
     let mut domain = make(alloc, agreed())?;
     let mut other = make(alloc, agreed())?;
-    let subscribers = subscriber_builder(&domain, 4, 3).set_handler(Nobody);
+    let subscribers = slice_subscriber_builder(&domain, 4, 3)?.set_handler(Nobody);
     let publishers = publishers(alloc, &domain, 1)?;
     let (publisher, subscriber) = meet(rt, alloc, &mut domain, publishers, subscribers)?;
     let loan_stays = loan_comes_back(rt, alloc, &mut domain, &mut other, publisher);
