@@ -1,5 +1,5 @@
 -- Entries by rising number: what a search by number tells, and how they still rise where one comes, goes or changes.
-use Rattle.std.proofs.Common.{ℕ, zero, suc, ◌≡◌, ◌+◌, ◌<◌, ◌≤◌, List, [], ◌∷◌, length, get_or, set, Result, Ok, Err, Bool}
+use Rattle.std.proofs.Common.{ℕ, zero, suc, ◌≡◌, ◌+◌, ◌-◌, ◌<◌, ◌≤◌, List, [], ◌∷◌, length, get_or, set, Result, Ok, Err, Bool}
 use Rattle.std.proofs.Common.{true, false, cond}
 use Rattle.std.proofs.Common.{Option, None, Some, is_some, if◌then◌else◌, refl, sym, ap, subst, ◌∙◌, arith}
 use Rattle.std.proofs.lemmas.Bool.{eqb-true}
@@ -304,6 +304,20 @@ module _ {V : Type 0} where
         → (at : ℕ) (default : ℕ × V) → place ≤ at → at < length entries → number < (get_or entries at default).0
     higher-from place parted at default from within = let greater
         = (parted comparisons_rise).1 at default from within in grind (arith, nat_tests)
+
+    -- where the last number is below it, its place is behind them all
+    pub place-behind : ((default : ℕ × V) → 0 < length entries → (get_or entries (length entries - 1) default).0 < number)
+        → IsBinarySearchResult (λ entry. nat_cmp entry.0 number) entries (Err (length entries))
+    place-behind below rises = (
+      λ at default from within.
+          before (get_or entries at default).0 number
+          (omega (
+            arith,
+            numbers_rise entries at (length entries - 1) default rising (omega arith) (omega arith),
+            below default (omega arith),
+          )),
+      λ at default from within. absurd (omega arith),
+    )
 
     -- what the place is that was found
     pub found-at : (answer : Result ℕ ℕ) → IsBinarySearchResult (λ entry. nat_cmp entry.0 number) entries answer

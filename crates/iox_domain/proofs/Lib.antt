@@ -72,6 +72,8 @@ mod Attached
 mod Entries
 mod Listed
 pub mod StayRoomy
+mod AskedThere
+mod LettingGo
 pub mod Bounds
 pub mod Lent
 pub mod Putting

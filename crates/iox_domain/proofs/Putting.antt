@@ -120,6 +120,11 @@ pub lender_stands : {T U : Type 0} (allocation : AllocationStrategy) (values ele
 lender_stands allocation values elements old answer new loans
     = loans_stands (is_some old.sender.uses.sending) allocation values elements old answer new loans
 
+-- an open one stays open
+pub lends_stand : {T U : Type 0} (values elements : ℕ) (port after : PublisherPort T U) (answer : Option (Result ℕ LoanError))
+    → port.stands ≡ true → Loans port.allocation values elements port answer after → after.stands ≡ true
+lends_stand values elements port after answer stands loans = lender_stands port.allocation values elements port answer after loans ∙ stands
+
 -- and so does one that writes
 pub writer_stands : {T U : Type 0} (test : Bool) (slot : ℕ) (change : Loan T U → Loan T U) (port : PublisherPort T U)
     → (changed_if test slot change port).stands ≡ port.stands

@@ -24,6 +24,12 @@ abbrev pub kept_degrades : {H : Type 0} → (H → DegradationCause → Degradat
 kept_degrades degrades None = passes_over FailedToEstablishConnection
 kept_degrades degrades (Some kept) = degrades kept FailedToEstablishConnection
 
+-- What handlers of a port may answer for a cause: what those that are stored for it may answer, or `Warn` if none are.
+abbrev pub stored_degrades : {H : Type 0} → (H → DegradationCause → DegradationInfo → DegradationAction → Type 0) → Option H
+    → DegradationCause → DegradationInfo → DegradationAction → Type 0
+stored_degrades degrades None = passes_over
+stored_degrades degrades (Some kept) = degrades kept
+
 -- What may be decided at a full mailbox: what the publisher's handlers may decide; if none are stored for it, the send blocks.
 abbrev pub kept_decides : {H : Type 0} → (H → BackpressureInfo → BackpressureDecision → Type 0) → Option H → BackpressureInfo
     → BackpressureDecision → Type 0

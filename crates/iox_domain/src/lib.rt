@@ -48,6 +48,7 @@ pub mod ports;
 pub mod publishing;
 pub mod settings;
 pub mod state;
+pub(crate) mod stored;
 pub mod subscribing;
 
 pub use domain::Domain;

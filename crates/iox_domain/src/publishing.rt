@@ -11,9 +11,9 @@ ghost use Rattle.iox_domain.specs.Handling.{kept_degrades, kept_decides};
 ghost use Rattle.iox_domain.specs.Kept.{kept_under};
 ghost use Rattle.iox_domain.specs.Publishing.{MakesPublisher, kept_unless};
 
-use crate::nobody::Nobody;
 use crate::ports::PublisherConfig;
 use crate::state::DomainState;
+use crate::stored::Stored;
 use iox_domain_ports::Sent;
 use iox_domain_values::{
     ConnectionFailure, Decides, Degrades, LoanError, Overrides, PublisherCreateError, SendError,
@@ -91,10 +91,11 @@ impl<T: Copy, U: Copy, B: Decides + Degrades, D: Degrades> DomainState<T, U, B, 
             self.old.ports.subscriber_list) (port_of number self.old.ports.publishers) self.old.ports result self.new.ports }
         ensures rest { self.new ≡ with_ports self.new.ports self.old }
     {
-        match self.publisher_handlers.get(number) {
-            Some(kept) => self.ports.update_publisher(alloc, number, kept),
-            None => self.ports.update_publisher(alloc, number, &Nobody),
-        }
+        let stored = Stored {
+            handlers: &self.publisher_handlers,
+            number,
+        };
+        self.ports.update_publisher(alloc, number, &stored)
     }
 
     /// The publisher sends the written loan in this slot: `ServicePorts::send` says what that does and answers.
@@ -112,10 +113,11 @@ impl<T: Copy, U: Copy, B: Decides + Degrades, D: Degrades> DomainState<T, U, B, 
             (port_of number self.old.ports.publishers) self.old.ports result self.new.ports }
         ensures rest { self.new ≡ with_ports self.new.ports self.old }
     {
-        match self.publisher_handlers.get(number) {
-            Some(kept) => self.ports.send(alloc, number, slot, kept),
-            None => self.ports.send(alloc, number, slot, &Nobody),
-        }
+        let stored = Stored {
+            handlers: &self.publisher_handlers,
+            number,
+        };
+        self.ports.send(alloc, number, slot, &stored)
     }
 
     /// The publisher loans as many values, writes them and sends them: `ServicePorts::put` says what that does and answers.
@@ -134,11 +136,11 @@ impl<T: Copy, U: Copy, B: Decides + Degrades, D: Degrades> DomainState<T, U, B, 
             values.now) (port_of number self.old.ports.publishers) self.old.ports result self.new.ports }
         ensures rest { self.new ≡ with_ports self.new.ports self.old }
     {
-        let blank = self.blank;
-        match self.publisher_handlers.get(number) {
-            Some(kept) => self.ports.put(alloc, number, values, blank, kept),
-            None => self.ports.put(alloc, number, values, blank, &Nobody),
-        }
+        let stored = Stored {
+            handlers: &self.publisher_handlers,
+            number,
+        };
+        self.ports.put(alloc, number, values, self.blank, &stored)
     }
 
     /// Tries once more the place at which the publisher's send is blocked, `elapsed` nanoseconds after its mailbox was first found
@@ -151,10 +153,11 @@ impl<T: Copy, U: Copy, B: Decides + Degrades, D: Degrades> DomainState<T, U, B, 
             (port_of number self.old.ports.publishers) self.old.ports result self.new.ports }
         ensures rest { self.new ≡ with_ports self.new.ports self.old }
     {
-        match self.publisher_handlers.get(number) {
-            Some(kept) => self.ports.retry(number, elapsed, kept),
-            None => self.ports.retry(number, elapsed, &Nobody),
-        }
+        let stored = Stored {
+            handlers: &self.publisher_handlers,
+            number,
+        };
+        self.ports.retry(number, elapsed, &stored)
     }
 
     /// Closes the publisher: `ServicePorts::leave_publisher` says what that does. Its handlers are dropped.

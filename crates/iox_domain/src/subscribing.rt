@@ -10,9 +10,9 @@ ghost use Rattle.iox_domain.specs.Kept.{kept_under};
 ghost use Rattle.iox_domain.specs.Publishing.{kept_unless};
 ghost use Rattle.iox_domain.specs.Subscribing.{MakesSubscriber};
 
-use crate::nobody::Nobody;
 use crate::ports::SubscriberConfig;
 use crate::state::DomainState;
+use crate::stored::Stored;
 use iox_domain_ports::Taken;
 use iox_domain_values::{
     ConnectionFailure, Decides, Degrades, ReceiveError, SubscriberCreateError,
@@ -63,10 +63,11 @@ impl<T: Copy, U: Copy, B: Decides + Degrades, D: Degrades> DomainState<T, U, B, 
             self.old.ports.publisher_list) (subscriber_of number self.old.ports.subscribers) self.old.ports result self.new.ports }
         ensures rest { self.new ≡ with_ports self.new.ports self.old }
     {
-        match self.subscriber_handlers.get(number) {
-            Some(kept) => self.ports.update_subscriber(alloc, number, kept),
-            None => self.ports.update_subscriber(alloc, number, &Nobody),
-        }
+        let stored = Stored {
+            handlers: &self.subscriber_handlers,
+            number,
+        };
+        self.ports.update_subscriber(alloc, number, &stored)
     }
 
     /// Whether some connection of the subscriber has data: `ServicePorts::has_samples` says what that does.
@@ -82,10 +83,11 @@ impl<T: Copy, U: Copy, B: Decides + Degrades, D: Degrades> DomainState<T, U, B, 
             (subscriber_of number self.old.ports.subscribers) self.old.ports result self.new.ports }
         ensures rest { self.new ≡ with_ports self.new.ports self.old }
     {
-        match self.subscriber_handlers.get(number) {
-            Some(kept) => self.ports.has_samples(alloc, number, kept),
-            None => self.ports.has_samples(alloc, number, &Nobody),
-        }
+        let stored = Stored {
+            handlers: &self.subscriber_handlers,
+            number,
+        };
+        self.ports.has_samples(alloc, number, &stored)
     }
 
     /// The subscriber receives: `ServicePorts::receive` says which message it gets, and when that fails.
@@ -101,10 +103,11 @@ impl<T: Copy, U: Copy, B: Decides + Degrades, D: Degrades> DomainState<T, U, B, 
             self.old.ports.publisher_list) (subscriber_of number self.old.ports.subscribers) self.old.ports result self.new.ports }
         ensures rest { self.new ≡ with_ports self.new.ports self.old }
     {
-        match self.subscriber_handlers.get(number) {
-            Some(kept) => self.ports.receive(alloc, number, kept),
-            None => self.ports.receive(alloc, number, &Nobody),
-        }
+        let stored = Stored {
+            handlers: &self.subscriber_handlers,
+            number,
+        };
+        self.ports.receive(alloc, number, &stored)
     }
 
     /// Closes the subscriber: `ServicePorts::leave_subscriber` says what that does. Its handler is dropped.

@@ -2,6 +2,7 @@
 use Rattle.std.proofs.Common.{rules, arith, ◌≡◌, inl, inr, ◌+◌, ◌<◌, ◌≤◌, ◌∙◌, ℕ, Bool, true, false, length, nat_lt, nat_le, is_some}
 use Rattle.std.proofs.Common.{Option, None, Some, Result, Ok, Err, refl, ap, if◌then◌else◌}
 use Rattle.std.proofs.Math.Logic.{⊎_elim}
+use Rattle.std.proofs.lemmas.Bool.Decides.{nat_tests}
 use Rattle.iox_domain_values.specs.declared.data_segment.AllocationStrategy.{AllocationStrategy}
 use Rattle.iox_domain_values.specs.declared.data_segment.AllocationStrategy.TheVariants as strategy
 use Rattle.iox_domain_values.specs.declared.port_error.LoanError.{LoanError}
@@ -10,7 +11,7 @@ use Rattle.iox_domain_slots.specs.Uses.{in_use}
 use Rattle.iox_domain_ports.specs.MessagesSending.{SenderState, slots_of, opened_for, LoanMade}
 use Rattle.iox_domain_ports.proofs.Counted.{room_fits}
 use Rattle.iox_domain_ports.specs.Lengths.{extent, SegmentRoom}
-use Rattle.iox_domain_ports.specs.Loaning.{with_sender, is_too_long, LendsHere, LacksMemory, LendsBeyond, LendsWhere, LendsUnless, LoansIf}
+use Rattle.iox_domain_ports.specs.Loaning.{with_sender, is_too_long, LendsHere, LacksMemory, LendsBeyond, LendsWhere, LendsUnless, Lends, LoansIf}
 use Rattle.iox_domain_ports.specs.LoanLaws.{MayBeLent, IsLent, Tells, LoanTells, NewSegmentIsFree}
 use Rattle.iox_domain_ports.specs.declared.publisher_port.PublisherPort.{PublisherPort}
 
@@ -191,3 +192,26 @@ waiting allocation values elements false old new answer waits loans =
 pub loan_tells : {T U : Type 0} → LoanTells T U
 loan_tells allocation values elements old new answer loans
     = waiting allocation values elements (is_some old.sender.uses.sending) old new answer refl loans
+
+-- a loan that fits isn't too long
+fits_short : {T U : Type 0} (allocation : AllocationStrategy) (values elements : ℕ) (port : PublisherPort T U)
+    → nat_le (extent port.unit values elements) port.sender.room ≡ true → is_too_long allocation values elements port ≡ false
+fits_short strategy.BestFit values elements port fits = refl
+fits_short strategy.PowerOfTwo values elements port fits = refl
+fits_short strategy.Static values elements port fits = grind (arith, fits, nat_tests)
+
+-- it is made where one more is allowed
+pub lends_fitting : {T U : Type 0} (allocation : AllocationStrategy) (values elements : ℕ) (old new : PublisherPort T U)
+    (answer : Result ℕ LoanError) → nat_le (extent old.unit values elements) old.sender.room ≡ true
+    → nat_lt (length old.sender.uses.loans) old.sender.uses.most_loans ≡ true → LendsHere values elements old answer new
+    → Lends allocation values elements old answer new
+lends_fitting allocation values elements old new answer fits few lends =
+    rw (fits_short allocation values elements old fits) (rw few (rw fits lends))
+
+-- and refused where none is
+pub refuses_fitting : {T U : Type 0} (allocation : AllocationStrategy) (values elements : ℕ) (old : PublisherPort T U)
+    → nat_le (extent old.unit values elements) old.sender.room ≡ true
+    → nat_lt (length old.sender.uses.loans) old.sender.uses.most_loans ≡ false
+    → Lends allocation values elements old (Err refusal.ExceedsMaxLoans) old
+refuses_fitting allocation values elements old fits many =
+    rw (fits_short allocation values elements old fits) (rw many (refl, refl))

@@ -8,6 +8,7 @@ pub mod Listing
 pub mod Enough
 pub mod Counted
 mod Owned
+pub mod Tallying
 pub mod Lent
 pub mod Finding
 pub mod RowsIn
@@ -45,5 +46,6 @@ pub mod Adding
 pub mod Tallied
 pub mod Untied
 pub mod Unmet
+pub mod Apart
 pub use Rattle.iox_container.proofs as Container
 pub use Rattle.iox_domain_slots.proofs as DomainSlots

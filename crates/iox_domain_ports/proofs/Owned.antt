@@ -8,7 +8,7 @@ use Rattle.std.specs.Prelude.{unwrap_or}
 use Rattle.std.specs.declared.cmp.Ordering.{Ordering}
 use Rattle.std.specs.declared.cmp.Ordering.TheVariants.{Less, Equal, Greater}
 use Rattle.iox_container.proofs.Numbers.{is_number, not_number}
-use Rattle.iox_domain_ports.specs.Census.{count_under}
+use Rattle.iox_domain_ports.specs.Tallies.{count_under}
 
 abbrev at : ℕ → ℕ → Bool
 at number = is_at (nat_cmp number)

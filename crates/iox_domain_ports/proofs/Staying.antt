@@ -37,6 +37,21 @@ pub nothing_given : {T U : Type 0} (number index : ℕ) (place : Option ℕ) (po
 nothing_given number index (Some at) ports new none is = search (rules, none)
 nothing_given number index None ports new none is = is ∙ nothing_changed number index ports (port_of number ports) refl
 
+found_same_by : {K X : Type 0} (test : K → Bool) (passes : Bool) (entry : K × X) (entries : List (K × X)) (x y : X) → test entry.0 ≡ passes
+    → (lookup test entries ≡ Some y → lookup test (set_value test entries x) ≡ Some x)
+    → cond passes (Some entry.1) (lookup test entries) ≡ Some y
+    → lookup test (cond passes ((entry.0, x) ∷ entries) (entry ∷ set_value test entries x)) ≡ Some x
+found_same_by test true entry entries x y is rest there = ap (λ b. cond b (Some x) (lookup test entries)) is
+found_same_by test false entry entries x y is rest there
+    = ap (λ b. cond b (Some entry.1) (lookup test (set_value test entries x))) is ∙ rest there
+
+-- what was put in the place of a value is found there
+pub found_same : {K X : Type 0} (test : K → Bool) (entries : List (K × X)) (x y : X) → lookup test entries ≡ Some y
+    → lookup test (set_value test entries x) ≡ Some x
+found_same test [] x y there = cc
+found_same test (entry ∷ entries) x y there
+    = found_same_by test (test entry.0) entry entries x y refl (found_same test entries x y) there
+
 -- where the attaching is refused nothing changes
 pub attaches_there : {T U : Type 0} (number subscriber limit : ℕ) (old : List (ℕ × PublisherPort T U)) (port after : PublisherPort T U)
     (answer : Result ℕ AllocError) → port_of number old ≡ Some port

@@ -34,6 +34,7 @@ pub mod SubscriberUpdating
 pub mod SubscriberLaws
 pub mod Arriving
 pub mod Living
+pub mod Tallies
 pub mod Census
 pub use Rattle.iox_container.specs as Container
 pub use Rattle.iox_domain_slots.specs as DomainSlots

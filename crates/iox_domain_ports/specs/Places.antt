@@ -1,5 +1,6 @@
 -- Values at places, and to whom a connection leads.
-use Rattle.std.specs.Prelude.{ℕ, ◌-◌, ◌==◌, ◌≤◌, ◌++◌, Bool, false, List, length, replicate, Option, None, Some, if◌then◌else◌}
+use Rattle.std.specs.Prelude.{ℕ, ◌≡◌, ◌-◌, ◌==◌, ◌≤◌, ◌++◌, Bool, true, false, List, length, get_or, replicate, Option, None, Some, if◌then◌else◌}
+use Rattle.std.specs.List.{position}
 use Rattle.iox_domain_ports.specs.declared.reader.Reader.{Reader}
 use Rattle.iox_domain_ports.specs.declared.meeting.Meeting.{Meeting}
 use Rattle.iox_domain_ports.specs.declared.meeting.Meeting.TheVariants as meeting
@@ -27,6 +28,19 @@ is_attached (Some reader) = reader.attached
 abbrev pub unheard : Option Reader → Meeting
 unheard None = meeting.Passed
 unheard (Some reader) = if reader.attached then meeting.Full reader.subscriber else meeting.Passed
+
+-- No subscriber reads at two indices.
+abbrev pub AreApart : List (Option Reader) → Type 0
+AreApart readers = (subscriber i j : ℕ) → leads_to subscriber (get_or readers i None) ≡ true
+    → leads_to subscriber (get_or readers j None) ≡ true → i ≡ j
+
+-- This subscriber reads at no other index.
+abbrev pub IsNowhereElse : ℕ → ℕ → List (Option Reader) → Type 0
+IsNowhereElse index subscriber readers = (other : ℕ) → leads_to subscriber (get_or readers other None) ≡ true → other ≡ index
+
+-- The first connection that leads to this subscriber is at this index.
+abbrev pub IsFoundAt : Option ℕ → ℕ → List (Option Reader) → Type 0
+IsFoundAt index subscriber readers = index ≡ position (leads_to subscriber) readers
 
 -- A reader, if there is one, is a subscriber with at most this number.
 abbrev pub IsUpTo : ℕ → Option Reader → Type 0

@@ -1,10 +1,11 @@
 //! How much of each owner is alive, counted as ports change.
-ghost use Rattle.std.specs.Prelude.{◌≡◌, ℕ, ◌+◌, ◌==◌, ◌<◌, ◌≤◌, ◌^◌, Option, IfSome, IsSome, true, false, if◌then◌else◌, []};
-ghost use Rattle.iox_domain_ports.specs.Census.{amount, no_share, count_under, tallied, Exchanges};
+ghost use Rattle.std.specs.Prelude.{◌≡◌, ℕ, ◌+◌, ◌-◌, ◌<◌, ◌≤◌, ◌^◌, Option, OnOk, length, min, []};
+ghost use Rattle.iox_domain_ports.specs.Census.{amount, no_share, tallied, Exchanges, HasRoomFor};
+ghost use Rattle.iox_domain_ports.specs.Tallies.{IsTally};
 
 use crate::living::counted;
-use iox_container::ByNumber;
-use std::alloc::Global;
+use crate::tallies::Tallies;
+use std::alloc::{AllocError, Global};
 
 /// The owner of a port, and how much of the port is alive.
 #[derive(Clone, Copy)]
@@ -15,19 +16,17 @@ pub struct Share {
     pub count: u64,
 }
 
-/// How much of each owner is alive, among the ports of one kind, so that no call has to scan these. It takes memory for owners
-/// of which something is alive.
+/// How much of each owner is alive, among the ports of one kind, so that no call has to scan these. Its memory is asked for before a port
+/// comes: room for as many owners as there are ports.
 ///
 /// A port that is handed out mutably may be changed in any way. So the port handed out last is counted as it was then, and that
 /// share is noted.
 #[derive(Drop)]
 pub struct Census {
     // What is alive of each owner of which something is alive.
-    owners: ByNumber<u64>,
+    owners: Tallies,
     // What is alive of all owners.
-    total: u64,
-    // Whether the counts are valid; they aren't any longer once an allocation failed, or a count passed 2^64 - 1.
-    holds: bool,
+    total: u128,
     // The number of the port that was handed out last.
     lent: u64,
     // The share that is counted of that port.
@@ -37,14 +36,13 @@ pub struct Census {
 impl Census {
     /// Nothing is alive. The call allocates nothing.
     pub fn new(alloc: Global) -> Self
-        ensures owners { result.owners ≡ [] }
+        ensures owners { result.owners.counts ≡ [] }
         ensures total { result.total ≡ 0 }
         ensures noted { result.noted ≡ no_share }
     {
         Census {
-            owners: ByNumber::new(alloc),
+            owners: Tallies::new(alloc),
             total: 0,
-            holds: true,
             lent: 0,
             noted: Share { owner: 0, count: 0 },
         }
@@ -57,72 +55,44 @@ impl Census {
         self.lent
     }
 
-    // The count of an owner.
-    fn count(&self, owner: u64) -> u64
-        ensures { result ≡ count_under owner self.now.owners }
+    /// Makes room for the owners of more ports than these. The call fails only if an allocation fails; the counts stay in any case.
+    pub fn make_room(&mut self, ports: usize) -> Result<(), AllocError>
+        ensures counts { self.new ≡ record self.old
+            { owners = record { counts = self.old.owners.counts; room = self.new.owners.room } } }
+        ensures room { OnOk result (ports < self.new.owners.room) }
+        ensures grows { self.old.owners.room ≤ self.new.owners.room }
     {
-        match self.owners.get(owner) {
-            Some(count) => *count,
-            None => 0,
-        }
-    }
-
-    // Sets the count of an owner, and the total.
-    fn put(&mut self, owner: u64, count: u64, total: u64)
-        ensures held { self.new.holds ≡ true → self.old.holds ≡ true }
-        ensures counts { self.new.holds ≡ true → (number : ℕ) → count_under number self.new.owners
-            ≡ (if number == owner then count else count_under number self.old.owners) }
-        ensures total { self.new.total ≡ total }
-        ensures lent { self.new.lent ≡ self.old.lent }
-        ensures noted { self.new.noted ≡ self.old.noted }
-    {
-        self.total = total;
-        if count == 0 {
-            self.owners.remove(owner);
-        } else if self.owners.insert(owner, count).is_err() {
-            self.holds = false;
-        }
-    }
-
-    // Makes the counts invalid.
-    fn give_up(&mut self)
-        ensures holds { self.new.holds ≡ false }
-        ensures lent { self.new.lent ≡ self.old.lent }
-        ensures noted { self.new.noted ≡ self.old.noted }
-    {
-        self.holds = false;
+        self.owners.make_room(ports)
     }
 
     // Takes a share out of the counts.
     fn take(&mut self, share: Share)
-        ensures { Exchanges share no_share self.old self.new }
+        requires { (owner : Option ℕ) → amount owner share ≤ tallied owner self.old }
+        ensures takes { Exchanges share no_share self.old self.new }
+        ensures sound { IsTally self.new.owners.counts }
+        ensures fits { self.new.owners.room < 2 ^ 64 }
     {
-        let count = self.count(share.owner);
-        if count < share.count || self.total < share.count {
-            self.give_up();
-            return;
-        }
-        let total = self.total - share.count;
-        self.put(share.owner, count - share.count, total);
+        let count = self.owners.get(share.owner);
+        let less = u128::from(share.count);
+        self.total -= less;
+        self.owners.put(share.owner, count - less);
     }
 
     // Adds a share to the counts.
     fn give(&mut self, share: Share)
+        requires room { 0 < share.count → length self.old.owners.counts < self.old.owners.room }
+        requires fits { (owner : Option ℕ) → tallied owner self.old + amount owner share < 2 ^ 128 }
         ensures { Exchanges no_share share self.old self.new }
     {
-        let Some(count) = self.count(share.owner).checked_add(share.count) else {
-            self.give_up();
-            return;
-        };
-        let Some(total) = self.total.checked_add(share.count) else {
-            self.give_up();
-            return;
-        };
-        self.put(share.owner, count, total);
+        let count = self.owners.get(share.owner);
+        let more = u128::from(share.count);
+        self.total += more;
+        self.owners.put(share.owner, count + more);
     }
 
     // Counts one share in place of another.
     fn exchange(&mut self, before: Share, after: Share)
+        requires { HasRoomFor before after self.old }
         ensures { Exchanges before after self.old self.new }
     {
         if before.owner == after.owner && before.count == after.count {
@@ -135,9 +105,10 @@ impl Census {
     /// Notes that the port `number`, whose share is `now`, is handed out. `before` is the current share of the port that was
     /// handed out before.
     pub fn lend(&mut self, before: Share, number: u64, now: Share)
-        ensures held { self.new.holds ≡ true → self.old.holds ≡ true }
-        ensures counts { self.new.holds ≡ true → (owner : Option ℕ) → tallied owner self.new + amount owner self.old.noted
+        requires { HasRoomFor self.old.noted before self.old }
+        ensures counts { (owner : Option ℕ) → tallied owner self.new + amount owner self.old.noted
             ≡ tallied owner self.old + amount owner before }
+        ensures room { self.new.owners.room ≡ self.old.owners.room }
         ensures lent { self.new.lent ≡ number }
         ensures noted { self.new.noted ≡ now }
     {
@@ -146,11 +117,12 @@ impl Census {
         self.noted = now;
     }
 
-    /// Counts this share for the port that was handed out last.
+    /// Counts `share` as what is alive of the port that was handed out last, in place of what was counted for it before.
     pub fn note(&mut self, share: Share)
-        ensures held { self.new.holds ≡ true → self.old.holds ≡ true }
-        ensures counts { self.new.holds ≡ true → (owner : Option ℕ) → tallied owner self.new + amount owner self.old.noted
+        requires { HasRoomFor self.old.noted share self.old }
+        ensures counts { (owner : Option ℕ) → tallied owner self.new + amount owner self.old.noted
             ≡ tallied owner self.old + amount owner share }
+        ensures room { self.new.owners.room ≡ self.old.owners.room }
         ensures lent { self.new.lent ≡ self.old.lent }
         ensures noted { self.new.noted ≡ share }
     {
@@ -159,22 +131,18 @@ impl Census {
     }
 
     /// How much of the owner is alive, or of all owners if none is named, if the current share of the port handed out last is
-    /// `now`. None only if the counts aren't valid, or their sum with that share isn't below 2^64.
-    pub fn told(&self, owner: Option<u64>, now: Share) -> Option<u64>
-        ensures holds { IfSome result (λ count. self.now.holds ≡ true) }
-        ensures fits { IfSome result (λ count. count < 2 ^ 64) }
-        ensures counts { IfSome result (λ count. count + amount owner self.now.noted ≡ tallied owner self.now + amount owner now) }
-        ensures valid { self.now.holds ≡ true → tallied owner self.now + amount owner now < 2 ^ 64
-            → amount owner self.now.noted ≤ tallied owner self.now + amount owner now → IsSome result }
+    /// `now`. At most 2^64 - 1 is answered.
+    pub fn told(&self, owner: Option<u64>, now: Share) -> u64
+        requires { amount owner self.now.noted ≤ tallied owner self.now }
+        ensures { result ≡ min (tallied owner self.now - amount owner self.now.noted + amount owner now) (2 ^ 64 - 1) }
     {
-        if !self.holds {
-            return None;
-        }
         let count = match owner {
-            Some(number) => self.count(number),
+            Some(number) => self.owners.get(number),
             None => self.total,
         };
-        let with = count.checked_add(counted(owner, now.owner, now.count))?;
-        with.checked_sub(counted(owner, self.noted.owner, self.noted.count))
+        let noted = u128::from(counted(owner, self.noted.owner, self.noted.count));
+        let more = u128::from(counted(owner, now.owner, now.count));
+        let all = (count - noted).saturating_add(more);
+        all.min(u128::from(u64::MAX)) as u64
     }
 }

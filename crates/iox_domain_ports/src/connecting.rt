@@ -44,18 +44,19 @@ impl<T: Copy, U: Copy> PublisherPort<T, U> {
 
     /// The index of the connection that leads to this subscriber. If there is none, one is made at the lowest index without a
     /// connection, and the subscriber doesn't read from it yet. The call fails only if an allocation fails; then nothing has
-    /// changed.
+    /// changed. The connection to which `place` is tied is examined first.
     pub fn join(
         &mut self,
         alloc: Global,
         subscriber: u64,
+        place: usize,
         limit: usize,
     ) -> Result<usize, AllocError>
         requires { limit ≤ self.old.sender.uses.most_waiting }
         ensures joins { Joins subscriber limit (connection_to subscriber self.old) self.old result self.new }
         ensures lowest { connection_to subscriber self.old ≡ None → IfOk result (λ index. IsFullBelow index self.old) }
     {
-        match self.readers.connection_to(subscriber) {
+        match self.readers.connection_to(subscriber, self.ties.get(place)) {
             Some(index) => Ok(index),
             None => self.connect(
                 alloc,
@@ -69,18 +70,20 @@ impl<T: Copy, U: Copy> PublisherPort<T, U> {
     }
 
     /// Attaches the subscriber to its connection, and answers the connection's index. If there is none, one is made at the lowest
-    /// index without a connection. The call fails only if there is none and an allocation fails; then nothing has changed.
+    /// index without a connection. The call fails only if there is none and an allocation fails; then nothing has changed. The
+    /// subscriber is listed at `place`: the connection to which that is tied is examined first.
     pub fn attach(
         &mut self,
         alloc: Global,
         subscriber: u64,
+        place: usize,
         limit: usize,
     ) -> Result<usize, AllocError>
         requires { limit ≤ self.old.sender.uses.most_waiting }
         ensures attaches { Attaches subscriber limit self.old result self.new }
         ensures lowest { connection_to subscriber self.old ≡ None → IfOk result (λ index. IsFullBelow index self.old) }
     {
-        let index = self.join(alloc, subscriber, limit)?;
+        let index = self.join(alloc, subscriber, place, limit)?;
         self.readers.put(
             index,
             Some(Reader {

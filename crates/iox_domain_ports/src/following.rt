@@ -107,7 +107,7 @@ impl SubscriberPort {
         if !self.places.reach(place + 1) {
             return Err(ZeroCopyCreationError::OutOfMemory);
         }
-        match publishers.attach(alloc, number, self.number, self.buffer_size) {
+        match publishers.attach(alloc, number, self.number, self.place, self.buffer_size) {
             Some(Ok(index)) => {
                 self.keep(place, number, index);
                 Ok(())

@@ -27,6 +27,7 @@
 //! - [`following`]: a subscriber follows one place of the list of publishers.
 //! - [`subscriber_updating`]: a subscriber follows the whole list.
 //! - [`living`]: how much is alive.
+//! - [`tallies`]: a count for each number, in room that is made before.
 //! - [`census`]: how much of each owner is alive, counted as ports change.
 //! - [`subscriber_laws`]: theorems about the steps of a subscriber.
 //!
@@ -75,6 +76,7 @@ pub mod subscriber_entry;
 pub mod subscriber_laws;
 pub mod subscriber_port;
 pub mod subscriber_updating;
+pub mod tallies;
 pub mod ties;
 pub mod writing;
 
@@ -91,4 +93,5 @@ pub use reader::Reader;
 pub use readers::Readers;
 pub use subscriber_entry::SubscriberEntry;
 pub use subscriber_port::SubscriberPort;
+pub use tallies::Tallies;
 pub use ties::Ties;

@@ -43,7 +43,8 @@ impl<T: Copy, U: Copy> PublisherPort<T, U> {
         Some(self.lend(alloc, values, elements, allocation, blank))
     }
 
-    // Loans a slot while no send is blocked.
+    // Loans a slot while no send is blocked. A loan that fits is refused only where too many are out.
+    #[tactic(auto, using(crate::proofs::Lent::lends_fitting, crate::proofs::Lent::refuses_fitting))]
     fn lend(
         &mut self,
         alloc: Global,
@@ -58,11 +59,31 @@ impl<T: Copy, U: Copy> PublisherPort<T, U> {
             → extent self.old.unit values elements ≤ self.old.sender.room → IsOk result }
         ensures unchanged { IsAmple self.old → self.old.sender.uses.sending ≡ None → OnErr result (self.new ≡ self.old) }
     {
+        if !self.has_room(values, elements) {
+            return self.lend_unless(alloc, values, elements, allocation, blank);
+        }
+        if self.sender.slots().may_loan() {
+            self.lend_here(values, elements)
+        } else {
+            Err(LoanError::ExceedsMaxLoans)
+        }
+    }
+
+    // Loans a slot of a new segment, unless the loan is refused; it is longer than a slot.
+    fn lend_unless(
+        &mut self,
+        alloc: Global,
+        values: usize,
+        elements: u64,
+        allocation: AllocationStrategy,
+        blank: T,
+    ) -> Result<usize, LoanError>
+        requires { nat_le (extent self.old.unit values elements) self.old.sender.room ≡ false }
+        ensures lends { Lends allocation values elements self.old result self.new }
+        ensures unchanged { IsAmple self.old → self.old.sender.uses.sending ≡ None → OnErr result (self.new ≡ self.old) }
+    {
         if let Some(refusal) = self.refusal(values, elements, allocation) {
             return Err(refusal);
-        }
-        if self.has_room(values, elements) {
-            return self.lend_here(values, elements);
         }
         self.lend_longer(alloc, values, elements, allocation, blank)
     }

@@ -64,7 +64,7 @@ impl<T: Copy, U: Copy> PublisherPort<T, U> {
         if !self.ties.reach(place + 1) {
             return Err(AllocError);
         }
-        match self.join(alloc, entry.subscriber, entry.buffer_size.min(most)) {
+        match self.join(alloc, entry.subscriber, place, entry.buffer_size.min(most)) {
             Ok(index) => {
                 self.ties.put(place, Some(index));
                 self.welcome(index);

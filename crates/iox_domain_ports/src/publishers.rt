@@ -1,6 +1,6 @@
 //! The publishers of a service by their numbers.
 ghost use Rattle.std.specs.Prelude.{◌≡◌, ◌-◌, ◌^◌, ◌<◌, length, map, min, slice_get, option_copied, is_some, true, OnOk, OnErr, [], None};
-ghost use Rattle.std.specs.Prelude.{Some};
+ghost use Rattle.std.specs.Prelude.{Some, IfSome};
 ghost use Rattle.std.specs.Borrow.{sem};
 ghost use Rattle.std.specs.List.Sorted.{IsStrictlySortedBy};
 ghost use Rattle.std.specs.Ordering.{nat_cmp};
@@ -18,7 +18,7 @@ ghost use Rattle.iox_domain_ports.specs.Reading.{place_of, taken_at, given_back_
 
 use crate::PublisherPort;
 use crate::census::{Census, Share};
-use crate::living::{add, counted, living_of_publisher};
+use crate::living::living_of_publisher;
 use crate::reading::{give_back_at, is_over, take_at};
 use iox_container::ByNumber;
 use iox_container::by_number::iter::Iter;
@@ -100,18 +100,23 @@ impl<T: Copy, U: Copy> Publishers<T, U> {
         ensures err { OnErr result (self.new ≡ self.old) }
     {
         note_lent(&mut self.census, &self.ports, number);
+        self.census.make_room(self.ports.len())?;
         let share = share_of(&port);
         put_port(&mut self.ports, number, port)?;
         self.census.note(share);
         Ok(())
     }
 
-    /// Whether the publisher with this number exists, and has no connection to this subscriber yet.
-    pub fn lacks_connection(&self, number: u64, subscriber: u64) -> bool
+    /// Whether the publisher with this number exists, and has no connection to this subscriber yet, which is listed at `place`: the
+    /// connection to which that is tied is examined first.
+    pub fn lacks_connection(&self, number: u64, subscriber: u64, place: usize) -> bool
         ensures { result ≡ lacks_connection subscriber (port_of number self.now) }
     {
         match self.get(number) {
-            Some(port) => port.readers.connection_to(subscriber).is_none(),
+            Some(port) => {
+                let likely = port.ties.get(place);
+                port.readers.connection_to(subscriber, likely).is_none()
+            }
             None => false,
         }
     }
@@ -129,19 +134,20 @@ impl<T: Copy, U: Copy> Publishers<T, U> {
     /// Attaches a subscriber to its connection at the publisher with this number, and answers the connection's index. The
     /// connection is made if there is none; as many messages may wait in it as the subscriber asks for, up to the publisher's
     /// limit. The call answers None if there is no such publisher. It fails only if an allocation fails; then nothing has
-    /// changed.
+    /// changed. The subscriber is listed at `place`: the connection to which the publisher tied that is examined first.
     pub fn attach(
         &mut self,
         alloc: Global,
         number: u64,
         subscriber: u64,
+        place: usize,
         limit: usize,
     ) -> Option<Result<usize, AllocError>>
         ensures { AttachesTo number subscriber limit self.old result self.new }
     {
         let port = self.get_mut(number)?;
         let most = port.sender.most_waiting();
-        Some(port.attach(alloc, subscriber, limit.min(most)))
+        Some(port.attach(alloc, subscriber, place, limit.min(most)))
     }
 
     /// Detaches the subscriber, which was listed at `place` and is closed, from a connection of the publisher with this number.
@@ -190,22 +196,7 @@ impl<T: Copy, U: Copy> Publishers<T, U> {
         ensures { result ≡ min (living_publishers owner self.now) (2 ^ 64 - 1) }
     {
         let now = share_in(&self.ports, self.census.lent());
-        match self.census.told(owner, now) {
-            Some(count) => count,
-            None => self.count_living(owner),
-        }
-    }
-
-    // How much of the owner is alive, or of all if no owner is named, counted one by one.
-    fn count_living(&self, owner: Option<u64>) -> u64
-        ensures { result ≡ min (living_publishers owner self.now) (2 ^ 64 - 1) }
-    {
-        let mut count = 0;
-        for (_number, port) in self.iter() {
-            let living = counted(owner, port.owner.number, living_of_publisher(port));
-            count = add(count, living);
-        }
-        count
+        self.census.told(owner, now)
     }
 
     // Whether the publisher with this number is over.
@@ -238,21 +229,28 @@ impl<T: Copy, U: Copy> Publishers<T, U> {
         ensures answer { result ≡ is_some (place_of slot (connection_in number index self.old)) }
         ensures new { self.new ≡ released number index (place_of slot (connection_in number index self.old)) self.old }
     {
-        if !self.give_back_there(number, index, slot) {
+        let Some(stands) = self.give_back_there(number, index, slot) else {
             return false;
+        };
+        // An open publisher isn't over.
+        if !stands {
+            self.settle(number);
         }
-        self.settle(number);
         true
     }
 
-    // Releases the first message in this slot that is borrowed from a connection of the publisher with this number.
-    fn give_back_there(&mut self, number: u64, index: usize, slot: usize) -> bool
-        ensures answer { result ≡ is_some (place_of slot (connection_in number index self.old)) }
+    // Releases the first message in this slot that is borrowed from a connection of the publisher with this number, and answers whether
+    // that publisher is open; None, and nothing has changed, if no such message is borrowed.
+    fn give_back_there(&mut self, number: u64, index: usize, slot: usize) -> Option<bool>
+        ensures answer { is_some result ≡ is_some (place_of slot (connection_in number index self.old)) }
+        ensures stands { IfSome result (λ stands. stands ≡ stands_in number self.new) }
         ensures new { self.new ≡ changed number (given_back_at index (place_of slot (connection_in number index self.old))) self.old }
     {
-        match self.get_mut(number) {
-            Some(port) => give_back_at(port, index, slot),
-            None => false,
+        let port = self.get_mut(number)?;
+        if give_back_at(port, index, slot) {
+            Some(port.stands)
+        } else {
+            None
         }
     }
 }
@@ -311,11 +309,26 @@ fn note_lent<T: Copy, U: Copy>(
     requires { IsCensusOf publisher_share census.old ports.now }
     ensures tells { IsCensusOf publisher_share census.new ports.now }
     ensures lent { census.new.lent ≡ number }
+    ensures room { census.new.owners.room ≡ census.old.owners.room }
+{
+    if census.lent() != number {
+        note_another(census, ports, number);
+    }
+}
+
+// The same where another publisher was handed out before.
+#[inline(never)]
+fn note_another<T: Copy, U: Copy>(
+    census: &mut Census,
+    ports: &ByNumber<PublisherPort<T, U>>,
+    number: u64,
+)
+    requires { IsCensusOf publisher_share census.old ports.now }
+    ensures tells { IsCensusOf publisher_share census.new ports.now }
+    ensures lent { census.new.lent ≡ number }
+    ensures room { census.new.owners.room ≡ census.old.owners.room }
 {
     let lent = census.lent();
-    if lent == number {
-        return;
-    }
     let before = share_in(ports, lent);
     let now = share_in(ports, number);
     census.lend(before, number, now);

@@ -1,6 +1,6 @@
 //! The subscribers to which the connections of a publisher lead.
-ghost use Rattle.std.specs.Prelude.{◌≡◌, ◌<◌, ◌≤◌, length, take, set, get_or, None, [], OnErr, IfOk};
-ghost use Rattle.iox_domain_ports.specs.Places.{reached, leads_to, left, unheard, is_attached, IsUpTo};
+ghost use Rattle.std.specs.Prelude.{◌≡◌, ◌<◌, ◌≤◌, length, take, set, get_or, true, None, [], OnErr, IfOk};
+ghost use Rattle.iox_domain_ports.specs.Places.{reached, leads_to, left, unheard, is_attached, AreApart, IsFoundAt, IsNowhereElse, IsUpTo};
 ghost use Rattle.std.specs.List.{position};
 
 use crate::meeting::Meeting;
@@ -11,24 +11,27 @@ use std::marker::Model;
 /// The subscriber to which each connection leads, for each index that is reached; None if there is no connection. Memory is allocated only
 /// for indices that are reached.
 ///
-/// A subscriber whose number is higher than those of all readers so far isn't searched for.
+/// A subscriber whose number is higher than those of all readers so far isn't searched for, nor is one that reads at a likely index.
 #[derive(Drop)]
 pub struct Readers {
     items: Vec<Option<Reader>>,
     // No reader has a higher number than this.
     newest: u64,
+    // Whether no subscriber reads at two indices. Nothing that publishers do makes it false.
+    apart: bool,
 }
 
 impl Model for Readers {
-    ghost use Rattle.std.specs.Prelude.{ℕ, List, Option, get_or, None};
-    ghost use Rattle.iox_domain_ports.specs.Places.{IsUpTo};
+    ghost use Rattle.std.specs.Prelude.{◌≡◌, ℕ, List, Option, get_or, true, None};
+    ghost use Rattle.iox_domain_ports.specs.Places.{AreApart, IsUpTo};
     ghost use Rattle.iox_domain_ports.specs.declared.reader.Reader.{Reader};
 
     ghost Value = { List (Option Reader) };
 
     ghost view = { λ r. r.items.items };
 
-    ghost invariant = { λ r. (index : ℕ) → IsUpTo r.newest (get_or r.items.items index None) };
+    ghost invariant = { λ r. ((index : ℕ) → IsUpTo r.newest (get_or r.items.items index None))
+        × (r.apart ≡ true → AreApart r.items.items) };
 }
 
 impl Readers {
@@ -39,6 +42,7 @@ impl Readers {
         Readers {
             items: Vec::new(alloc),
             newest: 0,
+            apart: true,
         }
     }
 
@@ -85,17 +89,51 @@ impl Readers {
         ensures { self.new ≡ set self.old index reader }
     {
         if index < self.items.len() {
+            self.apart = self.stays_apart(index, reader);
             self.newest = newest_with(self.newest, reader);
             self.items[index] = reader;
         }
     }
 
-    /// The index of the first connection that leads to this subscriber.
-    pub fn connection_to(&self, subscriber: u64) -> Option<usize>
+    // Whether no subscriber reads at two indices, once this reader is put at this index.
+    fn stays_apart(&self, index: usize, reader: Option<Reader>) -> bool
+        requires { index < length self.now }
+        ensures { result ≡ true → AreApart (set self.now index reader) }
+    {
+        match reader {
+            None => self.apart,
+            Some(reader) => self.apart && self.is_nowhere_else(index, reader.subscriber),
+        }
+    }
+
+    // Whether this subscriber reads at no other index, if no subscriber reads at two.
+    fn is_nowhere_else(&self, index: usize, subscriber: u64) -> bool
+        ensures { result ≡ true → AreApart self.now → IsNowhereElse index subscriber self.now }
+    {
+        Reader::leads_to(self.get(index), subscriber)
+            || self.connection_to(subscriber, None).is_none()
+    }
+
+    // Whether no subscriber reads at two indices, and this one at this index.
+    fn is_surely_at(&self, index: Option<usize>, subscriber: u64) -> bool
+        ensures { result ≡ true → IsFoundAt index subscriber self.now }
+    {
+        match index {
+            Some(index) => self.apart && Reader::leads_to(self.get(index), subscriber),
+            None => false,
+        }
+    }
+
+    /// The index of the first connection that leads to this subscriber. The index `likely` is examined first: nothing is searched if the
+    /// subscriber reads there.
+    pub fn connection_to(&self, subscriber: u64, likely: Option<usize>) -> Option<usize>
         ensures { result ≡ position (leads_to subscriber) self.now }
     {
         if self.newest < subscriber {
             return None;
+        }
+        if self.is_surely_at(likely, subscriber) {
+            return likely;
         }
         self.items
             .iter()

@@ -28,7 +28,8 @@ impl SubscriberPort {
     ) -> bool
         ensures { result ≡ lacks_at place number self.now publishers.now }
     {
-        self.places.get(place).is_none() && publishers.lacks_connection(number, self.number)
+        self.places.get(place).is_none()
+            && publishers.lacks_connection(number, self.number, self.place)
     }
 
     // Follows a place if it lists a publisher. If the list is as it was, no connection is made at a place that has none.

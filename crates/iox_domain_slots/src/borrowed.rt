@@ -117,8 +117,10 @@ impl Borrowed {
         ensures { self.new ≡ record self.old { items = remove self.old.items (place_in slot self.old.items) } }
     {
         self.take_out(slot);
-        self.examine();
-        self.examine();
+        if self.order.len() > 0 {
+            self.examine();
+            self.examine();
+        }
     }
 
     // Removes the oldest borrowed slot with this number.
@@ -201,8 +203,38 @@ fn cell_of(cells: usize, slot: u64, step: usize) -> usize
     }
 }
 
-// The first cell within reach that contains a slot with this number.
+// The first cell within reach that contains a slot with this number. Most slots lie in the cell that their number names.
 fn near(order: &Loans, slots: &[u64], cells: usize, slot: u64, reach: usize) -> Option<usize>
+    requires made { order.now.made ≡ length slots.now }
+    requires reach { reach < cells }
+    ensures taken { IfSome result (λ cell. is_among cell order.now.items ≡ true) }
+    ensures same { IfSome result (λ cell. get_or slots.now cell 0 ≡ slot) }
+    ensures none { IfNone result ((step : ℕ) → step ≤ reach → is_among (cell_of cells slot step) order.now.items ≡ true
+        → get_or slots.now (cell_of cells slot step) 0 ≡ slot → ⊥) }
+{
+    let home = cell_of(cells, slot, 0);
+    if contains(order, slots, home, slot) {
+        return Some(home);
+    }
+    if reach == 0 {
+        return None;
+    }
+    near_behind(order, slots, cells, slot, reach)
+}
+
+// Whether this cell is taken, by a slot with this number.
+fn contains(order: &Loans, slots: &[u64], cell: usize, slot: u64) -> bool
+    requires { order.now.made ≡ length slots.now }
+    ensures taken { result ≡ true → is_among cell order.now.items ≡ true }
+    ensures same { result ≡ true → get_or slots.now cell 0 ≡ slot }
+    ensures none { result ≡ false → is_among cell order.now.items ≡ true → get_or slots.now cell 0 ≡ slot → ⊥ }
+{
+    order.has(cell) && slots[cell] == slot
+}
+
+// The same as `near`, step by step.
+#[inline(never)]
+fn near_behind(order: &Loans, slots: &[u64], cells: usize, slot: u64, reach: usize) -> Option<usize>
     requires made { order.now.made ≡ length slots.now }
     requires reach { reach < cells }
     ensures taken { IfSome result (λ cell. is_among cell order.now.items ≡ true) }
@@ -303,6 +335,20 @@ fn further(cells: usize, reach: usize, step: usize) -> usize
 
 // How many steps the first free cell lies after the one that a slot's number names.
 fn free_step(order: &Loans, cells: usize, slot: u64) -> usize
+    requires { length order.now.items < cells }
+    ensures within { result < cells }
+    ensures free { is_among (cell_of cells slot result) order.now.items ≡ false }
+{
+    if order.has(cell_of(cells, slot, 0)) {
+        free_step_behind(order, cells, slot)
+    } else {
+        0
+    }
+}
+
+// The same, where that cell isn't free.
+#[inline(never)]
+fn free_step_behind(order: &Loans, cells: usize, slot: u64) -> usize
     requires { length order.now.items < cells }
     ensures within { result < cells }
     ensures free { is_among (cell_of cells slot result) order.now.items ≡ false }

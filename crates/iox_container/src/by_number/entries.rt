@@ -22,6 +22,17 @@ pub(crate) fn entry_of<X>(entries: &[(u64, Option<Box<X>>)], number: u64) -> Opt
     if place < entries.len() && entries[place].0 == number {
         return Some(place);
     }
+    entry_behind(entries, number)
+}
+
+// The place of a number's entry, if it has one, where it isn't the distance from the first number.
+#[inline(never)]
+fn entry_behind<X>(entries: &[(u64, Option<Box<X>>)], number: u64) -> Option<usize>
+    requires { IsStrictlySortedBy nat_cmp (keys_of entries.now) }
+    ensures within { IfSome result (λ place. place < length entries.now) }
+    ensures found { IfSome result (λ place. HoldsAt (λ entry. entry.0 ≡ number) entries.now place) }
+    ensures none { IfNone result (lookup (is_at (nat_cmp number)) (values_in entries.now) ≡ None) }
+{
     let behind = entries.last()?.0.wrapping_sub(number) as usize;
     let place = (entries.len() - 1).wrapping_sub(behind);
     if place < entries.len() && entries[place].0 == number {
@@ -40,6 +51,17 @@ pub(crate) fn near<X>(entries: &[(u64, Option<Box<X>>)], number: u64, likely: us
     if likely < entries.len() && entries[likely].0 == number {
         return likely;
     }
+    sought(entries, number)
+}
+
+// The place of a number's entry, which is searched.
+#[inline(never)]
+fn sought<X>(entries: &[(u64, Option<Box<X>>)], number: u64) -> usize
+    requires rises { IsStrictlySortedBy nat_cmp (keys_of entries.now) }
+    requires there { HasValue number (values_in entries.now) }
+    ensures within { result < length entries.now }
+    ensures found { HoldsAt (λ entry. entry.0 ≡ number) entries.now result }
+{
     match search_of(entries, number) {
         Ok(found) => found,
         Err(_) => unreachable!(),
@@ -54,6 +76,19 @@ fn search_of<X>(entries: &[(u64, Option<Box<X>>)], number: u64) -> Result<usize,
     entries.binary_search_by_key(&number, |entry| entry.0)
 }
 
+// As by a search, but a number above all others isn't looked for: its place is behind the last one.
+fn place_for<X>(entries: &[(u64, Option<Box<X>>)], number: u64) -> Result<usize, usize>
+    requires { IsStrictlySortedBy nat_cmp (keys_of entries.now) }
+    ensures bound { IsSearchInRange result (length entries.now) }
+    ensures position { IsBinarySearchResult (λ entry. nat_cmp entry.0 number) entries.now result }
+{
+    let len = entries.len();
+    if len == 0 || entries[len - 1].0 < number {
+        return Err(len);
+    }
+    search_of(entries, number)
+}
+
 /// Gives a number the value in a box, and drops the value that the number had. There is capacity for one more entry.
 pub(crate) fn put_in<X: Drop>(entries: &mut Vec<(u64, Option<Box<X>>)>, number: u64, boxed: Box<X>)
     requires rises { IsStrictlySortedBy nat_cmp (keys_of entries.old.items) }
@@ -61,7 +96,7 @@ pub(crate) fn put_in<X: Drop>(entries: &mut Vec<(u64, Option<Box<X>>)>, number: 
     ensures rises { IsStrictlySortedBy nat_cmp (keys_of entries.new.items) }
     ensures values { values_in entries.new.items ≡ insert_entry nat_cmp (values_in entries.old.items) number boxed.value }
 {
-    match search_of(entries, number) {
+    match place_for(entries, number) {
         Ok(place) => entries[place].1 = Some(boxed),
         Err(place) => {
             // There is capacity for it.

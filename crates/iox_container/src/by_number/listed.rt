@@ -21,7 +21,8 @@ use std::mem;
 /// Contracts see the values with their numbers, by rising number.
 ///
 /// A number is found in one step while no number is missing between the first one and it, or between it and the last one, else by a binary
-/// search. A removed value leaves its entry behind, so that no entry moves. Such entries go once a value comes and the list is full.
+/// search; a value that comes with a number above all others is put at the end without one. A removed value leaves its entry behind, so
+/// that no entry moves. Such entries go once a value comes and the list is full.
 ///
 /// Not in `iceoryx2`.
 #[derive(Drop)]
@@ -105,14 +106,39 @@ impl<X: Drop> ByNumber<X> {
     pub fn get(&self, number: u64) -> Option<&X>
         ensures { option_copied result ≡ lookup (is_at (nat_cmp number)) self.now }
     {
-        match self.place(number) {
-            Some(place) => Some(self.at(number, place)),
+        let place = entry_of(&self.entries, number)?;
+        match &self.entries[place].1 {
+            Some(boxed) => Some(boxed),
             None => None,
         }
     }
 
     /// The value of a number, if it has one, to be changed in its place.
     pub fn get_mut(&mut self, number: u64) -> Option<&mut X>
+        ensures* writes_back { sem 𝓛 (LendsUnder X.row self.entry number result) }
+        ensures value { option_copied_mut result ≡ lookup (is_at (nat_cmp number)) self.old }
+    {
+        let place = number.wrapping_sub(self.entries.first()?.0) as usize;
+        if self.has_at(number, place) {
+            return Some(self.at_mut(number, place));
+        }
+        self.get_mut_behind(number)
+    }
+
+    // Whether the number has a value, and this is its place.
+    fn has_at(&self, number: u64, place: usize) -> bool
+        ensures { result ≡ true → HasValue number self.now }
+    {
+        if place >= self.entries.len() {
+            return false;
+        }
+        let entry = &self.entries[place];
+        entry.0 == number && entry.1.is_some()
+    }
+
+    // As `get_mut`, where the place of the number isn't its distance from the first number.
+    #[inline(never)]
+    fn get_mut_behind(&mut self, number: u64) -> Option<&mut X>
         ensures* writes_back { sem 𝓛 (LendsUnder X.row self.entry number result) }
         ensures value { option_copied_mut result ≡ lookup (is_at (nat_cmp number)) self.old }
     {
@@ -178,7 +204,7 @@ impl<X: Drop> ByNumber<X> {
         })
     }
 
-    /// Removes the value of a number. The other numbers keep theirs.
+    /// Removes the value of a number; nothing changes if it has none. The other numbers keep their values.
     pub fn remove(&mut self, number: u64)
         ensures new { self.new ≡ remove_entry (is_at (nat_cmp number)) self.old }
         ensures gone { lookup (is_at (nat_cmp number)) self.new ≡ None }

@@ -1,5 +1,5 @@
 //! A publisher loans a slot, what is to be sent is written there, and a loan is dropped.
-ghost use Rattle.std.specs.Prelude.{◌≡◌, ℕ, length, is_some, None, option_copied, option_map};
+ghost use Rattle.std.specs.Prelude.{◌≡◌, ℕ, length, is_some, true, None, IsSome, option_copied, option_map};
 ghost use Rattle.std.specs.Borrow.{sem};
 ghost use Rattle.std.specs.Option.{option_copied_mut};
 ghost use Rattle.iox_domain_ports.specs.Messages.{write_value, write_all, write_user_header};
@@ -33,10 +33,9 @@ impl<T: Copy, U: Copy> ServicePorts<T, U> {
     ) -> Option<Result<usize, LoanError>>
         ensures { AtPublisher number (LoansOne values elements) (port_of number self.old.publishers) self.old result self.new }
     {
+        // An open publisher isn't over, whatever it lends, so that isn't checked.
         let port = self.publishers.get_mut(number)?;
-        let lent = loan_one(port, alloc, values, elements, blank)?;
-        self.publishers.settle(number);
-        Some(lent)
+        loan_one(port, alloc, values, elements, blank)
     }
 
     /// Writes a value at this place of the loan in this slot; answers whether the publisher has such a loan with this place.
@@ -209,6 +208,7 @@ impl<T: Copy, U: Copy> ServicePorts<T, U> {
 }
 
 // An open publisher loans a slot.
+#[tactic(auto, using(crate::proofs::Putting::lends_stand))]
 fn loan_one<T: Copy, U: Copy>(
     port: &mut PublisherPort<T, U>,
     alloc: Global,
@@ -218,6 +218,7 @@ fn loan_one<T: Copy, U: Copy>(
 ) -> Option<Result<usize, LoanError>>
     ensures loans { LoansOne values elements port.old result port.new }
     ensures none { result ≡ None → port.new ≡ port.old }
+    ensures stands { IsSome result → port.new.stands ≡ true }
 {
     if !port.stands {
         return None;

@@ -47,8 +47,12 @@ impl<T: Copy, U: Copy> ServicePorts<T, U> {
             self.old.subscriber_list slot) (port_of number self.old.publishers) self.old result self.new }
     {
         let port = self.publishers.get_mut(number)?;
+        let stands = port.stands;
         let outcome = send_one(port, alloc, slot, &self.subscriber_list, handlers)?;
-        self.publishers.settle(number);
+        // An open publisher isn't over, whatever it sends.
+        if !stands {
+            self.publishers.settle(number);
+        }
         Some(outcome)
     }
 
@@ -132,6 +136,7 @@ pub(crate) fn send_one<T: Copy, U: Copy, B: Decides + Degrades>(
     ensures sends { SendsOne (B.degrades handlers.now cause.FailedToEstablishConnection) (B.decides handlers.now) list.now slot port.old
         result port.new }
     ensures none { result ≡ None → port.new ≡ port.old }
+    ensures stands { port.new.stands ≡ port.old.stands }
 {
     port.send(alloc, slot, list.listed(), list.changes(), handlers)
 }

@@ -9,7 +9,7 @@ ghost use Rattle.iox_domain.specs.Subscribers.{subscriber_of, with_subscriber, s
 
 use iox_container::ByNumber;
 use iox_container::by_number::iter::Iter;
-use iox_domain_ports::living::{add, counted, living_of_subscriber};
+use iox_domain_ports::living::living_of_subscriber;
 use iox_domain_ports::{Census, Share, SubscriberPort};
 use std::alloc::{AllocError, Global};
 use std::marker::Model;
@@ -89,6 +89,7 @@ impl Subscribers {
         ensures err { OnErr result (self.new ≡ self.old) }
     {
         note_lent(&mut self.census, &self.ports, number);
+        self.census.make_room(self.ports.len())?;
         let share = share_of(&port);
         let before = self.ports.insert(number, port)?;
         drop(before);
@@ -113,22 +114,7 @@ impl Subscribers {
         ensures { result ≡ min (living_subscribers owner self.now) (2 ^ 64 - 1) }
     {
         let now = share_in(&self.ports, self.census.lent());
-        match self.census.told(owner, now) {
-            Some(count) => count,
-            None => self.count_living(owner),
-        }
-    }
-
-    // How much of the owner is alive, or of all if no owner is named, counted one by one.
-    fn count_living(&self, owner: Option<u64>) -> u64
-        ensures { result ≡ min (living_subscribers owner self.now) (2 ^ 64 - 1) }
-    {
-        let mut count = 0;
-        for (_number, port) in self.iter() {
-            let living = counted(owner, port.owner.number, living_of_subscriber(port));
-            count = add(count, living);
-        }
-        count
+        self.census.told(owner, now)
     }
 
     // Whether the subscriber with this number is over.
@@ -167,11 +153,22 @@ fn note_lent(census: &mut Census, ports: &ByNumber<SubscriberPort>, number: u64)
     requires { IsCensusOf subscriber_share census.old ports.now }
     ensures tells { IsCensusOf subscriber_share census.new ports.now }
     ensures lent { census.new.lent ≡ number }
+    ensures room { census.new.owners.room ≡ census.old.owners.room }
+{
+    if census.lent() != number {
+        note_another(census, ports, number);
+    }
+}
+
+// The same where another subscriber was handed out before.
+#[inline(never)]
+fn note_another(census: &mut Census, ports: &ByNumber<SubscriberPort>, number: u64)
+    requires { IsCensusOf subscriber_share census.old ports.now }
+    ensures tells { IsCensusOf subscriber_share census.new ports.now }
+    ensures lent { census.new.lent ≡ number }
+    ensures room { census.new.owners.room ≡ census.old.owners.room }
 {
     let lent = census.lent();
-    if lent == number {
-        return;
-    }
     let before = share_in(ports, lent);
     let now = share_in(ports, number);
     census.lend(before, number, now);

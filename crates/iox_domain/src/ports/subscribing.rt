@@ -92,27 +92,24 @@ impl<T: Copy, U: Copy> ServicePorts<T, U> {
     pub fn release(&mut self, number: u64, sample: Taken) -> bool
         ensures { Releases number sample self.old result self.new }
     {
-        if sample.subscriber != number || self.subscribers.get(number).is_none() {
+        if sample.subscriber != number {
             return false;
         }
+        let Some(port) = self.subscribers.get_mut(number) else {
+            return false;
+        };
         if !self
             .publishers
             .give_back(sample.publisher, sample.index, sample.slot)
         {
             return false;
         }
-        self.let_go(number);
-        true
-    }
-
-    // Counts one sample less that the subscriber holds; a subscriber that is over then is removed.
-    fn let_go(&mut self, number: u64)
-        ensures { self.new ≡ let_go number self.old }
-    {
-        if let Some(port) = self.subscribers.get_mut(number) {
-            port.held = port.held.saturating_sub(1);
+        port.held = port.held.saturating_sub(1);
+        // An open subscriber isn't over.
+        if !port.stands {
+            self.subscribers.settle(number);
         }
-        self.subscribers.settle(number);
+        true
     }
 
     /// Closes the subscriber: it is removed from the list and receives no more. Samples that it holds can still be read and

@@ -24,4 +24,4 @@ none_found subscriber readers none = at (position (leads_to subscriber) readers)
 pub returns-then-self-subscriber : goal.returns-then-self-subscriber
 returns-then-self-subscriber c = rw (← c.self.view_is) (sym (none_found c.args.subscriber c.self.inside.items.items
     (λ index. other_leads c.args.subscriber c.self.inside.newest (get_or c.self.inside.items.items index None)
-    c.if-self-subscriber.true (c.self.invariant index))))
+    c.if-self-subscriber.true (c.self.invariant.0 index))))

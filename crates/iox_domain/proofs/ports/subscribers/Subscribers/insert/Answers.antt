@@ -1,11 +1,37 @@
+use Rattle.std.proofs.Common.{arith, ◌<◌, ◌∙◌, length, ap}
 use Rattle.iox_domain_ports.specs.Census.{subscriber_share}
-use Rattle.iox_domain_ports.proofs.Tallied.{added_told}
+use Rattle.iox_domain_ports.proofs.Tallied.{added_told, subscriber_small, roomier_told, roomy_next}
 use Rattle.iox_domain.proofs.ports.subscribers.Subscribers.insert.Goals as goal
+
+pub invariant_of-self : goal.invariant_of-self
+invariant_of-self c =
+    roomier_told subscriber_share c.note_lent.new.census c.make_room.new.self c.self.inside.ports c.note_lent.ensures.tells
+    c.make_room.ensures.counts c.make_room.ensures.grows
+
+pub invariant_of-self-in_err-before : goal.invariant_of-self-in_err-before
+invariant_of-self-in_err-before c =
+    let roomier = roomier_told subscriber_share c.note_lent.new.census c.make_room.new.self c.self.inside.ports c.note_lent.ensures.tells
+    c.make_room.ensures.counts c.make_room.ensures.grows in
+    rw c.in_err-before.ensures.err roomier
+
+pub note-requires : goal.note-requires
+note-requires c =
+    let roomier = roomier_told subscriber_share c.note_lent.new.census c.make_room.new.self c.self.inside.ports c.note_lent.ensures.tells
+    c.make_room.ensures.counts c.make_room.ensures.grows in
+    let small = subscriber_small c.args.port in
+    let room : length c.self.inside.ports < c.make_room.new.self.owners.room
+    = omega (arith, c.in_ok-make_room.ensures.room, c.len.ensures) in
+    roomy_next subscriber_share c.make_room.new.self c.self.inside.ports c.share_of-share.result subscriber_small roomier
+    (omega (arith, small, ap (λ share. share.count) c.share_of-share.ensures)) room
 
 pub invariant_of-self-2 : goal.invariant_of-self-2
 invariant_of-self-2 c =
-    added_told subscriber_share c.args.number c.note_lent.new.census c.note.new.self c.self.inside.ports
+    let roomier = roomier_told subscriber_share c.note_lent.new.census c.make_room.new.self c.self.inside.ports c.note_lent.ensures.tells
+    c.make_room.ensures.counts c.make_room.ensures.grows in
+    let room : length c.self.inside.ports < c.make_room.new.self.owners.room
+    = omega (arith, c.in_ok-make_room.ensures.room, c.len.ensures) in
+    added_told subscriber_share c.args.number c.make_room.new.self c.note.new.self c.self.inside.ports
     c.insert.new.self c.args.port c.share_of-share.result c.in_ok-before.ensures.rises
-    c.note_lent.ensures.tells c.note_lent.ensures.lent
-    c.share_of-share.ensures c.note.ensures.held c.note.ensures.counts c.note.ensures.lent c.note.ensures.noted
+    roomier (ap (λ census. census.lent) c.make_room.ensures.counts ∙ c.note_lent.ensures.lent)
+    c.share_of-share.ensures room c.note.ensures.counts c.note.ensures.room c.note.ensures.lent c.note.ensures.noted
     c.in_ok-before.ensures.ok c.in_ok-before.ensures.there
