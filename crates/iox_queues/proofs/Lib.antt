@@ -1,5 +1,5 @@
 pub mod Single
-pub mod Pops
+pub mod Accesses
 pub mod Knowing
 pub mod Balance
 pub mod OwnSteps

@@ -1,7 +1,10 @@
 //! Pushes and pops on shared words. Each is one run of its call: it makes the accesses that the call requests, in that order, and no
 //! others.
+//!
+//! The accesses of the queue that overflows are written out, since a compiler keeps a loop over so many stages as a loop.
 ghost use Rattle.std.specs.Prelude.{◌≡◌, ◌+◌, ◌-◌, ◌^◌, ◌<◌, ℕ, List, length, true, false, Some};
 ghost use Rattle.iox_queues.specs.QueuesSteps.Runs.{Runs};
+ghost use Rattle.iox_queues_steps.specs.Access.{successor};
 ghost use Rattle.iox_queues_steps.specs.Overflowing as overflowing;
 ghost use Rattle.iox_queues_steps.specs.Refusing as refusing;
 ghost use Rattle.iox_queues_steps.specs.declared.rings.overflowing.push.Push.TheVariants as overflowing_push;
@@ -16,9 +19,9 @@ ghost use Rattle.iox_queues.specs.declared.shared.single.Loading.TheVariants as 
 use super::LOST_TURNS;
 use super::single::{Loading, Storing};
 use iox_queues_steps::end::run;
-use iox_queues_steps::rings::overflowing::{Pop as OverflowingPop, Push as OverflowingPush};
+use iox_queues_steps::rings::overflowing::Pop as OverflowingPop;
 use iox_queues_steps::rings::refusing::{Pop as RefusingPop, Push as RefusingPush};
-use iox_queues_steps::{End, Memory, PushAnswer};
+use iox_queues_steps::{Access, End, Memory, PushAnswer, Word};
 
 /// Appends the number and returns true, or returns false if `limit` numbers wait. It makes at most four accesses.
 #[inline(always)]
@@ -59,13 +62,21 @@ pub(crate) fn push_overflowing<M: Memory>(memory: &mut M, limit: u64, value: u64
         (overflowing_push.Begun limit value) memory.new end
         × (overflowing.push_is_over end ≡ false → length given ≡ 6) × (result ≡ left_by end) }
 {
-    match run(OverflowingPush::begin(limit, value), memory, 6) {
-        OverflowingPush::Pushed {
-            answer: PushAnswer::LeftOut(oldest),
-            ..
-        } => Some(oldest),
-        _ => None,
+    let write = memory.apply(Access::Load(Word::Write));
+    let read = memory.apply(Access::Load(Word::Read));
+    memory.apply(Access::Store(Word::Cell(write), value));
+    let next = write.saturating_add(1);
+    memory.apply(Access::Store(Word::Write, next));
+    if next.saturating_sub(read) <= limit {
+        return None;
     }
+    let oldest = memory.apply(Access::Load(Word::Cell(read)));
+    let found = memory.apply(Access::Exchange(Word::Read, read, read.saturating_add(1)));
+    if found == read {
+        return Some(oldest);
+    }
+    // A pop removed the oldest number meanwhile.
+    None
 }
 
 /// Removes the oldest number and returns it; `None` if no number waits, or after 2^20 lost exchanges. It loads both positions, then each
@@ -77,59 +88,36 @@ pub(crate) fn pop_overflowing<M: Memory>(memory: &mut M) -> Option<u64>
         memory.new end
         × (overflowing.pop_is_over end ≡ false → length given ≡ 2 ^ 21 + 2) × (result ≡ taken end) }
 {
-    let first = first_turn(memory);
-    if first.is_over() {
-        return answer_of(first);
+    let read = memory.apply(Access::Load(Word::Read));
+    let write = memory.apply(Access::Load(Word::Write));
+    if write == read {
+        return None;
     }
-    answer_of(later_turns(first, memory))
+    let value = memory.apply(Access::Load(Word::Cell(read)));
+    let found = memory.apply(Access::Exchange(Word::Read, read, read.saturating_add(1)));
+    if found == read {
+        return Some(value);
+    }
+    later_turns(found, memory)
 }
 
-// The result of the pop; `None` if its tries were used up.
-#[inline(always)]
-fn answer_of(end: OverflowingPop) -> Option<u64>
-    ensures { result ≡ taken end }
+// The tries after a lost exchange, which found the read position to be `read`.
+#[cold]
+#[inline(never)]
+fn later_turns<M: Memory>(read: u64, memory: &mut M) -> Option<u64>
+    ensures { (given : List ℕ) × (end : _)
+        × Runs M.answers overflowing.pop_next overflowing.pop_take overflowing.pop_is_over given memory.old
+        (overflowing_pop.Nonempty read (successor read)) memory.new end
+        × (overflowing.pop_is_over end ≡ false → length given ≡ 2 ^ 21 - 2) × (result ≡ taken end) }
 {
-    match end {
+    let lost = OverflowingPop::Nonempty {
+        read,
+        next: read.saturating_add(1),
+    };
+    match run(lost, memory, 2 * LOST_TURNS - 2) {
         OverflowingPop::Popped { got } => got,
         _ => None,
     }
-}
-
-// The accesses of a pop up to its first exchange. They are written out, since a compiler keeps a
-// loop over stages where the loop may go on for long.
-#[inline(always)]
-fn first_turn<M: Memory>(memory: &mut M) -> OverflowingPop
-    ensures { (given : List ℕ)
-        × Runs M.answers overflowing.pop_next overflowing.pop_take overflowing.pop_is_over given memory.old overflowing_pop.Begun
-        memory.new result
-        × (overflowing.pop_is_over result ≡ false → length given ≡ 4) }
-{
-    let read = step(OverflowingPop::begin(), memory);
-    let seen = step(read, memory);
-    if seen.is_over() {
-        return seen;
-    }
-    let cell = step(seen, memory);
-    step(cell, memory)
-}
-
-// Further tries, after other ends won each exchange so far.
-#[cold]
-fn later_turns<M: Memory>(lost: OverflowingPop, memory: &mut M) -> OverflowingPop
-    ensures { (given : List ℕ)
-        × Runs M.answers overflowing.pop_next overflowing.pop_take overflowing.pop_is_over given memory.old lost memory.new result
-        × (overflowing.pop_is_over result ≡ false → length given ≡ 2 ^ 21 - 2) }
-{
-    run(lost, memory, 2 * LOST_TURNS - 2)
-}
-
-// Makes the next access.
-#[inline(always)]
-fn step<E: End, M: Memory>(stage: E, memory: &mut M) -> E
-    ensures { (answer : ℕ) × M.answers memory.old (E.asks stage) answer memory.new × (result ≡ E.takes stage answer) }
-{
-    let answer = memory.apply(stage.next());
-    stage.take(answer)
 }
 
 /// Stores the value that the memory holds, in three accesses.

@@ -1,20 +1,17 @@
-use Rattle.std.proofs.Common.{◌++◌, sym, ◌∙◌, arith, length-append}
-use Rattle.iox_queues_steps.specs.declared.rings.overflowing.pop.Pop.TheVariants as pop
-use Rattle.iox_queues.proofs.Pops.{joined}
+use Rattle.iox_queues.proofs.Accesses.{emptied, retried, took}
 use Rattle.iox_queues.proofs.shared.calls.pop_overflowing.Goals as goal
 
+pub returns-then-write-read : goal.returns-then-write-read
+returns-then-write-read g c =
+    emptied g.M.Memory.answers _ _ _ _ _ c.apply-read.ensures c.apply-write.ensures c.if-write-read.true
+
+pub returns-then-found-read : goal.returns-then-found-read
+returns-then-found-read g c =
+    took g.M.Memory.answers _ _ _ _ _ c.apply-read.ensures c.apply-write.ensures c.if-write-read.false _ _ _ _ _ c.apply-value.ensures
+    c.saturating_add.ensures c.apply-found.ensures c.if-found-read.true
+
 pub returns : goal.returns
-returns g c = (
-  c.first_turn-first.ensures.0 ++ c.later_turns.ensures.0,
-  c.later_turns.result,
-  joined g.M.Memory.answers c.first_turn-first.ensures.0 c.later_turns.ensures.0 c.args.memory.now pop.Begun
-      c.first_turn-first.new.memory c.first_turn-first.result c.later_turns.new.memory c.later_turns.result c.first_turn-first.ensures.1
-      c.later_turns.ensures.1,
-  λ more. omega (
-    arith,
-    length-append c.first_turn-first.ensures.0 c.later_turns.ensures.0,
-    c.later_turns.ensures.2 more,
-    c.first_turn-first.ensures.2 (sym c.is_over.ensures ∙ c.if-is_over.false),
-  ),
-  c.answer_of-2.ensures,
-)
+returns g c =
+    let later = c.later_turns.ensures in
+    retried g.M.Memory.answers _ _ _ _ _ c.apply-read.ensures c.apply-write.ensures c.if-write-read.false _ _ _ _ _ c.apply-value.ensures
+    c.saturating_add.ensures c.apply-found.ensures c.if-found-read.false later.0 later.1 _ _ later.2 later.3 later.4
