@@ -341,7 +341,7 @@ module _ {T U : Type 0} (types : MessageTypeDetails) (choices : Choices T) (buff
         first_boxes = record {
           live = λ index live. never_true live;
           ended = λ index is. absurd (cc);
-          quiet = λ index is. refl;
+          quiet = λ index is. absurd (cc);
           others = λ other joins box is. never_some box (sym (no_box other) ∙ is);
           none = λ other joins standing subscriber is stands. no_box other;
           known = λ index there. never_true there;

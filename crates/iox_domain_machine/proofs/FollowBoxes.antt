@@ -10,7 +10,7 @@ use Rattle.iox_domain.specs.DomainPorts.declared.reader.Reader.{Reader}
 use Rattle.iox_domain.specs.DomainSlots.Counting.{times}
 use Rattle.iox_domain.specs.DomainSlots.Uses.{Connection, held_by, is_open, is_there}
 use Rattle.iox_domain.specs.DomainSlots.declared.stage.Stage.TheVariants as stage
-use Rattle.iox_domain_machine.specs.Mailboxes.{MailboxesStandFor, JoinsNobody, times_held}
+use Rattle.iox_domain_machine.specs.Mailboxes.{IsOnlyHeld, MailboxesStandFor, JoinsNobody, times_held}
 use Rattle.iox_domain_machine.specs.Naming.{message_as, mailbox_as}
 use Rattle.iox_domain_machine.proofs.Found.{never_some}
 use Rattle.iox_domain_machine.proofs.ReleasePort.{live_open}
@@ -32,7 +32,7 @@ pub record StandsAt {T U : Type 0} (name subscriber_name : ℕ → ℕ) (port : 
   pub ended : (connection_of index port).stage ≡ stage.Ended
       → (one : Mailbox T) × (box ≡ Some one) × (one.borrowed ≡ map (message_as name) (connection_of index port).borrowed)
       × (one.waiting ≡ []) × ((whose : Subscriber) → at its_name subscribers ≡ Some whose → whose.stands ≡ false)
-  pub quiet : (connection_of index port).stage ≡ stage.Ended → (connection_of index port).waiting ≡ []
+  pub quiet : (connection_of index port).stage ≡ stage.Ended → IsOnlyHeld (connection_of index port)
   pub gone : is_there (connection_of index port) ≡ false → (one : Mailbox T) → box ≡ Some one
       → (one.borrowed ≡ []) × (one.waiting ≡ [])
   pub none : is_there (connection_of index port) ≡ false → (whose : Subscriber) → at its_name subscribers ≡ Some whose
@@ -155,10 +155,10 @@ module _ {T U : Type 0} (name subscriber_name reader new_reader : ℕ → ℕ) (
         box_same other off (live_open (connection_of other port).stage was) ∙ boxes.live other was
         ∙ ap (λ (one : Connection (Message T U)). Some (mailbox_as name one)) (sym (change.elsewhere other off)));
     ended = ended;
-    quiet = everywhere (λ other. (connection_of other after).stage ≡ stage.Ended → (connection_of other after).waiting ≡ []) index
+    quiet = everywhere (λ other. (connection_of other after).stage ≡ stage.Ended → IsOnlyHeld (connection_of other after)) index
         here.quiet
-        (λ other off is. ap (λ (one : Connection (Message T U)). one.waiting) (change.elsewhere other off)
-        ∙ boxes.quiet other (ap (λ (one : Connection (Message T U)). one.stage) (sym (change.elsewhere other off)) ∙ is));
+        (λ other off is. subst (λ (one : Connection (Message T U)). IsOnlyHeld one) (sym (change.elsewhere other off))
+        (boxes.quiet other (ap (λ (one : Connection (Message T U)). one.stage) (sym (change.elsewhere other off)) ∙ is)));
     others = others;
     none = none;
     known = everywhere (λ other. is_there (connection_of other after) ≡ true → is_some (at (new_reader other) subscribers) ≡ true) index

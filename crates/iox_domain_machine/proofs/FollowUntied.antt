@@ -21,12 +21,13 @@ use Rattle.iox_domain.specs.DomainSlots.Counting.{times}
 use Rattle.iox_domain.specs.DomainSlots.Uses.{Connection, nobody, ended, held_by, is_there}
 use Rattle.iox_domain.specs.DomainSlots.declared.stage.Stage.TheVariants as stage
 use Rattle.iox_domain.specs.PortLawsLaws.{IsTiedWell}
-use Rattle.iox_domain_machine.specs.Mailboxes.{MailboxesStandFor, times_held}
+use Rattle.iox_domain_machine.specs.Mailboxes.{IsOnlyHeld, MailboxesStandFor, times_held}
 use Rattle.iox_domain_machine.specs.Naming.{message_as, mailbox_as}
 use Rattle.iox_domain_machine.proofs.FollowBoxes.{StandsAt, ChangesAt, boxes_changed}
 use Rattle.iox_domain_machine.proofs.FollowSteps.{emptied, StepsAt}
 use Rattle.iox_domain_machine.proofs.Found.{same_some, never_some, never_true}
 use Rattle.iox_domain_machine.proofs.LeavePort.{none_set, ended_stops, ended_waiting, ended_borrowed}
+use Rattle.iox_domain_machine.proofs.Quiet.{ended_quiet}
 use Rattle.iox_domain_machine.proofs.ReleasePort.{differ, live_open, settles_to}
 use Rattle.iox_machine.specs.Mailbox.{Mailbox}
 use Rattle.iox_machine.specs.Service.{Subscriber}
@@ -131,7 +132,8 @@ module _ {T U : Type 0} (name subscriber_name reader : ℕ → ℕ) (next : ℕ)
       refl,
       λ one is_one. gone one (ap (λ n. at n subscribers) (sym is_name.0) ∙ is_one),
     );
-    quiet = λ is. ap (λ (one : Connection (Message T U)). one.waiting) here ∙ ended_waiting was;
+    quiet = λ is. subst (λ (one : Connection (Message T U)). IsOnlyHeld one) (sym here)
+        (ended_quiet was (ap (λ (one : Connection (Message T U)). one.stage) (sym here) ∙ is));
     gone = λ isn't_there one is.
         let it = same_some one (emptied (mailbox_as name was)) (sym is ∙ new_box) in (
           ap (λ (box : Mailbox T). box.borrowed) it ∙ ap (map (message_as name)) (none_borrowed isn't_there),

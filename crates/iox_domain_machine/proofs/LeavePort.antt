@@ -18,11 +18,12 @@ use Rattle.iox_domain.specs.DomainPorts.declared.reader.Reader.{Reader}
 use Rattle.iox_domain.specs.DomainSlots.Counting.{times}
 use Rattle.iox_domain.specs.DomainSlots.Uses.{Connection, nobody, ended, held, held_by, in_use, is_there}
 use Rattle.iox_domain.specs.DomainSlots.declared.stage.Stage.TheVariants as stage
-use Rattle.iox_domain_machine.specs.Mailboxes.{MailboxesStandFor, JoinsNobody, times_held}
+use Rattle.iox_domain_machine.specs.Mailboxes.{IsOnlyHeld, MailboxesStandFor, JoinsNobody, times_held}
 use Rattle.iox_domain_machine.specs.Naming.{message_as, mailbox_as}
 use Rattle.iox_domain_machine.specs.Publishers.{PublisherStandsFor}
 use Rattle.iox_domain_machine.proofs.Found.{same_some, never_some, never_true}
 use Rattle.iox_domain_machine.proofs.Named.{named_less, lent_used}
+use Rattle.iox_domain_machine.proofs.Quiet.{ended_quiet}
 use Rattle.iox_domain_machine.proofs.ReleasePort.{differ, used, within_by, settles_to, live_open}
 use Rattle.iox_machine.specs.Mailbox.{Mailbox}
 use Rattle.iox_machine.specs.Service.{Publisher, Subscriber}
@@ -325,9 +326,10 @@ module _ {T U : Type 0} (port after : PublisherPort T U) (parted : HasParted (re
               let it = ended_by_case index is (parted.each index) in
               (it.0, it.1, it.2 ∙ ap (map (message_as name)) (sym (borrowed_same index)), λ standing. never_true standing);
           quiet = λ index is. ⊎_elim
-              (λ stays. ap (λ (one : Connection (Message T U)). one.waiting) stays.same
-              ∙ boxes.quiet index (ap (λ (one : Connection (Message T U)). one.stage) (sym stays.same) ∙ is))
-              (λ ends. ap (λ (one : Connection (Message T U)). one.waiting) ends.ends ∙ ended_waiting (connection_of index port))
+              (λ stays. subst (λ (one : Connection (Message T U)). IsOnlyHeld one) (sym stays.same)
+              (boxes.quiet index (ap (λ (one : Connection (Message T U)). one.stage) (sym stays.same) ∙ is)))
+              (λ ends. subst (λ (one : Connection (Message T U)). IsOnlyHeld one) (sym ends.ends)
+              (ended_quiet (connection_of index port) (ap (λ (one : Connection (Message T U)). one.stage) (sym ends.ends) ∙ is)))
               (parted.each index);
           others = λ other joins box is. (alone_borrowed other joins box is, λ standing. never_true standing);
           none = λ other joins standing. never_true standing;

@@ -1,6 +1,6 @@
 -- A connection ends of which its publisher doesn't know yet: nothing waited or was borrowed there.
 use Rattle.std.proofs.Common.{◌≡◌, ◌≢◌, ◌≤◌, ◌⊎◌, ◌==◌, ◌&&◌, ◌++◌, ◌∷◌, [], ℕ, Bool, true, false, List, map, get_or, Option, None}
-use Rattle.std.proofs.Common.{Some, refl, sym, ap, inl, inr, ◌∙◌, arith, if◌then◌else◌}
+use Rattle.std.proofs.Common.{Some, refl, sym, ap, subst, inl, inr, ◌∙◌, arith, if◌then◌else◌}
 use Rattle.std.proofs.lemmas.Bool.{cases_eq, eq-eqb, ne_eqb}
 use Rattle.std.proofs.lemmas.List.{get_or-set_same, get_or-set_other}
 use Rattle.std.specs.Prelude.{is_some}
@@ -16,7 +16,7 @@ use Rattle.iox_domain.specs.DomainSlots.Counting.{times}
 use Rattle.iox_domain.specs.DomainSlots.Uses.{Connection, nobody, ended, held_by, in_use, is_open, is_there, settled}
 use Rattle.iox_domain.specs.DomainSlots.declared.stage.Stage.TheVariants as stage
 use Rattle.iox_domain.specs.declared.ports.service_ports.ServicePorts.{ServicePorts}
-use Rattle.iox_domain_machine.specs.Mailboxes.{MailboxesStandFor, JoinsNobody, times_held}
+use Rattle.iox_domain_machine.specs.Mailboxes.{IsOnlyHeld, MailboxesStandFor, JoinsNobody, times_held}
 use Rattle.iox_domain_machine.specs.Naming.{Naming, message_as, mailbox_as}
 use Rattle.iox_domain_machine.specs.Publishers.{PublisherStandsFor}
 use Rattle.iox_domain_machine.specs.Standing.{StandsFor, PublisherIs}
@@ -301,8 +301,8 @@ module _ {T U : Type 0} (index : ℕ) (port : PublisherPort T U) (live : is_live
           );
       quiet = λ other is.
           let off = not_ended other is in
-          ap (λ (one : Connection (Message T U)). one.waiting) (stays other off)
-          ∙ boxes.quiet other (ap (λ (one : Connection (Message T U)). one.stage) (sym (stays other off)) ∙ is);
+          subst (λ (one : Connection (Message T U)). IsOnlyHeld one) (sym (stays other off))
+          (boxes.quiet other (ap (λ (one : Connection (Message T U)). one.stage) (sym (stays other off)) ∙ is));
       others = λ other joins box is. others other joins box is (cases_eq other (reader index));
       none = λ other joins standing one is stands. has_none other joins standing one is stands (cases_eq other (reader index));
       known = λ other is. boxes.known other (there_before other is);

@@ -68,7 +68,7 @@ module _ {T U : Type 0} (name reader subscriber_name : ℕ → ℕ) (port : Publ
       ∙ ap numbers it.2
       ∙ numbers_named name (connection_of index port).borrowed
       ∙ ap (λ (waiting : List (domain.Message T U)). map name (message_slots (waiting ++ (connection_of index port).borrowed)))
-      (sym (boxes.quiet index is))
+      (sym (boxes.quiet index is).0)
 
   kept_there : (index : ℕ) → is_there (connection_of index port) ≡ true
       → numbers (kept_at mailboxes (reader index)) ≡ map name (held_at index)

@@ -109,6 +109,7 @@ pub mod ComesPublisher
 pub mod ComesConnected
 mod FewAtPlaces
 mod Ample
+mod EndedHeld
 mod FewConnections
 pub mod MessagesInUse
 pub mod SendsInUse

@@ -1,6 +1,6 @@
 -- The oldest message of a connection is borrowed, at a publisher of a domain and at its mailbox.
 use Rattle.std.proofs.Common.{◌≡◌, ◌≢◌, ◌≤◌, ◌<◌, ◌∷◌, [], ◌++◌, ℕ, true, false, List, length, map, get_or, drop, take, Option, None}
-use Rattle.std.proofs.Common.{Some, refl, sym, ap, ◌∙◌, arith}
+use Rattle.std.proofs.Common.{Some, refl, sym, ap, subst, ◌∙◌, arith}
 use Rattle.std.proofs.Math.Logic.{⊎_elim}
 use Rattle.std.proofs.lemmas.Bool.{cases_eq}
 use Rattle.std.proofs.lemmas.List.{get_or-set_other, length-append, map-append}
@@ -17,7 +17,7 @@ use Rattle.iox_domain.specs.DomainSlots.Uses.{Connection, Uses, nobody, taken, c
 use Rattle.iox_domain.specs.DomainSlots.Uses.{with_connection}
 use Rattle.iox_domain.specs.DomainSlots.declared.stage.Stage.TheVariants as stage
 use Rattle.iox_domain.specs.PortLawsLaws.{IsTidy}
-use Rattle.iox_domain_machine.specs.Mailboxes.{MailboxesStandFor, JoinsNobody, times_held}
+use Rattle.iox_domain_machine.specs.Mailboxes.{IsOnlyHeld, MailboxesStandFor, JoinsNobody, times_held}
 use Rattle.iox_domain_machine.specs.Naming.{message_as, mailbox_as}
 use Rattle.iox_domain_machine.specs.Publishers.{PublisherStandsFor}
 use Rattle.iox_domain_machine.proofs.Found.{never_true}
@@ -206,12 +206,13 @@ module _ {T U : Type 0} (port : PublisherPort T U) (index : ℕ) (goes : is_live
         ))
         (cases_eq i index)
 
-    quiet : (i : ℕ) → (connection_of i after).stage ≡ stage.Ended → (connection_of i after).waiting ≡ []
+    quiet : (i : ℕ) → (connection_of i after).stage ≡ stage.Ended → IsOnlyHeld (connection_of i after)
     quiet i is =
         let was_ended : (connection_of i port).stage ≡ stage.Ended = sym (same_stage i) ∙ is in
         ⊎_elim
         (λ same. not_ended i same was_ended)
-        (λ off. ap (λ (connection : Connection (Message T U)). connection.waiting) (elsewhere i off) ∙ boxes.quiet i was_ended)
+        (λ off. subst (λ (connection : Connection (Message T U)). IsOnlyHeld connection) (sym (elsewhere i off))
+        (boxes.quiet i was_ended))
         (cases_eq i index)
 
     joins_before : (other : ℕ) → JoinsNobody reader other after → JoinsNobody reader other port

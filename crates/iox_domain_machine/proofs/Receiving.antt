@@ -1,11 +1,11 @@
 -- A subscriber receive_stands, of a domain and of the machine.
 use Rattle.std.proofs.Common.{◌≡◌, ◌≢◌, ◌<◌, ◌+◌, ◌-◌, ◌^◌, ◌∷◌, [], ◌++◌, ◌&&◌, ◌||◌, ◌==◌, ℕ, min, Bool, true, false, not, List, length}
-use Rattle.std.proofs.Common.{map, get_or, Option, None, Some, Result, Ok, refl, sym, ap, subst, ◌∙◌, arith}
+use Rattle.std.proofs.Common.{map, get_or, Option, None, Some, Result, Ok, Err, refl, sym, ap, subst, ◌∙◌, arith}
 use Rattle.std.proofs.lemmas.Bool.{and_parts, ltb-true}
 use Rattle.std.proofs.lemmas.List.{map-append, same_from_push}
 use Rattle.std.proofs.lemmas.List.Folds.{list_any-append}
 use Rattle.std.specs.Global.{Vec}
-use Rattle.std.specs.List.{list_any}
+use Rattle.std.specs.List.{AllByRecursion, list_any}
 use Rattle.std.specs.Option.{option_map_or}
 use Rattle.std.specs.Prelude.{is_some, nat_lt, slice_get, unwrap_or, if◌then◌else◌}
 use Rattle.std.specs.Vec.{vec_items}
@@ -39,7 +39,7 @@ use Rattle.iox_domain_machine.specs.Standing.{StandsFor}
 use Rattle.iox_domain_machine.specs.Subscribers.{SubscriberStandsFor, publisher_by}
 use Rattle.iox_domain_machine.specs.Tables.{LentSlot, sample_as, samples_held_by, held_at_port}
 use Rattle.iox_domain_machine.proofs.GivingUp.{some_of}
-use Rattle.iox_domain_machine.proofs.Found.{same_some, never_true, at_changed}
+use Rattle.iox_domain_machine.proofs.Found.{same_some, never_some, never_true, at_changed}
 use Rattle.iox_domain_machine.proofs.Hearing.{Hears, asked, often_behind, often_head}
 use Rattle.iox_domain_machine.proofs.ReceiveGiver.{SplitsAt, splits, expired_is, fails_there, giver_held, giver_is, giver_passes}
 use Rattle.iox_domain_machine.proofs.ReceiveGiver.{lasting_is, same_test}
@@ -48,8 +48,8 @@ use Rattle.iox_domain_machine.proofs.ReceiveSamples.{after_taking, holding_one_m
 use Rattle.iox_domain_machine.proofs.ReceiveSweeping.{HasSwept, not_idle, set_again, sweep_stands, swept_to}
 use Rattle.iox_domain_machine.proofs.ReceiveTaking.{box_is, service_after, taking_hears, taking_sound, taking_stands}
 use Rattle.iox_domain_machine.proofs.Releasing.{other_boxes}
-use Rattle.iox_machine.specs.Mailbox.{is_idle}
-use Rattle.iox_machine.specs.Message.{Sample}
+use Rattle.iox_machine.specs.Mailbox.{Mailbox, is_idle}
+use Rattle.iox_machine.specs.Message.{Message as Sent, Sample}
 use Rattle.iox_machine.specs.PortList.{those}
 use Rattle.iox_machine.specs.Receiving as machine
 use Rattle.iox_machine.specs.Receiving.{gives, has_samples, lasting, Takes}
@@ -83,6 +83,33 @@ not_idle_same number one other name (key ∷ keys) same =
     (same key (often_head key keys))
     ∙ ap (λ rest. if not (is_idle (mailbox (name key) number other)) then name key ∷ rest else rest)
     (not_idle_same number one other name keys (λ again among. same again (often_behind again key keys among)))
+
+-- each message that waits in a mailbox of a service has fewer values than this
+abbrev pub WaitShort : {T : Type 0} → ℕ → Service T → Type 0
+WaitShort {T} most service = (publisher subscriber : ℕ) (box : Mailbox T) → service.mailboxes publisher subscriber ≡ Some box
+    → AllByRecursion (λ (message : Sent T). length message.values < most) box.waiting
+
+short_first : {T : Type 0} (most : ℕ) (waiting : List (Sent T)) (message : Sent T) → slice_get waiting 0 ≡ Some message
+    → AllByRecursion (λ (one : Sent T). length one.values < most) waiting → length message.values < most
+short_first most [] message is all = never_some message is
+short_first {T} most (first ∷ more) message is all =
+    subst (λ (one : Sent T). length one.values < most) (same_some first message is) all.0
+
+short_in : {T : Type 0} (most : ℕ) (found : Option (Mailbox T))
+    → ((box : Mailbox T) → found ≡ Some box → AllByRecursion (λ (one : Sent T). length one.values < most) box.waiting)
+    → (message : Sent T) → slice_get (unwrap_or found (record { limit = 0; waiting = []; borrowed = [] })).waiting 0 ≡ Some message
+    → length message.values < most
+short_in most None short message is = never_some message is
+short_in most (Some box) short message is = short_first most box.waiting message is (short box refl)
+
+-- what was taken, if something was
+abbrev taken_in : Result (Option Taken) ReceiveError → Option Taken
+taken_in (Ok found) = found
+taken_in (Err why) = None
+
+not_taken : {A : Type 0} (unread : Option ℕ) (one : Taken) → Ok (Some one) ≡ nothing_taken unread → A
+not_taken None one is = never_some one (sym (ap taken_in is))
+not_taken (Some key) one is = never_some one (sym (ap taken_in is))
 
 first_waits : {X : Type 0} (waiting : List X) → 0 < length waiting → (first : X) × (more : List X) × (waiting ≡ first ∷ more)
 first_waits [] some = absurd (omega (arith, some))
@@ -362,6 +389,18 @@ module _ {T U : Type 0} (names : Naming) (lent : List (ℕ × LentSlot)) (held :
         final_stands,
       )
 
+      -- the sample is as long as the message that waited first
+      some_short : (most : ℕ) → WaitShort most service → (found : Message T U) → sample_in came final ≡ Some found
+          → length found.values < most
+      some_short most short found is_there =
+          subst (λ (items : List T). length items < most)
+          (same_values ∙ ap (λ it. option_map_or (λ (message : Message T U). message.values) it []) is_there)
+          (short_in most (service.mailboxes (names.publisher giver.publisher) name) (short (names.publisher giver.publisher) name)
+          (message_as (names.message giver.publisher) message)
+          (ap (λ box. slice_get box.waiting 0) (box_is names lent held buffer ports service number port stands roomy.sound there heard
+          giver publisher read.1 read.2 message waits.1 waits.2 sample free)
+          ∙ ap (λ (waiting : List (Message T U)). slice_get (map (message_as (names.message giver.publisher)) waiting) 0) waits.2))
+
   abbrev Answers : Option Taken → SubscriberPort → List (ℕ × PublisherPort T U) → Result (Option Taken) ReceiveError → Type 0
   Answers taken received publishers outcome = IsReceiveAnswer taken (seen.has_data received publishers) outcome
 
@@ -404,3 +443,42 @@ module _ {T U : Type 0} (names : Naming) (lent : List (ℕ × LentSlot)) (held :
         subst (λ (one : SubscriberPort). IsReceived outcome one publishers) (sym is_port)
         (subst (λ (all : List (ℕ × PublisherPort T U)). IsReceived outcome state.0 all) (sym are_ports)
         (served met is_met giver given outcome answered read))
+
+    -- the sample that is received is as short as all that wait
+    module _ (most : ℕ) (short : WaitShort most service) where
+      served_short : (met : ℕ) (is_met : IsMet (seen.gives port ports.publishers) port.expired.items met) (giver : Option ℕ)
+          → domain.IsGiver (slice_get port.expired.items met) (seen.gives port ports.publishers) giver → (taken : Taken)
+          → Answers (domain.given giver port ports.publishers) (swept 0 met (port, given_ports giver port ports.publishers)).0
+          (swept 0 met (port, given_ports giver port ports.publishers)).1 (Ok (Some taken))
+          → (found : Message T U) → sample_in taken
+          (with_both number (counted_by (Ok (Some taken)) (swept 0 met (port, given_ports giver port ports.publishers)).0)
+          (swept 0 met (port, given_ports giver port ports.publishers)).1 ports) ≡ Some found
+          → length found.values < most
+      served_short met is_met None given taken (unread, first, is_outcome) found is_there = not_taken unread taken is_outcome
+      served_short met is_met (Some key) given taken answers found is_there =
+          let state = swept 0 met (port, given_ports (Some key) port ports.publishers) in
+          let came = taken_as number (giver met is_met key given free few) (message met is_met key given free few) in
+          let is_outcome : ◌≡◌ {A = Result (Option Taken) ReceiveError} (Ok (Some taken)) (Ok (Some came)) =
+          subst (λ (it : Option Taken). Answers it state.0 state.1 (Ok (Some taken))) (taken_is met is_met key given free few) answers in
+          some_short met is_met key given free few most short found
+          (subst (λ (it : Taken). sample_in it (with_both number (counted_by (Ok (Some it)) state.0) state.1 ports) ≡ Some found)
+          (same_some taken came (ap taken_in is_outcome)) is_there)
+
+      pub receive_short : (taken : Taken) (received : SubscriberPort) (publishers : List (ℕ × PublisherPort T U))
+          → domain.Receives port ports.publishers (Ok (Some taken)) received publishers
+          → (found : Message T U)
+          → sample_in taken (with_both number (counted_by (Ok (Some taken)) received) publishers ports) ≡ Some found
+          → length found.values < most
+      receive_short taken received publishers (one, (met, is_met, giver, given, is_taken, is_port, are_ports, is_there), answers) found
+          is_found =
+          let state = swept 0 met (port, given_ports giver port ports.publishers) in
+          let told = subst (λ (it : Option Taken). Answers it received publishers (Ok (Some taken))) is_taken answers in
+          let answered = subst (λ (it : SubscriberPort). Answers (domain.given giver port ports.publishers) it state.1 (Ok (Some taken)))
+          is_port
+          (subst (λ (all : List (ℕ × PublisherPort T U)). Answers (domain.given giver port ports.publishers) received all
+          (Ok (Some taken))) are_ports told) in
+          served_short met is_met giver given taken answered found
+          (subst (λ (it : SubscriberPort). sample_in taken (with_both number (counted_by (Ok (Some taken)) it) state.1 ports)
+          ≡ Some found) is_port
+          (subst (λ (all : List (ℕ × PublisherPort T U)). sample_in taken
+          (with_both number (counted_by (Ok (Some taken)) received) all ports) ≡ Some found) are_ports is_found))

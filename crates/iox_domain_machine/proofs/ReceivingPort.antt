@@ -1,6 +1,8 @@
 -- A subscriber that may receive does, of a domain and of the machine; another is skipped.
-use Rattle.std.proofs.Common.{◌≡◌, ◌≢◌, ◌<◌, ◌+◌, ◌-◌, ◌^◌, ℕ, Bool, true, false, List, Option, None, Some, Result, Ok, Err, refl, sym}
-use Rattle.std.proofs.Common.{ap, subst, ◌∙◌}
+use Rattle.std.proofs.Common.{◌≡◌, ◌≢◌, ◌<◌, ◌+◌, ◌-◌, ◌^◌, ◌&&◌, ℕ, Bool, true, false, cond, List, [], ◌∷◌, length, Option, None, Some}
+use Rattle.std.proofs.Common.{Result, Ok, Err, refl, sym, ap, subst, inl, inr, ◌∙◌}
+use Rattle.std.specs.List.{AllByRecursion}
+use Rattle.std.specs.Prelude.{◌==◌, fold, is_some}
 use Rattle.std.specs.Global.{Vec}
 use Rattle.iox_command.specs.DomainValues.declared.connection_failure.ConnectionFailure.{ConnectionFailure}
 use Rattle.iox_command.specs.DomainValues.declared.degradation.DegradationAction.{DegradationAction}
@@ -14,6 +16,7 @@ use Rattle.iox_command.specs.declared.refusal.Refusal.TheVariants as refusal
 use Rattle.iox_command.specs.declared.reply.Reply.TheVariants as reply
 use Rattle.iox_domain.proofs.Numbered.{at_number, same_set}
 use Rattle.iox_domain.specs.Container.declared.container.Member.{Member}
+use Rattle.iox_domain.specs.DomainPorts.Messages.{Message}
 use Rattle.iox_domain.specs.DomainPorts.SubscriberUpdating.{ReceivesAfter, ReceivesNext}
 use Rattle.iox_domain.specs.DomainPorts.declared.attached.Taken.{Taken}
 use Rattle.iox_domain.specs.DomainPorts.declared.publisher_entry.PublisherEntry.{PublisherEntry}
@@ -21,6 +24,7 @@ use Rattle.iox_domain.specs.DomainPorts.declared.publisher_port.PublisherPort.{P
 use Rattle.iox_domain.specs.DomainPorts.declared.subscriber_port.SubscriberPort.{SubscriberPort}
 use Rattle.iox_domain.specs.Ports.{AtSubscriber, with_both}
 use Rattle.iox_domain.specs.PortsSubscribing.{ReceivesIf, ReceivesOne, counted_by}
+use Rattle.iox_domain.specs.Reading.{sample_in}
 use Rattle.iox_domain.specs.Rolls.{IsListOf}
 use Rattle.iox_domain.specs.Roomy.{AreRoomy}
 use Rattle.iox_domain.specs.Subscribers.{subscriber_of}
@@ -33,18 +37,63 @@ use Rattle.iox_domain_machine.specs.SubscriberUpdateLaws.{ActsAs}
 use Rattle.iox_domain_machine.specs.Tables.{LentSlot, samples_held_by}
 use Rattle.iox_domain_machine.proofs.Alone.{alone_does, alone_skips}
 use Rattle.iox_domain_machine.proofs.Asking.{left_found, nobody_found, stands_found}
-use Rattle.iox_domain_machine.proofs.FirstUpdating.{UpdatedFirst, updates_first, fails_so, does_then}
+use Rattle.iox_domain_machine.proofs.FirstUpdating.{HasBegun, UpdatedFirst, updates_first, fails_so, does_then}
 use Rattle.iox_domain_machine.proofs.Found.{never_some, same_some}
 use Rattle.iox_domain_machine.proofs.Hearing.{hears}
 use Rattle.iox_domain_machine.proofs.ReceiveSweeping.{set_again}
-use Rattle.iox_domain_machine.proofs.Receiving.{receive_stands}
+use Rattle.iox_domain_machine.proofs.Receiving.{WaitShort, receive_short, receive_stands}
 use Rattle.iox_machine.specs.Choices.{Choices}
+use Rattle.iox_machine.specs.Mailbox.{Mailbox}
+use Rattle.iox_machine.specs.Message.{Message as Sent}
+use Rattle.iox_machine.specs.PortList.{those}
 use Rattle.iox_machine.specs.Ports.{subscriber_in}
 use Rattle.iox_machine.specs.Receiving as machine
-use Rattle.iox_machine.specs.Service.{Service, Subscriber}
+use Rattle.iox_machine.specs.Service.{Service, Subscriber, connect, with_mailbox}
 use Rattle.iox_machine.specs.State.{State}
 use Rattle.iox_machine.specs.SubscriberUpdate.{UpdatesFirst}
-use Rattle.iox_machine.specs.Table.{at}
+use Rattle.iox_machine.specs.Table.{at, changed}
+
+never_took : {A : Type 0} (failure : ConnectionFailure) (taken : Taken)
+    → ◌≡◌ {A = Result (Option Taken) ReceiveError} (Err (failed failure)) (Ok (Some taken)) → A
+never_took failure taken is = absurd (differ is)
+  where
+    differ : ◌≡◌ {A = Result (Option Taken) ReceiveError} (Err (failed failure)) (Ok (Some taken)) → ⊥
+    differ is = cc
+
+-- ---- an update brings empty mailboxes alone
+
+module _ {T : Type 0} (most limit number : ℕ) where
+  short_connected : (publisher : ℕ) (service : Service T) → WaitShort most service → WaitShort most (connect limit publisher number service)
+  short_connected publisher service short = here (is_some (service.mailboxes publisher number))
+    where
+      joined : (one other : ℕ) (box : Mailbox T) (b : Bool)
+          → cond b (Some (record { limit = limit; waiting = []; borrowed = [] })) (service.mailboxes one other) ≡ Some box
+          → AllByRecursion (λ (message : Sent T). length message.values < most) box.waiting
+      joined one other box true is =
+          subst (λ (it : Mailbox T). AllByRecursion (λ (message : Sent T). length message.values < most) it.waiting)
+          (same_some (record { limit = limit; waiting = []; borrowed = [] }) box is) tt
+      joined one other box false is = short one other box is
+
+      here : (b : Bool) → WaitShort most (cond b service
+          (with_mailbox publisher number (record { limit = limit; waiting = []; borrowed = [] }) service))
+      here true = short
+      here false = λ one other box is. joined one other box ((one == publisher) && (other == number)) is
+
+  short_all : (publishers : List ℕ) (service : Service T) → WaitShort most service
+      → WaitShort most (fold (λ (it : Service T) (publisher : ℕ). connect limit publisher number it) service publishers)
+  short_all [] service short = short
+  short_all (publisher ∷ publishers) service short =
+      short_all publishers (connect limit publisher number service) (short_connected publisher service short)
+
+module _ {T : Type 0} (choices : Choices T) (buffer name : ℕ) (was : Subscriber) (service : Service T) (most : ℕ)
+    (short : WaitShort most service) where
+  short_begun : (updated : Result (Unit {0}) ConnectionFailure) (later : Subscriber) (mid : Service T)
+      → HasBegun choices buffer name was service updated later mid → WaitShort most mid
+  short_begun updated later mid (inl begun) = subst (WaitShort most) (sym begun.2) short
+  short_begun updated later mid (inr begun) =
+      subst (WaitShort most) (sym begun.1.5)
+      (short_all most was.buffer_size name (those begun.1.2)
+      (record service { subscribers = changed name later service.subscribers }) short)
 
 module _ {T U : Type 0} (choices : Choices T) (may : DegradationInfo → DegradationAction → Type 0) (types : MessageTypeDetails)
     (buffer : ℕ) (names : Naming) (lent : List (ℕ × LentSlot)) (held : List (ℕ × Taken)) (old new : ServicePorts T U) (service : Service T)
@@ -177,6 +226,77 @@ module _ {T U : Type 0} (choices : Choices T) (may : DegradationInfo → Degrada
   receives_by answer read None there call =
       rw call.0 (skips (nobody_found names lent held buffer old service number stands named there) call.1)
   receives_by answer read (Some port) there call = at_subscriber port there answer call read
+
+  -- the sample that is received is as short as all that wait
+  module _ (most : ℕ) (short : WaitShort most service) where
+    abbrev IsShort : Option (Result (Option Taken) ReceiveError) → ServicePorts T U → Type 0
+    IsShort answer ports = (taken : Taken) → answer ≡ Some (Ok (Some taken)) → (read : Message T U) → sample_in taken ports ≡ Some read
+        → length read.values < most
+
+    short_by : (port : SubscriberPort) (there : subscriber_of number old.subscribers ≡ Some port) (standing : port.stands ≡ true)
+        (between received : SubscriberPort) (between_ports publishers : List (ℕ × PublisherPort T U))
+        (outcome : Result (Option Taken) ReceiveError) (updated : Result (Unit {0}) ConnectionFailure)
+        → UpdatedFirst choices names lent held buffer old service number (stands.subscribers number port there).0 updated between
+        between_ports
+        → ReceivesAfter updated between between_ports outcome received publishers
+        → IsShort (Some outcome) (with_both number (counted_by outcome received) publishers old)
+    short_by port there standing between received between_ports publishers outcome (Ok tt) it does taken answers read is =
+        let later_names : Naming = record names { reader = it.reader } in
+        let now = same_set (at_number number) old.subscribers between port there in
+        let heard = hears later_names lent held buffer (with_both number between between_ports old) it.mid number between it.stands now
+        it.roomy it.standing in
+        let same : outcome ≡ Ok (Some taken) = same_some outcome (Ok (Some taken)) answers in
+        receive_short later_names lent held buffer (with_both number between between_ports old) it.mid number between it.stands it.roomy
+        now heard sample values free few most
+        (short_begun choices buffer name (stands.subscribers number port there).0 service most short (Ok tt) it.later it.mid it.begun)
+        taken received publishers
+        (subst (λ (one : Result (Option Taken) ReceiveError). ReceivesAfter (Ok tt) between between_ports one received publishers) same
+        does) read
+        (ap (λ (ports : ServicePorts T U). sample_in taken ports) (same_again port there between received between_ports publishers taken)
+        ∙ (ap (λ (one : Result (Option Taken) ReceiveError). sample_in taken (with_both number (counted_by one received) publishers old))
+        (sym same) ∙ is))
+      where
+        same_again : (port : SubscriberPort) (there : subscriber_of number old.subscribers ≡ Some port) (between received : SubscriberPort)
+            (between_ports publishers : List (ℕ × PublisherPort T U)) (taken : Taken)
+            → with_both number (counted_by (Ok (Some taken)) received) publishers (with_both number between between_ports old)
+            ≡ with_both number (counted_by (Ok (Some taken)) received) publishers old
+        same_again port there between received between_ports publishers taken =
+            ap (λ (all : List (ℕ × SubscriberPort)). record old { subscribers = all; publishers = publishers })
+            (set_again (at_number number) old.subscribers between (counted_by (Ok (Some taken)) received))
+    short_by port there standing between received between_ports publishers outcome (Err failure) it (is_told, is_between, are_between)
+        taken answers read is =
+        never_took failure taken (sym is_told ∙ same_some outcome (Ok (Some taken)) answers)
+
+    short_so : (port : SubscriberPort) (there : subscriber_of number old.subscribers ≡ Some port) → port.stands ≡ true
+        → (listed : List (Option (Member PublisherEntry))) → IsListOf listed old.publisher_list → (received : SubscriberPort)
+        (publishers : List (ℕ × PublisherPort T U)) (outcome : Result (Option Taken) ReceiveError)
+        → ReceivesNext may listed old.publisher_list.changes port old.publishers outcome received publishers
+        → new ≡ with_both number (counted_by outcome received) publishers old → IsShort (Some outcome) new
+    short_so port there standing listed is_list received publishers outcome (updated, between, between_ports, updates, after_it) is =
+        subst (IsShort (Some outcome)) (sym is)
+        (short_by port there standing between received between_ports publishers outcome updated
+        (updates_first choices names lent held buffer old service number types state may stands roomy acts port there standing listed
+        is_list updated between between_ports updates) after_it)
+
+    short_at : (port : SubscriberPort) → subscriber_of number old.subscribers ≡ Some port → (standing : Bool) → port.stands ≡ standing
+        → (answer : Option (Result (Option Taken) ReceiveError)) (after : SubscriberPort) (publishers : List (ℕ × PublisherPort T U))
+        → ReceivesIf standing may old.publisher_list port old.publishers answer after publishers
+        → ((outcome : Result (Option Taken) ReceiveError) → answer ≡ Some outcome → new ≡ with_both number after publishers old)
+        → IsShort answer new
+    short_at port there false left answer after publishers call some =
+        λ taken answers read is. never_some (Ok (Some taken)) (sym call.0 ∙ answers)
+    short_at port there true standing answer after publishers (listed, is_list, outcome, received, does, is_after, is_told) some =
+        subst (λ (answer : Option (Result (Option Taken) ReceiveError)). IsShort answer new) (sym is_told)
+        (short_so port there standing listed is_list received publishers outcome does
+        (some outcome is_told ∙ ap (λ (one : SubscriberPort). with_both number one publishers old) is_after))
+
+    pub received_short : (answer : Option (Result (Option Taken) ReceiveError)) → (found : Option SubscriberPort)
+        → subscriber_of number old.subscribers ≡ found
+        → AtSubscriber number (ReceivesOne may old.publisher_list) found old answer new → IsShort answer new
+    received_short answer None there call = λ taken answers read is. never_some (Ok (Some taken)) (sym call.0 ∙ answers)
+    received_short None (Some port) there call = λ taken answers read is. never_some (Ok (Some taken)) answers
+    received_short (Some outcome) (Some port) there (after, publishers, call, is) =
+        short_at port there port.stands refl (Some outcome) after publishers call (λ one same. is)
 
 pub receive_matches : (T U : Type 0) (choices : Choices T) (may : DegradationInfo → DegradationAction → Type 0)
     → ReceiveMatches T U choices may

@@ -15,7 +15,7 @@ use Rattle.iox_domain.specs.DomainSlots.Counting.{times}
 use Rattle.iox_domain.specs.DomainSlots.Uses.{Connection, nobody, held_by, is_there, is_open, offered}
 use Rattle.iox_domain.specs.DomainSlots.declared.stage.Stage.TheVariants as stage
 use Rattle.iox_domain.specs.PortLawsLaws.{AreTiesApart}
-use Rattle.iox_domain_machine.specs.Mailboxes.{MailboxesStandFor, JoinsNobody, times_held}
+use Rattle.iox_domain_machine.specs.Mailboxes.{IsOnlyHeld, MailboxesStandFor, JoinsNobody, times_held}
 use Rattle.iox_domain_machine.specs.Naming.{message_as, mailbox_as}
 use Rattle.iox_domain_machine.proofs.ReleasePort.{live_open, live_isn't_ended}
 use Rattle.iox_domain_machine.proofs.LendingUses.{message_slots}
@@ -129,10 +129,11 @@ module _ {T U : Type 0} (port : PublisherPort T U) (overflows : Bool) (message :
           before.3,
         )
 
-    quiet_after : (i : ℕ) → (connection_of i given).stage ≡ stage.Ended → (connection_of i given).waiting ≡ []
+    quiet_after : (i : ℕ) → (connection_of i given).stage ≡ stage.Ended → IsOnlyHeld (connection_of i given)
     quiet_after i is =
         let ended = ended_before i is in
-        ap (λ (connection : Connection (Message T U)). connection.waiting) (elsewhere i (not_here i ended)) ∙ boxes.quiet i ended
+        subst (λ (connection : Connection (Message T U)). IsOnlyHeld connection) (sym (elsewhere i (not_here i ended)))
+        (boxes.quiet i ended)
 
     joins_before : (other : ℕ) → JoinsNobody reader other given → JoinsNobody reader other port
     joins_before other joins i is = joins i (ap is_open (same_stage i) ∙ is)

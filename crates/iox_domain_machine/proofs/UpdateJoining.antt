@@ -26,7 +26,7 @@ use Rattle.iox_domain.specs.DomainSlots.declared.stage.Stage.{Stage}
 use Rattle.iox_domain.specs.DomainSlots.declared.stage.Stage.TheVariants as stage
 use Rattle.iox_domain.specs.Subscribers.{subscriber_of}
 use Rattle.iox_domain.specs.declared.ports.service_ports.ServicePorts.{ServicePorts}
-use Rattle.iox_domain_machine.specs.Mailboxes.{MailboxesStandFor, IsKeyed, JoinsNobody, times_held}
+use Rattle.iox_domain_machine.specs.Mailboxes.{IsOnlyHeld, MailboxesStandFor, IsKeyed, JoinsNobody, times_held}
 use Rattle.iox_domain_machine.specs.Naming.{Naming, with_name, mailbox_as, message_as}
 use Rattle.iox_domain_machine.specs.Publishers.{PublisherStandsFor}
 use Rattle.iox_domain_machine.specs.Standing.{StandsFor, PublisherIs}
@@ -368,10 +368,12 @@ module _ {T U : Type 0} (names : Naming) (lent : List (ℕ × LentSlot)) (held_s
             )
       ];
       quiet = λ other so. elim (cases_eq other index) [
-        | inl same ↦ ap (λ n. (connection_of n joined).waiting) same ∙ made.waits
-        | inr off ↦
-            ap (λ (c : Connection (Message T U)). c.waiting) (made.others other off)
-            ∙ boxes.quiet other (ap (λ (c : Connection (Message T U)). c.stage) (sym (made.others other off)) ∙ so)
+        | inl same ↦
+            let no : stage.Live ≡ stage.Ended = ap (λ (c : Connection (Message T U)). c.stage) (sym here)
+            ∙ ap (λ n. (connection_of n joined).stage) (sym same) ∙ so in
+            absurd (cc)
+        | inr off ↦ subst (λ (c : Connection (Message T U)). IsOnlyHeld c) (sym (made.others other off))
+            (boxes.quiet other (ap (λ (c : Connection (Message T U)). c.stage) (sym (made.others other off)) ∙ so))
       ];
       others = λ other joins found is_found.
           let before = before_nobody other joins in

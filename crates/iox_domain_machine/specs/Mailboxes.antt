@@ -7,7 +7,7 @@ use Rattle.iox_domain.specs.DomainPorts.declared.publisher_port.PublisherPort.{P
 use Rattle.iox_domain.specs.DomainPorts.declared.reader.Reader.{Reader}
 use Rattle.iox_domain.specs.DomainPorts.declared.subscriber_port.SubscriberPort.{SubscriberPort}
 use Rattle.iox_domain.specs.DomainSlots.Counting.{times}
-use Rattle.iox_domain.specs.DomainSlots.Uses.{held_by, is_there}
+use Rattle.iox_domain.specs.DomainSlots.Uses.{Connection, held_by, is_there}
 use Rattle.iox_domain.specs.DomainSlots.declared.stage.Stage.TheVariants as stage
 use Rattle.iox_domain.specs.Subscribers.{subscriber_of}
 use Rattle.iox_domain_machine.specs.Naming.{message_as, mailbox_as}
@@ -18,6 +18,10 @@ use Rattle.iox_machine.specs.Table.{at}
 -- How often the slot waits in the connection or is borrowed from it.
 abbrev pub times_held : {T U : Type 0} → ℕ → ℕ → PublisherPort T U → ℕ
 times_held slot index port = times slot (map (λ (message : domain.Message _ _). message.slot) (held_by (connection_of index port)))
+
+-- Nothing waits in the connection, and at least one sample of it is held.
+abbrev pub IsOnlyHeld : {X : Type 0} → Connection X → Type 0
+IsOnlyHeld connection = (connection.waiting ≡ []) × (connection.borrowed ≢ [])
 
 -- No connection of the publisher leads to the subscriber with this name.
 abbrev pub JoinsNobody : {T U : Type 0} → (ℕ → ℕ) → ℕ → PublisherPort T U → Type 0
@@ -35,8 +39,8 @@ pub record MailboxesStandFor {T U : Type 0} (name reader subscriber_name : ℕ �
       × (box.borrowed ≡ map (message_as name) (connection_of index port).borrowed)
       × (port.stands ≡ true → (box.waiting ≡ [])
       × ((one : Subscriber) → at (reader index) subscribers ≡ Some one → one.stands ≡ false))
-  -- Nothing waits in a connection that ended.
-  pub quiet : (index : ℕ) → (connection_of index port).stage ≡ stage.Ended → (connection_of index port).waiting ≡ []
+  -- Nothing waits in a connection that ended, and at least one sample of it is held.
+  pub quiet : (index : ℕ) → (connection_of index port).stage ≡ stage.Ended → IsOnlyHeld (connection_of index port)
   -- Nothing is borrowed from a mailbox without a connection, and while the publisher is open nothing waits in it.
   pub others : (other : ℕ) → JoinsNobody reader other port → (box : Mailbox T) → mailboxes other ≡ Some box
       → (box.borrowed ≡ []) × (port.stands ≡ true → box.waiting ≡ [])

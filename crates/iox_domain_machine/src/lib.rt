@@ -36,7 +36,7 @@ ghost use Rattle.iox_domain_machine.specs.ComingLaws.{SubscriberComesMatches};
 ghost use Rattle.iox_domain_machine.specs.ComingPublisherLaws.{PublisherComesMatches};
 
 use iox_domain_values::{Decides, Degrades, Overrides};
-use iox_machine::a_publisher_is_connected_as_listed;
+use iox_machine::{a_publisher_is_connected_as_listed, sizes_are_agreed};
 
 /// The ports of a new domain represent a new service, which has no ports yet.
 pub fn new_ports_stand<T, U>()
@@ -106,14 +106,15 @@ pub fn headers_are_as_sent<T, U, O: Overrides, B: Decides + Degrades>(
 /// the list, as after each update, it has at most as many as may be listed, if the service is one of a run of the machine. No two places
 /// may be tied to one connection, as it is after any calls (`iox_domain::port_laws::messages::at_most_once`).
 ///
-/// So the slots of the agreement's worst case are enough for each loan that fits, once the publisher has seen all changes, and where no
-/// connection ended of which samples are still held; such a connection takes the slots of one subscriber more. Sizes are as agreed after
-/// any calls (`iox_domain::port_laws::service::sizes_agree`).
+/// Of each connection that ended at least one sample is held, so no more ended than such samples are held. Such a sample takes one slot at
+/// most. So the slots of the agreement's worst case, and one more for each such sample, are enough for each loan that fits, once the
+/// publisher has seen all changes. The ports must satisfy `AreRoomy`, as they do after any calls.
 pub fn connections_are_few<T: Default, U, B: Decides + Degrades, D: Degrades>()
     ensures { (handed : Handed B D) → ConnectionsAreFew T U (chosen_by T.is_default (λ who. B.decides who)
         (λ who. B.degrades who) (λ who. D.degrades who) handed) }
 {
     a_publisher_is_connected_as_listed::<T, B, D>();
+    sizes_are_agreed::<T, B, D>();
 }
 
 /// After a call, everything that was in use has the same name in the service that the ports represent. This holds for a call that gives no

@@ -36,6 +36,7 @@ pub mod OneAgreement
 pub mod Measures
 pub mod PortsCount
 pub mod LoanMeasure
+mod LoansFreed
 pub mod SampleMeasure
 pub mod StepKeeps
 pub mod PortRooms

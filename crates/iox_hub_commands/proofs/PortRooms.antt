@@ -1,5 +1,5 @@
 -- Room for numbers goes on from command to command, and where it is there no loan and no sample lacks memory for its number.
-use Rattle.std.proofs.Common.{arith, ◌≡◌, ◌≤◌, ◌<◌, ◌+◌, ◌∙◌, inl, inr, ◌⊎◌, ℕ, Bool, true, List, [], ◌∷◌, Option, None, Some, Result, Ok}
+use Rattle.std.proofs.Common.{arith, ◌≡◌, ◌≤◌, ◌<◌, ◌+◌, ◌∙◌, inl, inr, ◌⊎◌, ℕ, Bool, true, false, List, [], ◌∷◌, Option, None, Some, Result, Ok}
 use Rattle.std.proofs.Common.{Err, refl, ap, sym, subst, length}
 use Rattle.std.proofs.lemmas.List.Elements.{All-cons, All-nil}
 use Rattle.std.proofs.lemmas.List.Sums.{sum_by-le-sum_by}
@@ -31,33 +31,39 @@ use Rattle.iox_command.specs.DomainValues.declared.degradation.DegradationAction
 use Rattle.iox_command.specs.DomainValues.declared.degradation.DegradationCause.{DegradationCause}
 use Rattle.iox_command.specs.DomainValues.declared.degradation.DegradationInfo.{DegradationInfo}
 use Rattle.iox_command.specs.DomainValues.declared.port_error.ReceiveError.{ReceiveError}
-use Rattle.iox_hub_commands.specs.Calls.{ready}
+use Rattle.iox_command.specs.declared.port.PortNumber.{PortNumber}
+use Rattle.iox_command.specs.declared.port.PortNumber.TheVariants as port_number
+use Rattle.iox_hub_commands.specs.Calls.{AtPortIf, PublisherGoes, ready}
+use Rattle.iox_hub_commands.specs.Following.{LeaveStep}
+use Rattle.iox_hub_commands.specs.Replies.{done_reply}
 use Rattle.iox_hub_commands.specs.Growing.{GrowsFirst}
 use Rattle.iox_hub_commands.specs.Making.{NumbersPort, with_publisher, with_subscriber}
-use Rattle.iox_hub_commands.specs.Numbering.{LendsNumbered, LendsWrittenNumbered, ReceivesNumbered, NumbersSample}
+use Rattle.iox_hub_commands.specs.Numbering.{LendsNumbered, LendsWrittenNumbered, ReceivesNumbered, NumbersSample, removed_if}
 use Rattle.iox_hub_commands.specs.Reading.{values_under}
-use Rattle.iox_hub_commands.specs.Tables.{SameNumbers, IsFull, lender}
+use Rattle.iox_hub_commands.specs.Tables.{SameNumbers, IsFull, lender, port_under, without_publisher}
 use Rattle.iox_hub_commands.specs.declared.ports.made.Made.{Made}
 use Rattle.iox_hub_commands.specs.declared.ports.made.MadePublisher.{MadePublisher}
 use Rattle.iox_hub_commands.specs.Messages.{SomeValues}
 use Rattle.iox_hub_commands.specs.Receiving.{IsTold}
-use Rattle.iox_hub_base.specs.AsHome.{hub_ports, with_hub_ports, with_hub_publisher, with_hub_subscriber}
+use Rattle.iox_hub_base.specs.AsHome.{hub_ports, with_hub_ports, with_hub_publisher, with_hub_subscriber, without_hub_publisher}
+use Rattle.iox_hub_base.specs.AsHome.{without_hub_subscriber}
 use Rattle.iox_hub_base.specs.declared.hub.Hub.{Hub}
 use Rattle.iox_hub_base.specs.Room.{counted_at, loans_left_in, samples_left_in, samples_at_most_in}
 use Rattle.iox_hub_base.specs.declared.presence.Presence.{Presence}
 use Rattle.iox_hub_base.specs.declared.presence.Presence.TheVariants.{Here, Out}
 use Rattle.iox_delivery.specs.Container.NumberTable.{NumberTable, value_at}
 use Rattle.iox_hub_commands.specs.Grown.{AnySlots, AnyAction, AnyDecision, HasGrown, HaveGrown, GrowsOn}
-use Rattle.iox_hub_commands.specs.PortRoom.{OfPorts, OfOthers, Pledges, IsPledged, most_samples, most_samples_of, HasLoanRoom}
-use Rattle.iox_hub_commands.specs.PortRoom.{HasSampleRoom, HasRoom, KeepsRoom, CameUnread, FindsPort, LacksInRoom}
+use Rattle.iox_hub_commands.specs.PortRoom.{OfPorts, Pledges, IsPledged, most_samples, most_samples_of, HasLoanRoom}
+use Rattle.iox_hub_commands.specs.PortRoom.{HasSampleRoom, HasRoom, KeepsRoom, CameUnread, FindsPort, LacksInRoom, PledgesStay, spare_closed}
 use Rattle.iox_hub_commands.specs.Room.{OnlyRoomier}
-use Rattle.iox_hub_commands.specs.CommandSteps.{Step, subscriber_may_degrade}
+use Rattle.iox_hub_commands.specs.CommandSteps.{IsReplied, Step, subscriber_may_degrade}
 use Rattle.iox_hub_commands.specs.declared.numbered_hub.NumberedHub.{NumberedHub}
 use Rattle.iox_hub_commands.specs.declared.room.Pledged.{Pledged}
 use Rattle.iox_hub_commands.specs.Terms.{Terms}
 use Rattle.iox_hub_commands.proofs.LoanMeasure.{loan_measure}
+use Rattle.iox_hub_commands.proofs.LoansFreed.{publisher_frees}
 use Rattle.iox_hub_commands.proofs.Measures.{IsFineAt, AreFine}
-use Rattle.iox_hub_commands.proofs.PortsCount.{Balances, held_at, brought_at, publisher_balances, subscriber_balances}
+use Rattle.iox_hub_commands.proofs.PortsCount.{Balances, held_at, brought_at, leave_balances, publisher_balances, subscriber_balances}
 use Rattle.iox_hub_commands.proofs.Rooms.{no_room_goes, lacking_is_full}
 use Rattle.iox_hub_commands.proofs.SampleMeasure.{sample_measure}
 use Rattle.iox_hub_commands.proofs.StepKeeps.{step_holds}
@@ -80,25 +86,6 @@ no_port Holds (port_command.Release sample) = tt
 no_port Holds (port_command.Update number) = tt
 no_port Holds (port_command.Leave number) = tt
 no_port Holds (port_command.Has subscriber) = tt
-
--- and what holds of others holds
-pub of_port : {T : Type 0} {Holds : Type 0} (asked : PortCommand T) → Holds → OfOthers Holds (command_of asked)
-of_port (port_command.Loan publisher length) holds = holds
-of_port (port_command.LoanUninit publisher length) holds = holds
-of_port (port_command.Set loan place value) holds = holds
-of_port (port_command.Fill loan values) holds = holds
-of_port (port_command.Drop loan) holds = holds
-of_port (port_command.Send loan) holds = holds
-of_port (port_command.Put publisher values) holds = holds
-of_port (port_command.Retry publisher nanoseconds) holds = holds
-of_port (port_command.GiveUp publisher) holds = holds
-of_port (port_command.Receive subscriber) holds = holds
-of_port (port_command.Read sample) holds = holds
-of_port (port_command.Sequence sample) holds = holds
-of_port (port_command.Release sample) holds = holds
-of_port (port_command.Update number) holds = holds
-of_port (port_command.Leave number) holds = holds
-of_port (port_command.Has subscriber) holds = holds
 
 -- what follows of ports that come
 of_ports : {T : Type 0} {P Q : Type 0} (asked : Command T) → (P → Q) → OfPorts P asked → OfPorts Q asked
@@ -127,32 +114,35 @@ of_ports (command.Update number) follows holds = tt
 of_ports (command.Leave number) follows holds = tt
 of_ports (command.Has subscriber) follows holds = tt
 
--- what holds of ports that come, or what holds of others
-of_either : {T : Type 0} {P Q : Type 0} (asked : Command T) → OfPorts P asked → OfOthers Q asked → P ⊎ Q
-of_either command.Node comes other = inr other
-of_either (command.Create node name options attributes steps) comes other = inr other
-of_either (command.Open node name options requirements steps) comes other = inr other
-of_either (command.OpenOrCreate node name options requirements steps) comes other = inr other
-of_either (command.Foreign pattern name steps) comes other = inr other
-of_either (command.Close factory) comes other = inr other
-of_either (command.Publisher factory options) comes other = inl comes
-of_either (command.Subscriber factory options) comes other = inl comes
-of_either (command.Loan publisher elements) comes other = inr other
-of_either (command.LoanUninit publisher elements) comes other = inr other
-of_either (command.Set loan place value) comes other = inr other
-of_either (command.Fill loan values) comes other = inr other
-of_either (command.Drop loan) comes other = inr other
-of_either (command.Send loan) comes other = inr other
-of_either (command.Put publisher values) comes other = inr other
-of_either (command.Retry publisher nanoseconds) comes other = inr other
-of_either (command.GiveUp publisher) comes other = inr other
-of_either (command.Receive subscriber) comes other = inr other
-of_either (command.Read sample) comes other = inr other
-of_either (command.Sequence sample) comes other = inr other
-of_either (command.Release sample) comes other = inr other
-of_either (command.Update number) comes other = inr other
-of_either (command.Leave number) comes other = inr other
-of_either (command.Has subscriber) comes other = inr other
+-- what holds of ports that come; or all is pledged that was; or a port is closed
+by_pledges : {T U B D : Type 0} {P : Type 0} (asked : Command T) (old new : NumberedHub T U B D) (answer : Result (Reply T) AllocError)
+    → OfPorts P asked → PledgesStay asked old answer new
+    → P ⊎ ((new.pledged ≡ old.pledged) ⊎ ((number : PortNumber) × (asked ≡ command.Leave number)
+    × (new.pledged ≡ record old.pledged { loans = old.pledged.loans - spare_closed number answer old })))
+by_pledges command.Node old new answer comes stay = inr (inl stay)
+by_pledges (command.Create node name options attributes steps) old new answer comes stay = inr (inl stay)
+by_pledges (command.Open node name options requirements steps) old new answer comes stay = inr (inl stay)
+by_pledges (command.OpenOrCreate node name options requirements steps) old new answer comes stay = inr (inl stay)
+by_pledges (command.Foreign pattern name steps) old new answer comes stay = inr (inl stay)
+by_pledges (command.Close factory) old new answer comes stay = inr (inl stay)
+by_pledges (command.Publisher factory options) old new answer comes stay = inl comes
+by_pledges (command.Subscriber factory options) old new answer comes stay = inl comes
+by_pledges (command.Loan publisher elements) old new answer comes stay = inr (inl stay)
+by_pledges (command.LoanUninit publisher elements) old new answer comes stay = inr (inl stay)
+by_pledges (command.Set loan place value) old new answer comes stay = inr (inl stay)
+by_pledges (command.Fill loan values) old new answer comes stay = inr (inl stay)
+by_pledges (command.Drop loan) old new answer comes stay = inr (inl stay)
+by_pledges (command.Send loan) old new answer comes stay = inr (inl stay)
+by_pledges (command.Put publisher values) old new answer comes stay = inr (inl stay)
+by_pledges (command.Retry publisher nanoseconds) old new answer comes stay = inr (inl stay)
+by_pledges (command.GiveUp publisher) old new answer comes stay = inr (inl stay)
+by_pledges (command.Receive subscriber) old new answer comes stay = inr (inl stay)
+by_pledges (command.Read sample) old new answer comes stay = inr (inl stay)
+by_pledges (command.Sequence sample) old new answer comes stay = inr (inl stay)
+by_pledges (command.Release sample) old new answer comes stay = inr (inl stay)
+by_pledges (command.Update number) old new answer comes stay = inr (inl stay)
+by_pledges (command.Leave number) old new answer comes stay = inr (inr (number, refl, stay))
+by_pledges (command.Has subscriber) old new answer comes stay = inr (inl stay)
 
 -- a list with no more than none is empty
 pub empty : {X : Type 0} (xs : List X) → length xs ≤ 0 → xs ≡ []
@@ -200,6 +190,16 @@ room_kept : {V W : Type 0} (ports ports_after : NumberTable V) (table table_afte
 room_kept ports ports_after table table_after left left_after pledged pledged_after stay roomier few same (enough, inl none) =
     (omega (arith, few, same, enough), inl (empty ports_after.entries (let nothing = ap length none in omega (arith, stay, nothing))))
 room_kept ports ports_after table table_after left left_after pledged pledged_after stay roomier few same (enough, inr fits) =
+    (omega (arith, few, same, enough), inr (omega (arith, fits, same, roomier)))
+
+-- and where as many fewer are pledged as may no longer come to it
+room_left : {V W : Type 0} (ports ports_after : NumberTable V) (table table_after : NumberTable W)
+    (left left_after pledged pledged_after spare : ℕ) → length ports_after.entries ≤ length ports.entries → table.room ≤ table_after.room
+    → length table_after.entries + left_after + spare ≤ length table.entries + left → pledged_after ≡ pledged - spare
+    → IsPledged ports left pledged table → IsPledged ports_after left_after pledged_after table_after
+room_left ports ports_after table table_after left left_after pledged pledged_after spare stay roomier few same (enough, inl none) =
+    (omega (arith, few, same, enough), inl (empty ports_after.entries (let nothing = ap length none in omega (arith, stay, nothing))))
+room_left ports ports_after table table_after left left_after pledged pledged_after spare stay roomier few same (enough, inr fits) =
     (omega (arith, few, same, enough), inr (omega (arith, fits, same, roomier)))
 
 -- where something stands in a table there is room in the other, so that isn't full
@@ -324,15 +324,56 @@ module _ {T U B D : Type 0} where
       (loans_left_in new.hub.services.domains) old.pledged.loans new.pledged.loans stay roomier (omega (arith, few))
       (ap (λ (all : Pledged). all.loans) same)
 
+  -- a port that is closed leaves fewer loans that may still be made, by those that it could have made
+  freed_done : (number : ℕ) (done : Bool) (old new : NumberedHub T U B D) (reply : Reply T)
+      → AtPortIf (PublisherGoes hub_ports with_hub_ports without_hub_publisher) (port_under (value_at old.made.publishers number)) old.hub
+      done new.hub
+      → new.made ≡ removed_if done (without_publisher number) old.made → reply ≡ done_reply done
+      → length new.made.loans.entries + loans_left_in new.hub.services.domains
+      + spare_closed (port_number.Publisher number) (Ok reply) old
+      ≤ length old.made.loans.entries + loans_left_in old.hub.services.domains
+  freed_done number true old new reply at is_made is =
+      let same = ap (λ made. length made.loans.entries) is_made in
+      let (fine, few) = publisher_frees (port_under (value_at old.made.publishers number)) old new at
+      (all_fine old.hub.services.domains) in
+      rw is (omega (arith, same, few))
+  freed_done number false old new reply at is_made is =
+      let few = loans_over 0 old.made new.made old.hub new.hub
+      (leave_balances loan_measure (port_number.Publisher number) old.made new.made old.hub new.hub reply (false, at, is_made, is)) in
+      rw is (omega (arith, few))
+
+  freed_never : (number : ℕ) (done : Bool) (old : NumberedHub T U B D)
+      → spare_closed (port_number.Subscriber number) (Ok (done_reply done)) old ≡ 0
+  freed_never number true old = refl
+  freed_never number false old = refl
+
+  freed_by : (number : PortNumber) (old new : NumberedHub T U B D) (reply : Reply T)
+      → LeaveStep hub_ports with_hub_ports without_hub_publisher without_hub_subscriber number old.made old.hub reply new.made new.hub
+      → length new.made.loans.entries + loans_left_in new.hub.services.domains + spare_closed number (Ok reply) old
+      ≤ length old.made.loans.entries + loans_left_in old.hub.services.domains
+  freed_by (port_number.Publisher number) old new reply (done, at, is_made, is) = freed_done number done old new reply at is_made is
+  freed_by (port_number.Subscriber number) old new reply (done, at, is_made, is) =
+      let few = loans_over 0 old.made new.made old.hub new.hub
+      (leave_balances loan_measure (port_number.Subscriber number) old.made new.made old.hub new.hub reply (done, at, is_made, is)) in
+      let none = freed_never number done old in
+      rw is (omega (arith, few, none))
+
+  loans_freed : (number : PortNumber) (old new : NumberedHub T U B D) (answer : Result (Reply T) AllocError)
+      → IsReplied (λ reply. LeaveStep hub_ports with_hub_ports without_hub_publisher without_hub_subscriber number old.made old.hub reply
+      new.made new.hub × (new.factories ≡ old.factories)) answer
+      → length new.made.loans.entries + loans_left_in new.hub.services.domains + spare_closed number answer old
+      ≤ length old.made.loans.entries + loans_left_in old.hub.services.domains
+  loans_freed number old new (Ok reply) leaves = freed_by number old new reply leaves.0
+  loans_freed number old new (Err lacking) leaves = absurd leaves
+
   samples_kept : (old new : NumberedHub T U B D) → old.made.samples.room ≤ new.made.samples.room
-      → length new.made.subscribers.entries ≤ length old.made.subscribers.entries → new.pledged ≡ old.pledged
+      → length new.made.subscribers.entries ≤ length old.made.subscribers.entries → new.pledged.samples ≡ old.pledged.samples
       → Balances sample_measure 0 old.made old.hub new.made new.hub → HaveGrown old.hub.services.domains → HasSampleRoom old
       → HasSampleRoom new
   samples_kept old new roomier stay same balances grown =
       let few = samples_over 0 old.made new.made old.hub new.hub grown balances in
       room_kept old.made.subscribers new.made.subscribers old.made.samples new.made.samples (samples_left_in old.hub.services.domains)
-      (samples_left_in new.hub.services.domains) old.pledged.samples new.pledged.samples stay roomier (omega (arith, few))
-      (ap (λ (all : Pledged). all.samples) same)
+      (samples_left_in new.hub.services.domains) old.pledged.samples new.pledged.samples stay roomier (omega (arith, few)) same
 
   -- where as many are pledged, more room is room still
   pub roomier_loans : (old new : NumberedHub T U B D) → OnlyRoomier old new → new.pledged.loans ≡ old.pledged.loans → HasLoanRoom old
@@ -465,21 +506,38 @@ module _ {T U B D : Type 0} where
 
   module _ (terms : Terms T U B D)
       (asked : Command T) (old new : NumberedHub T U B D) (answer : Result (Reply T) AllocError) where
+    samples_stay : Step terms asked old answer new → OfPorts (KeepsRoom old new) asked → new.pledged.samples ≡ old.pledged.samples
+        → HaveGrown old.hub.services.domains → HasSampleRoom old → HasSampleRoom new
+    samples_stay step of same =
+        let (loan_room, sample_room) = no_room_goes terms asked old new answer step in
+        step_holds sample_measure terms old new (HaveGrown old.hub.services.domains → HasSampleRoom old → HasSampleRoom new)
+        (λ keeps. let (stay, balances) = keeps in samples_kept old new sample_room stay.1 same balances) asked answer step
+        (of_ports asked (λ keeps. keeps.1) of)
+
     -- each command leaves the room, if those do by which ports come, and no other pledges
-    pub step_room : Step terms asked old answer new → OfPorts (KeepsRoom old new) asked → OfOthers (new.pledged ≡ old.pledged) asked
+    pub step_room : Step terms asked old answer new → OfPorts (KeepsRoom old new) asked → PledgesStay asked old answer new
         → KeepsRoom old new
-    step_room step of others = elim (of_either asked of others) [
-      | inl keeps ↦ keeps
-      | inr same ↦
-          let (loan_room, sample_room) = no_room_goes terms asked old new answer step in (
+    step_room step of pledges =
+        let (loan_room, sample_room) = no_room_goes terms asked old new answer step in
+        elim (by_pledges asked old new answer of pledges) [
+          | inl keeps ↦ keeps
+          | inr (inl same) ↦ (
             step_holds loan_measure terms old new (HasLoanRoom old → HasLoanRoom new)
                 (λ keeps. let (stay, balances) = keeps in loans_kept old new loan_room stay.0 same balances) asked answer step
                 (of_ports asked (λ keeps. keeps.0) of),
-            step_holds sample_measure terms old new (HaveGrown old.hub.services.domains → HasSampleRoom old → HasSampleRoom new)
-                (λ keeps. let (stay, balances) = keeps in samples_kept old new sample_room stay.1 same balances) asked answer step
-                (of_ports asked (λ keeps. keeps.1) of),
+            samples_stay step of (ap (λ (all : Pledged). all.samples) same),
           )
-    ]
+          | inr (inr (number, is, same)) ↦
+              let few = loans_freed number old new answer (subst (λ one. Step terms one old answer new) is step) in
+              let fewer = ap (λ (all : Pledged). all.loans) same in (
+                step_holds loan_measure terms old new (HasLoanRoom old → HasLoanRoom new)
+                    (λ keeps. room_left old.made.publishers new.made.publishers old.made.loans new.made.loans
+                    (loans_left_in old.hub.services.domains) (loans_left_in new.hub.services.domains) old.pledged.loans
+                    new.pledged.loans (spare_closed number answer old) keeps.0.0 loan_room few fewer) asked answer step
+                    (of_ports asked (λ keeps. keeps.0) of),
+                samples_stay step of (ap (λ (all : Pledged). all.samples) same),
+              )
+        ]
 
   module _ (terms : Terms T U B D) where
     received_in_room : (subscriber : ℕ) (old new : NumberedHub T U B D) (lacking : AllocError)

@@ -1,9 +1,18 @@
 -- Capacity that is made when ports are created, so that memory never runs out for the number of a publisher's loan, or of a subscriber's
 -- sample.
-use Rattle.std.specs.Prelude.{ℕ, ◌≡◌, ◌+◌, ◌<◌, ◌≤◌, ◌⊎◌, [], length, max, Option, None, Some, IsSome}
+use Rattle.std.specs.Prelude.{ℕ, ◌≡◌, ◌+◌, ◌-◌, ◌<◌, ◌≤◌, ◌⊎◌, [], length, max, Option, None, Some, IsSome, Result, Ok, Err}
+use Rattle.std.specs.declared.alloc.AllocError.{AllocError}
 use Rattle.iox_command.specs.declared.command.Command.{Command}
 use Rattle.iox_command.specs.declared.command.Command.TheVariants as command
+use Rattle.iox_command.specs.declared.port.PortNumber.{PortNumber}
+use Rattle.iox_command.specs.declared.port.PortNumber.TheVariants as port_number
+use Rattle.iox_command.specs.declared.reply.Reply.{Reply}
+use Rattle.iox_command.specs.declared.reply.Reply.TheVariants as reply
+use Rattle.iox_domain.specs.Loans.{spare_loans}
 use Rattle.iox_domain.specs.Samples.{held_by_one, held_of_one}
+use Rattle.iox_delivery.specs.DomainPorts.Publishers.{port_of}
+use Rattle.iox_delivery.specs.DomainPorts.declared.publisher_port.PublisherPort.{PublisherPort}
+use Rattle.iox_delivery.specs.declared.port_id.PortId.{PortId}
 use Rattle.iox_delivery.specs.Domain.declared.domain_id.DomainId.{DomainId}
 use Rattle.iox_delivery.specs.Domain.declared.ports.service_ports.ServicePorts.{ServicePorts}
 use Rattle.iox_hub_commands.specs.Reading.{values_under}
@@ -17,7 +26,7 @@ use Rattle.iox_hub_commands.specs.Grown.{HaveGrown}
 use Rattle.iox_hub_commands.specs.Naming.{most_loans}
 use Rattle.iox_hub_commands.specs.Services.{domain_of_factory}
 use Rattle.iox_hub_commands.specs.ServicesTables.{publish_subscribe_in}
-use Rattle.iox_hub_commands.specs.Tables.{lender}
+use Rattle.iox_hub_commands.specs.Tables.{lender, port_under}
 use Rattle.iox_hub_commands.specs.declared.numbered_hub.NumberedHub.{NumberedHub}
 
 -- `Holds` is stated of a command that creates a port; nothing is stated of other commands.
@@ -25,12 +34,6 @@ abbrev pub OfPorts : {T : Type 0} → Type 0 → Command T → Type 0
 OfPorts Holds (command.Publisher factory options) = Holds
 OfPorts Holds (command.Subscriber factory options) = Holds
 OfPorts Holds other = Unit {0}
-
--- `Holds` is stated of a command that creates no port; nothing is stated of the two that do.
-abbrev pub OfOthers : {T : Type 0} → Type 0 → Command T → Type 0
-OfOthers Holds (command.Publisher factory options) = Unit {0}
-OfOthers Holds (command.Subscriber factory options) = Unit {0}
-OfOthers Holds other = Holds
 
 -- The table has capacity for its entries, for this many more, and for one more besides.
 abbrev pub FitsBeside : {V : Type 0} → ℕ → NumberTable V → Type 0
@@ -60,6 +63,16 @@ abbrev pub most_samples_of : {T U : Type 0} → Option (ServicePorts T U) → �
 most_samples_of None = 0
 most_samples_of (Some ports) = held_of_one ports
 
+-- How many more loans the publisher may make; 0 if there is none.
+abbrev pub spare_at : {T U : Type 0} → Option (PublisherPort T U) → ℕ
+spare_at None = 0
+spare_at (Some port) = spare_loans port
+
+-- How many more loans the publisher with this number may make; 0 if the service's domain isn't in the hub, or has no such publisher.
+abbrev pub spare_of : {T U : Type 0} → ℕ → Option (ServicePorts T U) → ℕ
+spare_of number None = 0
+spare_of number (Some ports) = spare_at (port_of number ports.publishers)
+
 module _ {T U B D : Type 0} where
   -- How many samples a new subscriber of this domain may hold at once.
   abbrev pub most_samples_at : DomainId → NumberedHub T U B D → ℕ
@@ -87,6 +100,30 @@ module _ {T U B D : Type 0} where
   -- ports.
   abbrev pub KeepsRoom : NumberedHub T U B D → NumberedHub T U B D → Type 0
   KeepsRoom old new = (HasLoanRoom old → HasLoanRoom new) × (HaveGrown old.hub.services.domains → HasSampleRoom old → HasSampleRoom new)
+
+  -- How many more loans the publisher with this id may make; 0 if there is none.
+  abbrev pub spare_under : Option PortId → NumberedHub T U B D → ℕ
+  spare_under None hub = 0
+  spare_under (Some port) hub = spare_of port.number (hub_ports port.domain hub.hub)
+
+  -- How many more loans the port may make that a command names: none if it is a subscriber.
+  abbrev pub spare_named : PortNumber → NumberedHub T U B D → ℕ
+  spare_named (port_number.Publisher number) hub = spare_under (port_under (value_at hub.made.publishers number)) hub
+  spare_named (port_number.Subscriber number) hub = 0
+
+  -- How many loans a port could still have made when a command closed it; 0 if that was skipped.
+  abbrev pub spare_closed : PortNumber → Result (Reply T) AllocError → NumberedHub T U B D → ℕ
+  spare_closed number (Ok reply.Done) hub = spare_named number hub
+  spare_closed number other hub = 0
+
+  -- What a command makes of the reserved numbers, if it creates no port: the numbers of the loans that a closed publisher could still have
+  -- made are reserved no longer, and all others stay reserved. Nothing is stated of a command that creates a port.
+  abbrev pub PledgesStay : Command T → NumberedHub T U B D → Result (Reply T) AllocError → NumberedHub T U B D → Type 0
+  PledgesStay (command.Publisher factory options) old answer new = Unit {0}
+  PledgesStay (command.Subscriber factory options) old answer new = Unit {0}
+  PledgesStay (command.Leave number) old answer new =
+      new.pledged ≡ record old.pledged { loans = old.pledged.loans - spare_closed number answer old }
+  PledgesStay other old answer new = new.pledged ≡ old.pledged
 
   -- The capacity for numbers has grown at most to twice as many as are in use, as the existing ports may still need, and as `loans` and
   -- `samples` say, plus one for each factory, and one more.

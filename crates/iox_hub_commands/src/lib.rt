@@ -17,6 +17,7 @@
 //! | `numbered_hub` | the hub with all that commands made in it |
 //! | `service_step` | the commands on nodes and services |
 //! | `room_arriving` | how ports are created, after the numbers of their loans and samples were reserved |
+//! | `room_leaving` | how ports are closed, after which the numbers of a publisher's loans are free |
 //! | `step` | one command, and its reply |
 //! | `port_step` | one command of a port, and its reply |
 //! | `room` | numbers of loans and samples that are reserved for ports, and capacity for them |
@@ -53,6 +54,7 @@ pub mod receiving;
 pub mod replies;
 pub mod room;
 mod room_arriving;
+mod room_leaving;
 pub mod run;
 mod service_step;
 pub mod services;

@@ -5,7 +5,7 @@ ghost use Rattle.iox_hub_commands.specs.Agreements.{AreOfOneAgreement};
 ghost use Rattle.iox_hub_commands.specs.Grown.{GrowsOn, HaveGrown, AreAsAgreed, OneDomainMoves};
 ghost use Rattle.iox_hub_commands.specs.Lives.{ChangesOneThing};
 ghost use Rattle.iox_hub_commands.specs.Numbers.{numbers_used};
-ghost use Rattle.iox_hub_commands.specs.PortRoom.{FindsPort, HasRoom, KeepsRoom, LacksInRoom};
+ghost use Rattle.iox_hub_commands.specs.PortRoom.{FindsPort, HasRoom, KeepsRoom, LacksInRoom, PledgesStay};
 ghost use Rattle.iox_hub_commands.specs.CommandSteps.{Step};
 ghost use Rattle.iox_hub_commands.specs.Terms.{terms_of};
 
@@ -55,7 +55,7 @@ impl<
         command: PortCommand<T>,
     ) -> Result<Reply<T>, AllocError>
         requires { numbers_used self.old + 1 < 2 ^ 64 }
-        ensures pledged { self.new.pledged ≡ self.old.pledged }
+        ensures pledged { PledgesStay (command_of command.entry) self.old result self.new }
         ensures finds { OnErr result (FindsPort (command_of command.entry) self.old) }
         ensures steps { Step (terms_of T.name T.size T.alignment T.is_default U.name U.size U.alignment U.is_default B.fixed
             (λ handlers. B.degrades handlers) (λ handlers. B.decides handlers) D.fixed (λ handler. D.degrades handler))
@@ -107,9 +107,7 @@ impl<
             PortCommand::Update { port } => {
                 Ok(following::update(alloc, &self.made, &mut self.hub, port))
             }
-            PortCommand::Leave { port } => {
-                Ok(following::leave(&mut self.made, &mut self.hub, port))
-            }
+            PortCommand::Leave { port } => Ok(self.leave(port)),
             PortCommand::Has { subscriber } => {
                 Ok(following::has(alloc, &self.made, &mut self.hub, subscriber))
             }

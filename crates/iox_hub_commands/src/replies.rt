@@ -93,7 +93,7 @@ pub fn sent_reply<T>(answer: Option<Result<Sent, SendError>>) -> Reply<T>
     }
 }
 
-/// The reply to a send that was given up; None is skipped.
+/// The reply to a send that was given up: how many mailboxes took the message before. With None the command is skipped.
 /// Example: `given_up_reply(Some(1))`
 pub fn given_up_reply<T>(answer: Option<usize>) -> Reply<T>
     ensures { result ≡ replied.given_up_reply answer }

@@ -14,8 +14,8 @@ use iox_domain_values::{Decides, Degrades};
 use std::alloc::AllocError;
 
 /// How many numbers of loans and of samples are reserved: enough for those in use and for all that the open ports may still need. Creating
-/// a port reserves what the port may need. Closing it takes nothing back: its share ends only when all ports are counted anew, since the
-/// capacity doesn't suffice for a new port.
+/// a port reserves what the port may need. Closing a publisher gives back what it could still have loaned. What else closed ports had
+/// reserved is given back only when all ports are counted anew, since the capacity doesn't suffice for a new port.
 ///
 /// Not in `iceoryx2`.
 #[derive(Clone, Copy)]

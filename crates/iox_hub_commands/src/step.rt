@@ -1,10 +1,10 @@
 //! One command, and its reply.
-ghost use Rattle.std.specs.Prelude.{◌≡◌, ◌+◌, ◌<◌, ◌≤◌, ◌^◌, OnErr, OnOk};
+ghost use Rattle.std.specs.Prelude.{◌≡◌, ◌+◌, ◌<◌, ◌≤◌, ◌^◌, IfOk, Ok, OnErr, OnOk};
 ghost use Rattle.iox_hub_commands.specs.Agreements.{AreOfOneAgreement};
 ghost use Rattle.iox_hub_commands.specs.Grown.{GrowsOn, HaveGrown, AreAsAgreed, OneDomainMoves};
 ghost use Rattle.iox_hub_commands.specs.Lives.{ChangesOneThing};
 ghost use Rattle.iox_hub_commands.specs.Numbers.{numbers_used};
-ghost use Rattle.iox_hub_commands.specs.PortRoom.{FindsPort, GrowsAs, HasRoom, KeepsRoom, LacksInRoom, OfOthers, OfPorts};
+ghost use Rattle.iox_hub_commands.specs.PortRoom.{FindsPort, GrowsAs, HasRoom, KeepsRoom, LacksInRoom, OfPorts, PledgesStay};
 ghost use Rattle.iox_hub_commands.specs.CommandSteps.{Step, StepsUnlessOfPort};
 ghost use Rattle.iox_hub_commands.specs.Terms.{terms_of};
 
@@ -62,7 +62,7 @@ impl<
         requires { numbers_used self.old + 1 < 2 ^ 64 }
         ensures comes { OfPorts (KeepsRoom self.old self.new) command.entry }
         ensures capacity { GrowsAs command.entry self.old self.new }
-        ensures pledged { OfOthers (self.new.pledged ≡ self.old.pledged) command.entry }
+        ensures pledged { PledgesStay command.entry self.old result self.new }
         ensures finds { OnErr result (FindsPort command.entry self.old) }
         ensures steps { Step (terms_of T.name T.size T.alignment T.is_default U.name U.size U.alignment U.is_default B.fixed
             (λ handlers. B.degrades handlers) (λ handlers. B.decides handlers) D.fixed (λ handler. D.degrades handler)) command.entry
@@ -84,7 +84,7 @@ impl<
         requires { numbers_used self.old + 1 < 2 ^ 64 }
         ensures comes { OnOk result (OfPorts (KeepsRoom self.old self.new) command.entry) }
         ensures capacity { OnOk result (GrowsAs command.entry self.old self.new) }
-        ensures pledged { OnOk result (OfOthers (self.new.pledged ≡ self.old.pledged) command.entry) }
+        ensures pledged { IfOk result (λ reply. PledgesStay command.entry self.old (Ok reply) self.new) }
         ensures steps { StepsUnlessOfPort (Step (terms_of T.name T.size T.alignment T.is_default U.name U.size U.alignment U.is_default
             B.fixed (λ handlers. B.degrades handlers) (λ handlers. B.decides handlers) D.fixed (λ handler. D.degrades handler)))
             command.entry self.old result self.new }

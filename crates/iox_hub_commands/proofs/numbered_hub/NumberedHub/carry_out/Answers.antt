@@ -1,6 +1,5 @@
-use Rattle.std.proofs.Common.{◌∙◌, ap}
 use Rattle.iox_hub_commands.proofs.GrowingFor.{no_growth}
-use Rattle.iox_hub_commands.proofs.PortRooms.{no_port, of_port}
+use Rattle.iox_hub_commands.proofs.PortRooms.{no_port}
 use Rattle.iox_hub_commands.proofs.numbered_hub.NumberedHub.carry_out.Goals as goal
 
 pub carry_out_port-requires : goal.carry_out_port-requires
@@ -11,7 +10,7 @@ returns-in-Err g c =
     let (is, same) = c.in-Err.ensures.steps in record {
       comes = rw is (no_port _ c.in-Err.command);
       capacity = rw is (no_growth c.in-Err.command c.args.self.now c.carry_out_port.new.self);
-      pledged = rw is (of_port c.in-Err.command (c.carry_out_port.ensures.pledged ∙ ap (λ hub. hub.pledged) same));
+      pledged = rw (is, ← same) c.carry_out_port.ensures.pledged;
       finds = rw (is, ← same) c.carry_out_port.ensures.finds;
       steps = rw (is, ← same) c.carry_out_port.ensures.steps;
     }

@@ -1,6 +1,6 @@
 use Rattle.iox_hub_commands.specs.Terms.{terms_of}
 use Rattle.iox_hub_commands.proofs.AsAgreed.{are_as_agreed}
-use Rattle.iox_hub_commands.proofs.PortRooms.{step_room, lacks_in_room, no_port, of_port}
+use Rattle.iox_hub_commands.proofs.PortRooms.{step_room, lacks_in_room, no_port}
 use Rattle.iox_hub_commands.proofs.StepChanges.{step_changes, changes_count}
 use Rattle.iox_hub_commands.proofs.StepMoves.{step_goes}
 use Rattle.iox_hub_commands.proofs.numbered_hub.NumberedHub.step_port.Goals as goal
@@ -53,7 +53,7 @@ returns-clause-room g c = step_room (terms_of g.T.ZeroCopySend.name g.T.ZeroCopy
     (λ value. g.U.Default.is_default value) g.B.PublisherHandlers.fixed (λ handlers. g.B.Degrades.degrades handlers)
     (λ handlers. g.B.Decides.decides handlers) g.D.SubscriberHandler.fixed (λ handler. g.D.Degrades.degrades handler)) _ c.args.self.now
     c.carry_out_port.new.self c.carry_out_port.result c.carry_out_port.ensures.steps (no_port _ c.args.command)
-    (of_port c.args.command c.carry_out_port.ensures.pledged)
+    c.carry_out_port.ensures.pledged
 
 pub returns-clause-lacks : goal.returns-clause-lacks
 returns-clause-lacks g c = lacks_in_room (terms_of g.T.ZeroCopySend.name g.T.ZeroCopySend.size g.T.ZeroCopySend.alignment
