@@ -235,7 +235,7 @@ module _ {T U B D P : Type 0} (terms : Terms T U B D)
           terms.reader_degrades decides_so answers_so handed one old.1 answer later old.0 state.made many known),
     )
 
-    goes : (first more : List (HandledCommand T)) (most : ℕ) (old new : NumberedHub T U B D × List (Option (GivenHandler P D)))
+    pub goes : (first more : List (HandledCommand T)) (most : ℕ) (old new : NumberedHub T U B D × List (Option (GivenHandler P D)))
         (state : State T) (replies : List (Reply T))
         → AllByRecursion (AsksAmong names) (asked_plainly (first ++ more))
         → most + all_asked (asked_plainly (first ++ more)) < 2 ^ 56
@@ -328,19 +328,19 @@ module _ {T U B D P : Type 0} (terms : Terms T U B D)
     -- ---- a run that stopped
 
     -- the commands before one are fewer than all
-    before_one : (first : List (HandledCommand T)) (one : HandledCommand T) (rest : List (HandledCommand T))
+    pub before_one : (first : List (HandledCommand T)) (one : HandledCommand T) (rest : List (HandledCommand T))
         → all_asked (asked_plainly first) + (1 + steps_named (without_places one)) ≤ all_asked (asked_plainly (first ++ one ∷ rest))
     before_one [] one rest = omega arith
     before_one (other ∷ first) one rest = let it = before_one first one rest in omega (arith, it)
 
     -- it asks among the names
-    asks_one : (first : List (HandledCommand T)) (one : HandledCommand T) (rest : List (HandledCommand T))
+    pub asks_one : (first : List (HandledCommand T)) (one : HandledCommand T) (rest : List (HandledCommand T))
         → AllByRecursion (AsksAmong names) (asked_plainly (first ++ one ∷ rest)) → AsksAmong names (without_places one)
     asks_one [] one rest asks = asks.0
     asks_one (other ∷ first) one rest asks = asks_one first one rest asks.1
 
     -- each has a reply
-    as_many : (first : List (HandledCommand T)) (old new : NumberedHub T U B D × List (Option (GivenHandler P D)))
+    pub as_many : (first : List (HandledCommand T)) (old new : NumberedHub T U B D × List (Option (GivenHandler P D)))
         (replies : List (Reply T)) → Runs Handles first old replies new → length first ≡ length replies
     as_many [] old new replies (none, same) = sym (ap (λ (these : List (Reply T)). length these) none)
     as_many (one ∷ first) old new replies (answer, mid, rest, step, runs, is) =
@@ -448,15 +448,3 @@ module _ {T U B D P : Type 0} (terms : Terms T U B D)
                   (lacks_goes one gone.later mid new gone.after lacking (asks_one first one rest asks) (omega (arith, few, fewer, room))
                   gone.stands lack)),
             ))
-
-    -- a run, up to the hub that it came to before it stopped
-    pub run_goes : (commands : List (HandledCommand T)) (most : ℕ) (old new : NumberedHub T U B D × List (Option (GivenHandler P D)))
-        (state : State T) (replies : List (Reply T)) (stopped : Bool) → AllByRecursion (AsksAmong names) (asked_plainly commands)
-        → most + all_asked (asked_plainly commands) < 2 ^ 56 → Known (turns commands replies old.1) state → Stands names most old.0 state
-        → IsRun Handles commands old replies stopped new
-        → (hub : NumberedHub T U B D) × Gone (most + all_asked (asked_plainly commands)) old.0.hub.expired_connection_buffer
-        (turns commands replies old.1) state hub
-    run_goes commands most old new state replies false asks few known it runs =
-        (new.0, whole_goes commands most old new state replies asks few known it runs)
-    run_goes commands most old new state replies true asks few known it runs =
-        let (hub, gone, stands) = stopped_goes commands most old new state replies asks few known it runs in (hub, gone)

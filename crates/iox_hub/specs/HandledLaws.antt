@@ -1,15 +1,13 @@
 -- Theorems about runs with handlers, in terms of the machine of `iox_machine`.
-use Rattle.std.specs.Prelude.{ℕ, ◌≡◌, ◌^◌, ◌<◌, Bool, true, List, length, map, Option}
+use Rattle.std.specs.Prelude.{ℕ, ◌≡◌, ◌^◌, ◌<◌, Bool, true, List, map, Option}
 use Rattle.iox_hub_commands.specs.Command.declared.reply.Reply.{Reply}
 use Rattle.iox_hub_commands.specs.DescribeBase.declared.pattern.MessagingPattern.{MessagingPattern}
 use Rattle.iox_hub_commands.specs.Domain.declared.ports.service_ports.ServicePorts.{ServicePorts}
 use Rattle.iox_hub_commands.specs.DomainValues.declared.backpressure.BackpressureAction.{BackpressureAction}
 use Rattle.iox_hub_commands.specs.DomainValues.declared.backpressure_strategy.BackpressureStrategy.{BackpressureStrategy}
 use Rattle.iox_hub_commands.specs.DomainValues.declared.degradation.DegradationAction.{DegradationAction}
-use Rattle.iox_hub_commands.specs.Grown.{HaveGrown}
 use Rattle.iox_hub_commands.specs.HubBase.declared.hub.HubConfig.{HubConfig}
 use Rattle.iox_hub_commands.specs.Numbers.{IsNew}
-use Rattle.iox_hub_commands.specs.PortRoom.{HasRoom}
 use Rattle.iox_hub_commands.specs.Runs.{IsRun, Runs}
 use Rattle.iox_hub_commands.specs.declared.numbered_hub.NumberedHub.{NumberedHub}
 use Rattle.iox_hub_commands.specs.Terms.{Terms}
@@ -18,7 +16,7 @@ use Rattle.iox_hub_machine.specs.ArrivalLaws.{AnswersAsFixed, DecidesAsFixed}
 use Rattle.iox_hub_machine.specs.RunLaws.{all_asked, names_in}
 use Rattle.iox_hub_machine.specs.Services.{HubStandsFor}
 use Rattle.iox_hub.specs.HandledAnswers.{AnswersWithHandlers}
-use Rattle.iox_hub.specs.Room.{StopsInTime}
+use Rattle.iox_hub.specs.Room.{HandledStepInRoom}
 use Rattle.iox_hub.specs.Turns.{answered_in, asked_in, handed_in, turns, without_places}
 use Rattle.iox_hub.specs.declared.given.GivenHandler.{GivenHandler}
 use Rattle.iox_hub.specs.declared.handled_command.HandledCommand.{HandledCommand}
@@ -31,12 +29,13 @@ use Rattle.iox_negotiate_machine.specs.Laws.{HaveOwnHashes}
 -- The parameters: the terms of the hub, and the handlers that are made of handed-in ones.
 module _ {T U B D P : Type 0} (terms : Terms T U B D)
     (handled : BackpressureStrategy → Option BackpressureAction → DegradationAction → Option P → Option D → B) where
-  -- The replies of each run of a new hub that stops only where it may are ones that a new machine may give (`AnswersWithHandlers`).
+  -- The replies of each run of a new hub are ones that a new machine may give (`AnswersWithHandlers`), if in a run that stopped each
+  -- command did what `HandledStepInRoom` says.
   abbrev pub HandledRunsAnswer : Type 0
   HandledRunsAnswer = (config : HubConfig) (commands : List (HandledCommand T))
       (old new : NumberedHub T U B D × List (Option (GivenHandler P D))) (replies : List (Reply T)) (stopped : Bool)
       → IsRun (HandledStep terms handled) commands old replies stopped new
-      → (HasRoom old.0 → HaveGrown old.0.hub.services.domains → stopped ≡ true → StopsInTime commands old (length replies) new)
+      → (stopped ≡ true → IsRun (HandledStepInRoom terms handled) commands old replies stopped new)
       → AnswersWithHandlers terms.types terms.is_default terms.fixed handled terms.degrades terms.decides terms.fixed_reader
       terms.reader_degrades config commands old.0 old.1 replies stopped
 

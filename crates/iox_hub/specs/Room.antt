@@ -1,8 +1,16 @@
 -- Where a run of commands with handlers may stop, if its ports have capacity for the numbers of loans and samples.
-use Rattle.std.specs.Prelude.{ℕ, ◌≡◌, ◌⊎◌, List, slice_get, Some}
-use Rattle.iox_hub_commands.specs.PortRoom.{LacksInRoom}
+use Rattle.std.specs.Prelude.{ℕ, ◌≡◌, ◌⊎◌, List, slice_get, Option, Some, Result, OnErr}
+use Rattle.std.specs.declared.alloc.AllocError.{AllocError}
+use Rattle.iox_hub_commands.specs.Command.declared.reply.Reply.{Reply}
+use Rattle.iox_hub_commands.specs.DomainValues.declared.backpressure.BackpressureAction.{BackpressureAction}
+use Rattle.iox_hub_commands.specs.DomainValues.declared.backpressure_strategy.BackpressureStrategy.{BackpressureStrategy}
+use Rattle.iox_hub_commands.specs.DomainValues.declared.degradation.DegradationAction.{DegradationAction}
+use Rattle.iox_hub_commands.specs.PortRoom.{HasRoom, KeepsRoom, LacksInRoom}
 use Rattle.iox_hub_commands.specs.Room as plain
+use Rattle.iox_hub_commands.specs.Terms.{Terms}
 use Rattle.iox_hub_commands.specs.declared.numbered_hub.NumberedHub.{NumberedHub}
+use Rattle.iox_hub.specs.Steps.{HandledStep}
+use Rattle.iox_hub.specs.declared.given.GivenHandler.{GivenHandler}
 use Rattle.iox_hub.specs.declared.handled_command.HandledCommand.{HandledCommand}
 use Rattle.iox_hub.specs.declared.handled_command.HandledCommand.TheVariants as asked
 
@@ -28,3 +36,13 @@ abbrev pub HandledLacks : {T U B D : Type 0} → HandledCommand T → NumberedHu
 HandledLacks (asked.Plain command) old new = LacksInRoom command old new
 HandledLacks (asked.Publisher factory options at_full at_failure) old new = ⊥
 HandledLacks (asked.Subscriber factory options at_failure) old new = ⊥
+
+-- What each command does, as `HandledStep` says, and, if the ports have the capacity that they need, that they keep it, and for which
+-- values memory ran out where there is no reply.
+pub record HandledStepInRoom {T U B D P : Type 0} (terms : Terms T U B D)
+    (handled : BackpressureStrategy → Option BackpressureAction → DegradationAction → Option P → Option D → B) (one : HandledCommand T)
+    (old : NumberedHub T U B D × List (Option (GivenHandler P D))) (answer : Result (Reply T) AllocError)
+    (new : NumberedHub T U B D × List (Option (GivenHandler P D))) : Type 0 where
+  pub step : HandledStep terms handled one old answer new
+  pub room : KeepsRoom old.0 new.0
+  pub lacks : HasRoom old.0 → OnErr answer (HandledLacks one old.0 new.0)

@@ -10,6 +10,7 @@ use crate::handlers::TakesHandlers;
 use iox_describe_base::ZeroCopySend;
 use iox_hub_commands::SubscriberHandler;
 use iox_hub_machine::runs::{decided_runs_go_on, new_hub_begins};
+use iox_machine::messages_are_short;
 use iox_queues_base::Words;
 
 /// A run of commands that name no handler is a run of `NumberedHub::run`, and leaves all handlers in their places.
@@ -30,9 +31,9 @@ pub fn plain_commands_take_nothing<
 /// The replies of a new hub to commands with handlers are ones that a new machine may give: to all commands, or, if the run stopped, to
 /// those before a command at which a run may stop. For each port, by its number, the machine has the handlers that were handed in for it,
 /// as the replies say (`handed_in`). A command that doesn't find a handler that it names is skipped, and the machine isn't given it.
-/// `IsRun` and `StopsInTime` are what `run` ensures of its replies. This holds if no two services of the names that are asked for share a
-/// hash, commands and actions of other nodes are fewer than 2 ^ 56, and handlers that are made of fixed actions decide by these, as
-/// `FixedHandlers` and `FixedDegradation` do.
+/// `IsRun` is what `run` ensures of its replies. This holds if no two services of the names that are asked for share a hash, commands and
+/// actions of other nodes are fewer than 2 ^ 56, and handlers that are made of fixed actions decide by these, as `FixedHandlers` and
+/// `FixedDegradation` do.
 pub fn runs_with_handlers_answer<
     T: Words + ZeroCopySend + Default,
     U: Copy + ZeroCopySend + Default,
@@ -46,6 +47,7 @@ pub fn runs_with_handlers_answer<
 {
     new_hub_begins::<T, U, B, D>();
     decided_runs_go_on::<T, U, B, D>();
+    messages_are_short::<T, B, D>();
 }
 
 /// A hub that replied to all commands represents a state that a new machine reaches with the same replies, under the same premises as

@@ -34,8 +34,10 @@
 //! // where the node and the factory are of the hub
 //! let asked = hub.service_builder(&node, name).publish_subscribe::<u64>();
 //! let service = asked.open_or_create_in(alloc, &mut hub, Vec::new(alloc))?;
-//! let builder = hub.publisher_builder(&service)?;
-//! let publisher = builder.create(alloc, &mut hub)?;
+//! // None: the service has other types than the hub, or is out of it
+//! if let Some(builder) = hub.publisher_builder(&service) {
+//!     let publisher = builder.create(alloc, &mut hub)?;
+//! }
 //! ```
 //!
 //! First commands, on a hub of `iox_hub_commands` whose ports may have boxed handlers:

@@ -11,7 +11,7 @@ ghost use Rattle.iox_hub_commands.specs.Runs.{IsRun};
 ghost use Rattle.iox_hub_commands.specs.Terms.{terms_of};
 ghost use Rattle.iox_hub.specs.HandledAnswers.{AnswersWithHandlers};
 ghost use Rattle.iox_hub.specs.HandledGoing.{GoesOnWithHandlers};
-ghost use Rattle.iox_hub.specs.Room.{StopsInTime};
+ghost use Rattle.iox_hub.specs.Room.{HandledStepInRoom, StopsInTime};
 ghost use Rattle.iox_hub.specs.Steps.{HandledStep};
 ghost use Rattle.iox_hub.specs.Taking.{TakesOnce, taken};
 
@@ -50,6 +50,10 @@ pub fn run<
 ) -> RunReport<T>
     requires { numbers_used hub.old + length commands.items < 2 ^ 64 }
     ensures ran { IsRun (HandledStep (terms_of T.name T.size T.alignment T.is_default U.name U.size U.alignment U.is_default B.fixed
+        (λ handlers. B.degrades handlers) (λ handlers. B.decides handlers) D.fixed (λ handler. D.degrades handler))
+        (λ strategy action degrading at_full at_failure. B.handled strategy action degrading at_full at_failure)) commands.entry.items
+        (hub.old, given.old.places.items) result.replies.items result.stopped (hub.new, given.new.places.items) }
+    ensures each { IsRun (HandledStepInRoom (terms_of T.name T.size T.alignment T.is_default U.name U.size U.alignment U.is_default B.fixed
         (λ handlers. B.degrades handlers) (λ handlers. B.decides handlers) D.fixed (λ handler. D.degrades handler))
         (λ strategy action degrading at_full at_failure. B.handled strategy action degrading at_full at_failure)) commands.entry.items
         (hub.old, given.old.places.items) result.replies.items result.stopped (hub.new, given.new.places.items) }
@@ -96,6 +100,10 @@ fn carry_out_all<
 ) -> RunReport<T>
     requires { numbers_used hub.old + length commands.items < 2 ^ 64 }
     ensures ran { IsRun (HandledStep (terms_of T.name T.size T.alignment T.is_default U.name U.size U.alignment U.is_default B.fixed
+        (λ handlers. B.degrades handlers) (λ handlers. B.decides handlers) D.fixed (λ handler. D.degrades handler))
+        (λ strategy action degrading at_full at_failure. B.handled strategy action degrading at_full at_failure)) commands.entry.items
+        (hub.old, given.old.places.items) result.replies.items result.stopped (hub.new, given.new.places.items) }
+    ensures each { IsRun (HandledStepInRoom (terms_of T.name T.size T.alignment T.is_default U.name U.size U.alignment U.is_default B.fixed
         (λ handlers. B.degrades handlers) (λ handlers. B.decides handlers) D.fixed (λ handler. D.degrades handler))
         (λ strategy action degrading at_full at_failure. B.handled strategy action degrading at_full at_failure)) commands.entry.items
         (hub.old, given.old.places.items) result.replies.items result.stopped (hub.new, given.new.places.items) }

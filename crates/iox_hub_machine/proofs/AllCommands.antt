@@ -40,6 +40,7 @@ use Rattle.iox_hub_machine.specs.GoingOnLaws.{DecidedRunsGoOn, NewHubBegins, Run
 use Rattle.iox_hub_machine.specs.RunLaws.{RunAnswers, RunStands}
 use Rattle.iox_hub_machine.specs.TypedTerms.{asked_terms}
 use Rattle.iox_machine.specs.Choices.{Choices, as_named}
+use Rattle.iox_machine.specs.RunLaws.{MessagesAreShort}
 use Rattle.iox_hub_commands.specs.Terms.{Terms}
 
 module _ {T U B D : Type 0} (variant : TypeVariant) (terms : Terms T U B D) (choices : Choices T) where
@@ -109,8 +110,8 @@ module _ {T U B D : Type 0} (variant : TypeVariant) (terms : Terms T U B D) wher
   begins : NewHubBegins U its_terms.types (as_named terms.is_default) terms.degrades terms.decides terms.reader_degrades
   begins = hub_begins its_terms.types (as_named terms.is_default) terms.degrades terms.decides terms.reader_degrades
 
-  pub commands_answer : RunAnswers its_terms
-  commands_answer = run_answers its_terms goes_on begins
+  pub commands_answer : MessagesAreShort (as_named terms.is_default) → RunAnswers its_terms
+  commands_answer short = run_answers its_terms goes_on begins short
 
   pub commands_stand : RunStands its_terms
   commands_stand = run_stands its_terms goes_on begins

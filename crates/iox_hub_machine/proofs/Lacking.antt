@@ -43,7 +43,7 @@ never_replied : {T : Type 0} (lacking : AllocError) (told : Reply T) → ◌≡�
 never_replied lacking told same = cc
 
 -- a sample that came has the number before the next one
-is_newest : (found : Option PortId) (received : Option (Result (Option Taken) ReceiveError)) (roomier after : Made) (sample : ℕ)
+pub is_newest : (found : Option PortId) (received : Option (Result (Option Taken) ReceiveError)) (roomier after : Made) (sample : ℕ)
     → NumbersSample found received roomier (Some (Ok (Some sample))) after → sample ≡ after.samples.next - 1
 is_newest found None roomier after sample (is, same) = absurd (differ is)
   where

@@ -10,6 +10,7 @@ pub mod Numbered
 pub mod Going
 pub mod Loans
 pub mod Samples
+pub mod Fitting
 pub mod Meantime
 pub mod PortsStay
 pub mod Nodes
@@ -77,6 +78,7 @@ pub mod Updated
 pub mod Takers
 pub mod NoValues
 pub mod Received
+pub mod Stopping
 pub mod AllCommands
 pub mod TableMore
 pub mod SeatsMore

@@ -1,9 +1,10 @@
 -- Subscribers of a hub receive.
-use Rattle.std.proofs.Common.{◌≡◌, ◌<◌, ◌+◌, ◌-◌, ◌^◌, ℕ, true, List, [], ◌∷◌, ◌++◌, map, Option, None, Some, Result, Ok, Err}
-use Rattle.std.proofs.Common.{refl, sym, ap, subst, ◌∙◌, arith}
+use Rattle.std.proofs.Common.{◌≡◌, ◌<◌, ◌+◌, ◌-◌, ◌^◌, ℕ, true, List, [], ◌∷◌, ◌++◌, length, map, Option, None, Some, Result}
+use Rattle.std.proofs.Common.{Ok, Err, refl, sym, ap, subst, ◌∙◌, arith}
 use Rattle.std.proofs.lemmas.List.{length-map}
 use Rattle.std.proofs.Math.Logic.{⊎_elim}
 use Rattle.std.specs.Global.{Vec}
+use Rattle.std.specs.List.{AllByRecursion}
 use Rattle.std.specs.Option.{option_map}
 use Rattle.std.specs.Prelude.{is_some, nat_eq}
 use Rattle.std.specs.Map.{lookup}
@@ -29,17 +30,18 @@ use Rattle.iox_domain.specs.DomainPorts.Messages.{Message}
 use Rattle.iox_domain.specs.DomainPorts.declared.attached.Taken.{Taken}
 use Rattle.iox_domain.specs.Reading.{sample_in}
 use Rattle.iox_domain.specs.Steps.{ReceivesBy}
+use Rattle.iox_domain.specs.Subscribers.{subscriber_of}
 use Rattle.iox_domain.specs.declared.ports.service_ports.ServicePorts.{ServicePorts}
 use Rattle.iox_domain_machine.specs.Laws.{Matches}
 use Rattle.iox_domain_machine.specs.Naming.{Naming}
 use Rattle.iox_domain_machine.specs.ReceiveLaws.{received_or_not, AreReceived, with_held}
 use Rattle.iox_domain_machine.specs.ServiceLaws.{ChangesAt}
-use Rattle.iox_domain_machine.specs.Services.{those_of, ComesOnce, StandInTurn}
+use Rattle.iox_domain_machine.specs.Services.{those_of, ComesOnce}
 use Rattle.iox_domain_machine.specs.Standing.{StandsFor}
 use Rattle.iox_domain_machine.specs.Tables.{LentSlot, samples_held_by}
-use Rattle.iox_domain_machine.proofs.Found.{never_some, at_mapped}
-use Rattle.iox_domain_machine.proofs.ReceivingPort.{receive_matches}
-use Rattle.iox_domain_machine.proofs.Services.{parted}
+use Rattle.iox_domain_machine.proofs.Found.{never_some, same_some, at_mapped}
+use Rattle.iox_domain_machine.proofs.Receiving.{WaitShort}
+use Rattle.iox_domain_machine.proofs.ReceivingPort.{receive_matches, received_short}
 use Rattle.iox_hub_base.specs.AsHome.{hub_ports, with_hub_ports}
 use Rattle.iox_hub_base.specs.ServicesAsHome.{domain_at, ports_if}
 use Rattle.iox_hub_commands.specs.Calls.{AtPort, Receives as ReceivesAt}
@@ -61,13 +63,13 @@ use Rattle.iox_hub_machine.proofs.Acting.{reader_acts_as}
 use Rattle.iox_hub_machine.proofs.Amidst.{at_one_skips}
 use Rattle.iox_hub_machine.proofs.Attending.{attending_alike, received_alike, standing_found}
 use Rattle.iox_hub_machine.proofs.Deciding.{DecideAlike, at_one_decides}
+use Rattle.iox_hub_machine.proofs.Fitting.{among_all, service_place}
 use Rattle.iox_hub_machine.proofs.Going.{same_stands}
-use Rattle.iox_hub_machine.proofs.Housed.{some_ports, stands_here, found_there}
+use Rattle.iox_hub_machine.proofs.Housed.{some_ports, found_there}
 use Rattle.iox_hub_machine.proofs.Lengthened.{none_next, one_added, its_added, changes_more, came_or_was}
 use Rattle.iox_hub_machine.proofs.Moving.{IsMatched}
 use Rattle.iox_hub_machine.proofs.NoValues.{vector_of_none}
 use Rattle.iox_hub_machine.proofs.Numbered.{is_nobodys}
-use Rattle.iox_hub_machine.proofs.Parting.{is_parted, order_has}
 use Rattle.iox_hub_machine.proofs.Readers.{ReaderGoes, reader_goes, no_subscriber_goes}
 use Rattle.iox_hub_machine.proofs.Renaming.{machine_does_named}
 use Rattle.iox_hub_machine.proofs.Roomier.{roomier_stands}
@@ -76,6 +78,7 @@ use Rattle.iox_hub_machine.proofs.Takers.{who_took, samples_within, rise_within}
 use Rattle.iox_machine.specs.Choices.{Choices}
 use Rattle.iox_machine.specs.Ports.{subscriber_in}
 use Rattle.iox_machine.specs.Receiving.{Receives}
+use Rattle.iox_machine.specs.RunLaws.{AllMessages}
 use Rattle.iox_machine.specs.Service.{Service, Subscriber}
 use Rattle.iox_machine.specs.State.{State, AtOne, counted}
 use Rattle.iox_machine.specs.SubscriberUpdate.{UpdatesFirst}
@@ -260,16 +263,7 @@ module _ {T U B D : Type 0} (choices : Choices T) (is_default_header : U → Typ
           × StandsFor (naming it.domain.service) (those_of it.domain.service (lent_in old.made))
           (those_of it.domain.service (held_in old.made)) buffer goes.ports service
       reader_place it goes =
-          let there : ℕ = it.domain.service in
-          let (domain, is, same) = some_ports (domain_at it.domain old.hub.services) goes.ports goes.found in
-          let at_it = order_has order old.hub.services.domains stands.here stands.same there domain
-          (stands_here it.domain goes.ports old.hub domain is) ∙ ap Some same in
-          let parts = is_parted there goes.ports order at_it in
-          let (first, service, last, place, before, stood, behind) = parted naming (lent_in old.made) (held_in old.made) buffer
-          parts.before parts.behind (there, goes.ports) state.services
-          (subst (λ (domains : List (ℕ × ServicePorts T U)). StandInTurn naming (lent_in old.made) (held_in old.made) buffer domains
-          state.services) parts.now stands.domains.each) in
-          (first, service, last, place, stood)
+          service_place choices degrades decides reader_degrades naming order old state stands it.domain goes.ports goes.found
 
       -- a sample came
       module _ (it : PortId) (goes : ReaderGoes naming old number it) (after : ServicePorts T U) (taken : Taken)
@@ -365,6 +359,76 @@ module _ {T U B D : Type 0} (choices : Choices T) (is_default_header : U → Typ
             arrived_by (sample_in taken after) refl
             (subst (λ (found : Option (List T)). IsArrival roomier.samples.next found answer) reads_it arrived)
 
+        -- what is read under its number is as short as what waits
+        newest_short : (most : ℕ) → AllByRecursion (AllMessages (λ publisher message. length message.values < most)) state.services
+            → (values : List T) → values_under hub_ports (value_at new.made.samples roomier.samples.next) new.hub ≡ Some values
+            → length values < most
+        newest_short most all values is = by (sample_in taken after) refl (sym reads_it ∙ is)
+          where
+            placed : (first : List (Service T)) × (service : Service T) × (last : List (Service T))
+                × (state.services ≡ first ++ service ∷ last)
+                × StandsFor (naming there) (those_of there (lent_in old.made)) (those_of there (held_in old.made)) buffer goes.ports service
+            placed = reader_place it goes
+
+            waits : WaitShort most placed.1
+            waits publisher reader box found =
+                ((among_all (AllMessages (λ publisher message. length message.values < most)) placed.0 placed.1 placed.2
+                (subst (AllByRecursion (AllMessages (λ publisher message. length message.values < most))) placed.3 all)).0 publisher reader
+                box found).0
+
+            by : (found : Option (Message T U)) → sample_in taken after ≡ found
+                → option_map (λ (message : Message T U). message.values) found ≡ Some values → length values < most
+            by None none e = never_some values e
+            by (Some message) is_there e =
+                subst (λ (items : List T). length items < most) (same_some message.values values e)
+                (received_short choices (subscriber_may_degrade reader_degrades it.domain it.number old.hub) types buffer (naming there)
+                (those_of there (lent_in old.made)) (those_of there (held_in old.made)) goes.ports after placed.1 state it.number
+                vector_of_none placed.4 (roomy_there it.domain goes.ports old.hub grown goes.found) goes.some
+                (reader_acts_as choices degrades decides reader_degrades naming order old state stands it.domain goes.ports goes.found
+                placed.0 placed.1 placed.2 placed.3 placed.4 it.number)
+                (is_nobodys there next (held_in old.made) nobody_next) (few_samples there it.number) most waits
+                (Some (Ok (Some taken))) (subscriber_of it.number goes.ports.subscribers) refl does taken refl message is_there)
+
+      -- if a number was given, what is read under it is as short as what waits
+      module _ (most : ℕ) (all : AllByRecursion (AllMessages (λ publisher message. length message.values < most)) state.services)
+          (up : new.made.samples.next ≡ old.made.samples.next + 1) where
+        abbrev IsNewestShort : Type 0
+        IsNewestShort = (values : List T)
+            → values_under hub_ports (value_at new.made.samples old.made.samples.next) new.hub ≡ Some values → length values < most
+
+        not_up : {A : Type 0} → new.made ≡ roomier → A
+        not_up made_so =
+            absurd (still (ap (λ (it : Made). it.samples.next) made_so ∙ room.3.1))
+          where
+            still : new.made.samples.next ≡ old.made.samples.next → ⊥
+            still same = omega (arith, up, same)
+
+        short_found : (it : PortId) (goes : ReaderGoes naming old number it) (after : ServicePorts T U)
+            (received : Option (Result (Option Taken) ReceiveError)) (answered : Option (Result (Option ℕ) ReceiveError))
+            → ReceivesBy (subscriber_may_degrade reader_degrades it.domain it.number old.hub) it.number goes.ports received after
+            → new.hub ≡ with_hub_ports it.domain after old.hub → NumbersSample (Some it) received roomier answered new.made
+            → IsNewestShort
+        short_found it goes after None answered does changes (is, made_so) = not_up made_so
+        short_found it goes after (Some (Err why)) answered does changes (is, made_so) = not_up made_so
+        short_found it goes after (Some (Ok None)) answered does changes (is, made_so) = not_up made_so
+        short_found it goes after (Some (Ok (Some taken))) answered does changes (is, made_so) =
+            λ values is_read. newest_short it goes after taken does changes made_so most all values
+            (ap (λ (n : ℕ). values_under hub_ports (value_at new.made.samples n) new.hub) room.3.1 ∙ is_read)
+
+        short_by : (received : Option (Result (Option Taken) ReceiveError)) (answered : Option (Result (Option ℕ) ReceiveError))
+            (found : Option PortId) → value_at old.made.subscribers number ≡ found
+            → AtPort (ReceivesAt hub_ports with_hub_ports (subscriber_may_degrade reader_degrades)) found old.hub received new.hub
+            → NumbersSample found received roomier answered new.made → IsNewestShort
+        short_by None answered None none (nothing, changes) (is, made_so) = not_up made_so
+        short_by (Some told) answered None none (nothing, changes) numbers = never_some told (sym nothing)
+        short_by received answered (Some it) is receives numbers =
+            let goes = reader_goes choices degrades decides reader_degrades naming order old state stands number it is in
+            let may = subscriber_may_degrade reader_degrades it.domain it.number old.hub in
+            let (after, does, changes) = subst (λ (ports : Option (ServicePorts T U)). AtDomain
+            (λ (one : ServicePorts T U). with_hub_ports it.domain one old.hub) (ReceivesBy may it.number) ports old.hub received new.hub)
+            goes.found receives in
+            short_found it goes after received answered does changes numbers
+
       abbrev read : ℕ → Option (List T)
       read sample = values_under hub_ports (value_at new.made.samples sample) new.hub
 
@@ -415,6 +479,22 @@ module _ {T U B D : Type 0} (choices : Choices T) (is_default_header : U → Typ
     receive_told (Err lacking) grows told = absurd (never_lacks answer lacking told)
     receive_told (Ok answered) (roomier, room, (received, receives, numbers)) replied =
         receive_by roomier room received answered (value_at old.made.subscribers number) refl receives numbers replied
+
+    -- a receive that gives a number reads under it what is as short as what waits
+    pub newest_is_short : (most : ℕ) → AllByRecursion (AllMessages (λ publisher message. length message.values < most)) state.services
+        → new.made.samples.next ≡ old.made.samples.next + 1
+        → (received : Result (Option (Result (Option ℕ) ReceiveError)) AllocError)
+        → GrowsFirst (IsFull old.made.samples)
+        (ReceivesNumbered hub_ports with_hub_ports (subscriber_may_degrade reader_degrades) (value_at old.made.subscribers number)) old.made
+        old.hub received new.made new.hub
+        → (values : List T) → values_under hub_ports (value_at new.made.samples old.made.samples.next) new.hub ≡ Some values
+        → length values < most
+    newest_is_short most all up (Err lacking) (full, made_so, same) = absurd (still (ap (λ (it : Made). it.samples.next) made_so))
+      where
+        still : new.made.samples.next ≡ old.made.samples.next → ⊥
+        still same = omega (arith, up, same)
+    newest_is_short most all up (Ok answered) (roomier, room, (received, receives, numbers)) =
+        short_by roomier room most all up received answered (value_at old.made.subscribers number) refl receives numbers
 
   pub receive_simulated : ReceiveIsSimulated choices is_default_header degrades decides reader_degrades
   receive_simulated number old grown rises fits payload user_header types fixed fixed_reader naming order new state answer stands

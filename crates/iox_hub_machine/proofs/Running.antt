@@ -1,10 +1,9 @@
 -- A run of a hub is a run of the machine, where each command is followed.
-use Rattle.std.proofs.Common.{◌≡◌, ◌⊎◌, ℕ, suc, ◌+◌, ◌^◌, ◌<◌, Bool, true, false, List, [], ◌∷◌, ◌++◌, length, Option, Some, Result, Ok}
+use Rattle.std.proofs.Common.{◌≡◌, ℕ, suc, ◌+◌, ◌^◌, ◌<◌, Bool, true, false, List, [], ◌∷◌, ◌++◌, length, Option, Result, Ok}
 use Rattle.std.proofs.Common.{refl, sym, ap, subst, ◌∙◌, inl, inr, arith}
 use Rattle.std.proofs.Math.Logic.{⊎_elim}
 use Rattle.std.proofs.lemmas.List.{append-nil}
 use Rattle.std.specs.List.{AllByRecursion, IsAmong}
-use Rattle.std.specs.Prelude.{slice_get}
 use Rattle.std.specs.declared.alloc.AllocError.{AllocError}
 use Rattle.iox_command.specs.DomainValues.declared.backpressure.BackpressureAction.{BackpressureAction}
 use Rattle.iox_command.specs.DomainValues.declared.backpressure.BackpressureDecision.{BackpressureDecision}
@@ -20,12 +19,12 @@ use Rattle.iox_command.specs.declared.command.Command.{Command}
 use Rattle.iox_command.specs.declared.command.Command.TheVariants as command
 use Rattle.iox_command.specs.declared.reply.Reply.{Reply}
 use Rattle.iox_domain.specs.declared.ports.service_ports.ServicePorts.{ServicePorts}
-use Rattle.iox_domain_machine.proofs.Found.{same_some}
 use Rattle.iox_domain_machine.specs.Naming.{Naming}
 use Rattle.iox_hub_base.specs.declared.hub.HubConfig.{HubConfig}
 use Rattle.iox_hub_commands.specs.CommandSteps as hub
-use Rattle.iox_hub_commands.specs.Room.{GivesValues, LacksValues, StopsInTime}
+use Rattle.iox_hub_commands.specs.PortRoom.{HasRoom}
 use Rattle.iox_hub_commands.specs.Runs as hub_runs
+use Rattle.iox_hub_commands.specs.Numbers.{IsNew}
 use Rattle.iox_hub_commands.specs.Runs.{IsRun}
 use Rattle.iox_hub_commands.specs.declared.numbered_hub.NumberedHub.{NumberedHub}
 use Rattle.iox_hub_commands.specs.declared.room.Pledged.{Pledged}
@@ -34,15 +33,18 @@ use Rattle.iox_hub_machine.proofs.Going.{same_stands}
 use Rattle.iox_hub_machine.proofs.Lacking.{lacks}
 use Rattle.iox_hub_machine.proofs.NamedLater.{all_named, by_actions, own_commands, run_chosen}
 use Rattle.iox_hub_machine.proofs.RunsOn.{new_has_room, new_runs_on, step_runs_on, step_takes}
+use Rattle.iox_hub_machine.proofs.Stopping.{one_step, would_give}
 use Rattle.iox_hub_machine.specs.ClosingLaws.{IsCome}
 use Rattle.iox_hub_machine.specs.GoingOnLaws.{AreAllOn, ComesAsChosen, Decided, DecidedRunsGoOn, DecidedStep, IsOnUntil, IsOneOn}
 use Rattle.iox_hub_machine.specs.GoingOnLaws.{RunGoesOn, RunsGoOn, asked_of, NewHubBegins, decided_terms}
+use Rattle.iox_hub_machine.specs.ArrivalLaws.{AnswersAsFixed, DecidesAsFixed}
 use Rattle.iox_hub_machine.specs.Ran.{RanAtMost, StandsAfter}
 use Rattle.iox_hub_machine.specs.RunLaws.{AsksAmong, RunAnswers, RunStands, all_asked, names_in, steps_named}
 use Rattle.iox_hub_machine.specs.ServiceLaws.{IsFollowed}
 use Rattle.iox_hub_machine.specs.Services.{HubStandsFor}
 use Rattle.iox_machine.specs.Choices.{Choices, as_named}
 use Rattle.iox_machine.specs.Run as machine
+use Rattle.iox_machine.specs.RunLaws.{MessagesAreShort}
 use Rattle.iox_machine.specs.State.{State, new_state}
 use Rattle.iox_negotiate_machine.specs.Laws.{HaveOwnHashes}
 
@@ -103,46 +105,6 @@ module _ {T : Type 0} where
       → AllByRecursion P first × AllByRecursion P rest
   both_all P [] rest all = (tt, all)
   both_all P (asked ∷ first) rest all = let (before, behind) = both_all P first rest all.1 in ((all.0, before), behind)
-
--- ---- where a run stops
-
-module _ {T : Type 0} where
-  pub stops_first : (asked : Command T) (rest : List (Command T)) → machine.MayStop (asked ∷ rest) []
-  stops_first (command.Receive subscriber) rest = tt
-  stops_first (command.Read sample) rest = tt
-  stops_first other rest = refl
-
-  pub stops_so : {U B D : Type 0} (asked : Command T) (rest : List (Command T)) (replies : List (Reply T)) (hub : NumberedHub T U B D)
-      → GivesValues asked hub → machine.MayStop (asked ∷ rest) replies
-  stops_so (command.Receive subscriber) rest replies hub values = tt
-  stops_so (command.Read sample) rest replies hub values = tt
-  stops_so other rest replies hub values = absurd values
-
-  next_is : (first rest : List (Command T)) (asked : Command T) → slice_get (first ++ asked ∷ rest) (length first) ≡ Some asked
-  next_is [] rest asked = refl
-  next_is (one ∷ first) rest asked = next_is first rest asked
-
-  none_given : (replies : List (Reply T)) → length replies ≡ 0 → replies ≡ []
-  none_given [] none = refl
-  none_given (reply ∷ replies) none = absurd (never none)
-    where
-      never : suc (length replies) ≡ 0 → ⊥
-      never none = omega (arith, none)
-
-  may_stop : {U B D : Type 0} (first rest : List (Command T)) (asked : Command T) (replies : List (Reply T)) (hub : NumberedHub T U B D)
-      → length replies ≡ length first → (length replies ≡ 0) ⊎ LacksValues (first ++ asked ∷ rest) (length replies) hub
-      → machine.MayStop (asked ∷ rest) replies
-  may_stop first rest asked replies hub each (inl none) =
-      subst (machine.MayStop (asked ∷ rest)) (sym (none_given replies none)) (stops_first asked rest)
-  may_stop first rest asked replies hub each (inr (other, is, values)) =
-      let same : other ≡ asked = same_some other asked (sym is ∙ ap (slice_get (first ++ asked ∷ rest)) each ∙ next_is first rest asked) in
-      stops_so asked rest replies hub (subst (λ (it : Command T). GivesValues it hub) same values)
-
-  one_each : (types : MessageTypeDetails) (choices : Choices T) (buffer : ℕ) (first : List (Command T)) (old new : State T)
-      (answers : List (Reply T)) → machine.Runs types choices buffer first old answers new → length answers ≡ length first
-  one_each types choices buffer [] old new answers (none, same) = ap length none
-  one_each types choices buffer (one ∷ first) old new answers (its, between, others, did, runs, is) =
-      ap length is ∙ ap suc (one_each types choices buffer first between new others runs)
 
 -- ---- runs
 
@@ -409,41 +371,87 @@ module _ {T U B D : Type 0} (terms : Terms T U B D) where
 
   module _ (on : RunsGoOn terms (as_named terms.is_default))
       (begins : NewHubBegins U terms.types (as_named terms.is_default) terms.degrades terms.decides terms.reader_degrades) where
-    answers_so : (config : HubConfig) (commands : List (Command T)) (old new : NumberedHub T U B D) (replies : List (Reply T))
-        (stopped : Bool) → old.hub.expired_connection_buffer ≡ config.expired_connection_buffer
-        → (stopped ≡ true → StopsInTime commands old (length replies) new)
-        → RunGoesOn terms.types (as_named terms.is_default) terms.degrades terms.decides terms.reader_degrades
-        (names_in commands) 0 old.hub.expired_connection_buffer commands new_state replies stopped new
-        → machine.Answers terms.types (as_named terms.is_default) config.expired_connection_buffer commands stopped replies
-    answers_so config commands old new replies false same stops it = (
-      commands,
-      [],
-      it.after,
-      sym (append-nil commands),
-      refl,
-      subst (λ (n : ℕ). machine.Runs terms.types (as_named terms.is_default) n commands new_state replies it.after) same it.runs,
-    )
-    answers_so config commands old new replies true same stops it =
-        let runs = subst (λ (n : ℕ). machine.Runs terms.types (as_named terms.is_default) n it.first new_state replies it.after) same
-        it.runs in (
-          it.first,
-          it.asked ∷ it.rest,
-          it.after,
-          it.are,
-          may_stop it.first it.rest it.asked replies new
-              (one_each terms.types (as_named terms.is_default) config.expired_connection_buffer it.first new_state it.after replies runs)
-              (⊎_elim (λ never. inl never.0)
-              (λ lacks. inr (subst (λ (them : List (Command T)). LacksValues them (length replies) new) it.are lacks)) (stops refl)),
-          runs,
-        )
+    -- the commands of a run are carried out as `Step` says; the ports keep their capacity, and the config stays
+    plain_runs : (commands : List (Command T)) (old new : NumberedHub T U B D) (replies : List (Reply T))
+        → hub_runs.Runs (hub.StepInRoom terms) commands old replies new → hub_runs.Runs (hub.Step terms) commands old replies new
+    plain_runs [] old new replies runs = runs
+    plain_runs (asked ∷ more) old new replies (reply, mid, rest, step, runs, is) =
+        (reply, mid, rest, step.step, plain_runs more mid new rest runs, is)
 
-    pub run_answers : RunAnswers terms
-    run_answers config commands old new replies stopped runs stops decides_so answers_fixed is_new own few =
-        answers_so config commands old new replies stopped is_new.expired_connection_buffer
-        (stops (new_has_room config old is_new) (new_runs_on config old is_new).grown)
-        (on (names_in commands) 0 commands old new new_state replies stopped decides_so answers_fixed (all_named terms.is_default old) own
-        (all_among commands)
-        (omega (arith, few)) (begins (names_in commands) config old is_new) runs)
+    room_on : (commands : List (Command T)) (most : ℕ) (old new : NumberedHub T U B D) (replies : List (Reply T)) → RanAtMost most old
+        → HasRoom old → hub_runs.Runs (hub.StepInRoom terms) commands old replies new
+        → HasRoom new × (new.hub.expired_connection_buffer ≡ old.hub.expired_connection_buffer)
+    room_on [] most old new replies ran room runs = (
+      subst (λ (hub : NumberedHub T U B D). HasRoom hub) (sym runs.1) room,
+      ap (λ (it : NumberedHub T U B D). it.hub.expired_connection_buffer) runs.1,
+    )
+    room_on (asked ∷ more) most old new replies ran room (reply, mid, rest, step, runs, is) =
+        let on = room_on more (most + (1 + steps_named asked)) mid new rest
+        (step_runs_on terms old mid reply most asked step.step ran) (step.room.0 room.0, step.room.1 ran.grown room.1) runs in
+        (on.0, on.1 ∙ (step_takes terms old mid reply asked step.step).buffer)
+
+    module _ (short : MessagesAreShort (as_named terms.is_default)) where
+      -- A run ends at a command: the machine may give values to it.
+      ends_so : (config : HubConfig) (commands : List (Command T)) (old new : NumberedHub T U B D) (replies : List (Reply T))
+          → DecidesAsFixed terms.fixed terms.degrades terms.decides → AnswersAsFixed terms.fixed_reader terms.reader_degrades
+          → IsNew config old → HaveOwnHashes (names_in commands) → all_asked commands < 2 ^ 56
+          → hub_runs.EndsAt (hub.StepInRoom terms) commands old replies new
+          → machine.Answers terms.types (as_named terms.is_default) config.expired_connection_buffer commands true replies
+      ends_so config commands old new replies decides_so answers_fixed is_new own few (first, asked, rest, mid, lacking, is, runs, lack) =
+          let all = ap (λ (them : List (Command T)). all_asked them) is in
+          let both = both_asked first (asked ∷ rest) in
+          let (asks_first, asks_rest) = both_all (AsksAmong (names_in commands)) first (asked ∷ rest)
+          (subst (AllByRecursion (AsksAmong (names_in commands))) is (all_among commands)) in
+          let went = on (names_in commands) 0 first old mid new_state replies false decides_so answers_fixed
+          (all_named terms.is_default old) own asks_first (omega (arith, few, all, both)) (begins (names_in commands) config old is_new)
+          (plain_runs first old mid replies runs) in
+          let (room, same) = room_on first 0 old mid replies (new_runs_on config old is_new) (new_has_room config old is_new) runs in
+          let ran = went.stands.ran in
+          let numbers = ran.numbers in
+          let (commands_so, answers_so, runs_so) = went.stands.came in
+          let (answer, next, step, comes, gives) = would_give terms (as_named terms.is_default) went.stands.naming went.stands.order mid new
+          went.after went.stands.stands.ports ran.grown ran.rise (omega (arith, few, all, both, numbers))
+          (short terms.types mid.hub.expired_connection_buffer commands_so answers_so went.after runs_so) lacking asked lack.step
+          (lack.lacks room) in
+          let one = on (names_in commands) (0 + all_asked first) (asked ∷ []) mid next went.after (answer ∷ []) false decides_so
+          answers_fixed (all_named terms.is_default mid) own (asks_rest.0, tt) (omega (arith, few, all, both)) went.stands
+          (answer, next, [], step, (refl, refl), refl) in (
+            first,
+            asked ∷ rest,
+            went.after,
+            is,
+            inr (subst (λ (n : ℕ). machine.MayGiveValues terms.types (as_named terms.is_default) n asked went.after)
+                (same ∙ is_new.expired_connection_buffer)
+                (gives mid.hub.expired_connection_buffer went.after one.after
+                (one_step terms.types (as_named terms.is_default) mid.hub.expired_connection_buffer asked went.after one.after answer
+                one.runs))),
+            subst (λ (n : ℕ). machine.Runs terms.types (as_named terms.is_default) n first new_state replies went.after)
+                is_new.expired_connection_buffer went.runs,
+          )
+
+      pub run_answers : RunAnswers terms
+      run_answers config commands old new replies false runs stops decides_so answers_fixed is_new own few =
+          let it = on (names_in commands) 0 commands old new new_state replies false decides_so answers_fixed
+          (all_named terms.is_default old) own (all_among commands) (omega (arith, few)) (begins (names_in commands) config old is_new)
+          runs in (
+            commands,
+            [],
+            it.after,
+            sym (append-nil commands),
+            refl,
+            subst (λ (n : ℕ). machine.Runs terms.types (as_named terms.is_default) n commands new_state replies it.after)
+                is_new.expired_connection_buffer it.runs,
+          )
+      run_answers config commands old new replies true runs stops decides_so answers_fixed is_new own few =
+          ⊎_elim
+          (λ (some, none, same). ([], commands, new_state, refl, begins_so commands some none, (none, refl)))
+          (λ ends. ends_so config commands old new replies decides_so answers_fixed is_new own few ends)
+          (stops refl)
+        where
+          begins_so : (asked : List (Command T)) → 0 < length asked → replies ≡ []
+              → machine.MayStop terms.types (as_named terms.is_default) config.expired_connection_buffer asked new_state replies
+          begins_so [] some none = absurd (never_below some)
+          begins_so (asked ∷ more) some none = inl none
 
     pub run_stands : RunStands terms
     run_stands config commands old new replies runs decides_so answers_fixed is_new own few =

@@ -9,10 +9,7 @@ use Rattle.iox_domain.specs.declared.ports.service_ports.ServicePorts.{ServicePo
 use Rattle.iox_domain_machine.specs.Naming.{Naming}
 use Rattle.iox_hub_base.specs.declared.hub.HubConfig.{HubConfig}
 use Rattle.iox_hub_commands.specs.CommandSteps as hub
-use Rattle.iox_hub_commands.specs.Grown.{HaveGrown}
 use Rattle.iox_hub_commands.specs.Numbers.{IsNew}
-use Rattle.iox_hub_commands.specs.PortRoom.{HasRoom}
-use Rattle.iox_hub_commands.specs.Room.{StopsInTime}
 use Rattle.iox_hub_commands.specs.Runs.{IsRun, Runs}
 use Rattle.iox_hub_commands.specs.declared.numbered_hub.NumberedHub.{NumberedHub}
 use Rattle.iox_hub_commands.specs.Terms.{Terms}
@@ -54,13 +51,6 @@ module _ {T : Type 0} where
   AsksAmong names (command.Foreign pattern name steps) = IsAmong names name
   AsksAmong names other = Unit {0}
 
--- If the ports of the hub have capacity for the numbers of loans and samples, and its domains have grown by calls of ports, a run that
--- stopped never began, or stopped at a command that would reply with values that the hub has.
-abbrev pub StopsIfRoomy : {T U B D : Type 0} → List (Command T) → NumberedHub T U B D → List (Reply T) → Bool → NumberedHub T U B D
-    → Type 0
-StopsIfRoomy commands old replies stopped new = HasRoom old → HaveGrown old.hub.services.domains → stopped ≡ true
-    → StopsInTime commands old (length replies) new
-
 -- The parameters: the terms of the hub.
 module _ {T U B D : Type 0} (terms : Terms T U B D) where
   -- The replies of a hub to commands are ones that a new machine may give: to all commands, or, if the run stopped, to those before a
@@ -73,12 +63,13 @@ module _ {T U B D : Type 0} (terms : Terms T U B D) where
       → all_asked commands < 2 ^ 56
       → machine.Answers terms.types (as_named terms.is_default) config.expired_connection_buffer commands stopped replies
 
-  -- The replies of each run that stops only where it may are ones that a new machine may give (`AnswersAsMachine`).
+  -- The replies of each run are ones that a new machine may give (`AnswersAsMachine`), if in a run that stopped each command did what
+  -- `StepInRoom` says.
   abbrev pub RunAnswers : Type 0
   RunAnswers = (config : HubConfig) (commands : List (Command T)) (old new : NumberedHub T U B D) (replies : List (Reply T))
       (stopped : Bool)
       → IsRun (hub.Step terms) commands old replies stopped new
-      → StopsIfRoomy commands old replies stopped new
+      → (stopped ≡ true → IsRun (hub.StepInRoom terms) commands old replies stopped new)
       → AnswersAsMachine config commands old replies stopped
 
   -- A hub that replied to commands represents a state that a new machine reaches with the same replies.

@@ -10,6 +10,7 @@ ghost use Rattle.iox_hub_machine.specs.RunLaws.{RunAnswers, RunStands};
 use iox_describe_base::ZeroCopySend;
 use iox_domain_values::{Decides, Degrades};
 use iox_hub_commands::{PublisherHandlers, SubscriberHandler};
+use iox_machine::messages_are_short;
 
 /// A new hub represents a new machine, after no command, whatever names are asked for.
 pub fn new_hub_begins<
@@ -61,8 +62,8 @@ pub fn decided_runs_go_on<
 {}
 
 /// The replies of a new hub to commands are ones that a new machine may give: to all of them, or, if the run stopped, to those before a
-/// command at which a run may stop. A run may stop before its first reply, and at a command that receives or reads. `IsRun` and
-/// `StopsIfRoomy` are what `NumberedHub::run` ensures of its replies. No two services of the names that are asked for may share a hash,
+/// command at which a run may stop. A run may stop before its first reply, and at a receive or a read that the machine may answer with
+/// values. `IsRun` is what `NumberedHub::run` ensures of its replies. No two services of the names that are asked for may share a hash,
 /// commands and actions of other nodes must be fewer than 2 ^ 56, and handlers that are made of fixed actions must decide by these, as
 /// `FixedHandlers` and `FixedDegradation` do.
 pub fn runs_answer<
@@ -73,7 +74,9 @@ pub fn runs_answer<
 >()
     ensures { RunAnswers (terms_of T.name T.size T.alignment T.is_default U.name U.size U.alignment U.is_default B.fixed
         (λ handlers. B.degrades handlers) (λ handlers. B.decides handlers) D.fixed (λ handler. D.degrades handler)) }
-{}
+{
+    messages_are_short::<T, B, D>();
+}
 
 /// A hub that replied to all commands represents a state that a new machine reaches with the same replies, under the same premises as
 /// [`runs_answer`]. So what holds of each state that a run of the machine reaches holds of the state that this hub represents.

@@ -14,6 +14,7 @@ mod MoveSteps
 mod Moving
 mod Steps
 mod Runs
+mod Short
 mod RefusedWhole
 mod Tables
 mod Frames

@@ -307,7 +307,7 @@ module _ {T : Type 0} where
   good-loud : (factories : List (ℕ × Factory)) (one : Loud T) (old new : Service T) → is_port one ≡ false
       → (is_write one ≡ true → AreSingle old) → Loudly factories one old new → IsGood old → IsGood new
   good-loud factories (move.Lends number was after loan one) old new beside single
-      (found, up, ((room, segments, first, grown, is), (count, lent)), by, next, came) good =
+      (found, up, ((room, segments, first, grown, is), (count, lent, whole)), by, next, came) good =
       let mid : Service T = with_publisher number after old in
       let on : Still old mid = still-set number was after old found (ap most_of is) in
       subst IsGood (sym came)

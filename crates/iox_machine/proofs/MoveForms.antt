@@ -3,8 +3,8 @@
 use Rattle.iox_command.specs.declared.port.PublisherOptions.{PublisherOptions}
 use Rattle.iox_command.specs.declared.port.SubscriberOptions.{SubscriberOptions}
 use Rattle.iox_machine.specs.Arriving.{new_publisher, new_subscriber}
-use Rattle.std.proofs.Common.{◌<◌, ◌≤◌, length, ◌≡◌, ◌⊎◌, ◌+◌, ℕ, Bool, true, false, cond, ◌&&◌, ◌||◌, List, [], ◌∷◌, ◌++◌, Option, None}
-use Rattle.std.proofs.Common.{Some}
+use Rattle.std.proofs.Common.{◌<◌, ◌≤◌, length, ◌≡◌, ◌⊎◌, ◌+◌, ◌^◌, ℕ, Bool, true, false, cond, ◌&&◌, ◌||◌, List, [], ◌∷◌, ◌++◌, Option}
+use Rattle.std.proofs.Common.{None, Some}
 use Rattle.std.specs.List.{list_any}
 use Rattle.std.specs.Prelude.{◌==◌, slice_get}
 use Rattle.iox_machine.proofs.Shorthands.{given_back, left, registered, taken, with_publisher, with_subscriber}
@@ -62,7 +62,7 @@ module _ {T : Type 0} where
   abbrev pub IsNumbered : Publisher T → Publisher T → Type 0
   IsNumbered was after =
       (room : ℕ) × (segments : ℕ) × (first : ℕ)
-      × (((room ≡ was.room) × (segments ≡ was.segments)) ⊎ (segments ≡ was.segments + 1))
+      × (((room ≡ was.room) × (segments ≡ was.segments)) ⊎ ((segments ≡ was.segments + 1) × (room < 2 ^ 32)))
       × (after ≡ record was { room = room; segments = segments; first = first; next = was.next + 1 })
 
   -- a publisher but for what it follows
@@ -102,7 +102,7 @@ module _ {T : Type 0} where
   abbrev pub Loudly : List (ℕ × Factory) → Loud T → Service T → Service T → Type 0
   Loudly factories (Lends number was after loan one) old new =
       (at number old.publishers ≡ Some was) × (was.stands ≡ true)
-      × (IsNumbered was after × ((count : ℕ) × lending.Lends number count was old None after))
+      × (IsNumbered was after × ((count : ℕ) × lending.Lends number count was old None after × (length one.values ≡ count)))
       × (one.publisher ≡ number) × (one.number ≡ was.next)
       × (new ≡ record (with_publisher number after old) { loans = old.loans ++ (loan, one) ∷ [] })
   Loudly factories (Numbers number was after) old new =
@@ -127,7 +127,8 @@ module _ {T : Type 0} where
       (record old { samples = removed number old.samples }))
   Loudly factories (Publishes place number options one after) old new =
       IsOpen factories old.name one.factory
-      × ((one ≡ new_publisher one.factory options old.settings) × (slice_get old.publisher_list.places place ≡ Some None)
+      × (((one ≡ new_publisher one.factory options old.settings) × (one.room < 2 ^ 32))
+      × (slice_get old.publisher_list.places place ≡ Some None)
       × (mid : Service T) × publishing.Follows number one (record old { publishers = old.publishers ++ (number, one) ∷ [] }) after mid
       × (new ≡ record mid { publisher_list = registered place number mid.publisher_list }))
       × IsFollowing one after

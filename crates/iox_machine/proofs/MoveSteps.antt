@@ -1,23 +1,25 @@
 -- Each step is a list of moves.
-use Rattle.std.proofs.lemmas.Bool.{ltb-true, ltb-false, and_right}
+use Rattle.std.proofs.lemmas.Bool.{and_right, eqb-true, leb-false, ltb-false, ltb-true, or_parts}
+use Rattle.std.proofs.lemmas.List.{length-map, length-replicate, length-set}
 use Rattle.std.specs.List.{list_all}
-use Rattle.std.specs.Prelude.{◌==◌, nat_lt, find, fold, is_some, option_map, replicate, slice_get, take}
+use Rattle.std.specs.Prelude.{◌==◌, nat_le, nat_lt, find, fold, is_some, option_map, replicate, slice_get, take}
 use Rattle.std.specs.Prelude.{MatchBool, MatchOption}
-use Rattle.std.proofs.Common.{◌<◌, ◌≡◌, ◌≤◌, ◌⊎◌, ◌+◌, ℕ, Bool, true, false, cond, not, ◌&&◌, ◌||◌, List, [], ◌∷◌, ◌++◌, length, map, set}
-use Rattle.std.proofs.Common.{Option, None, Some, refl, sym, ap, subst, inl, inr, arith, ◌∙◌}
+use Rattle.std.proofs.Common.{◌<◌, ◌≡◌, ◌≤◌, ◌⊎◌, ◌+◌, ◌^◌, ℕ, Bool, true, false, cond, not, ◌&&◌, ◌||◌, List, [], ◌∷◌, ◌++◌, length, map}
+use Rattle.std.proofs.Common.{set, Option, None, Some, refl, sym, ap, subst, inl, inr, arith, ◌∙◌}
 use Rattle.iox_machine.proofs.Cases.{both-true, by-bool, by-option, never-some, same-some}
 use Rattle.iox_machine.proofs.Sound.{find-passes}
 use Rattle.iox_machine.specs.Receiving.{IsGiver, gives, Receives, has_samples, lasting}
 use Rattle.iox_machine.specs.RunLaws.{has_begun, is_written, numbered, sent_as}
 use Rattle.iox_machine.specs.MessageLaws.{sent_in, begun_by, first_in, is_release_of, next_message}
 use Rattle.iox_machine.specs.Sending.{GoesOn, Sends}
+use Rattle.iox_command.specs.DomainValues.declared.create_error.PublisherCreateError.TheVariants as publisher_error
 use Rattle.iox_command.specs.DomainValues.declared.create_error.SubscriberCreateError.TheVariants as subscriber_error
 use Rattle.iox_command.specs.declared.port.PublisherOptions.{PublisherOptions}
 use Rattle.iox_command.specs.declared.port.SubscriberOptions.{SubscriberOptions}
 use Rattle.std.specs.Global.{Vec}
 use Rattle.std.specs.Vec.{vec_items}
 use Rattle.iox_machine.proofs.Counts.{of_told, one_if}
-use Rattle.iox_machine.proofs.Frames.{publisher-comes, publisher-stands, subscriber-comes, subscriber-stands}
+use Rattle.iox_machine.proofs.Frames.{PublisherComes, publisher-comes, publisher-stands, subscriber-comes, subscriber-stands}
 use Rattle.iox_machine.proofs.MoveForms.{IsFollowing, IsSending, with_send, Loud, Loudly, IsNumbered, IsTurned}
 use Rattle.iox_machine.proofs.MoveForms.{Quiets, begun_of, is_port, came_of, releases_of}
 use Rattle.iox_machine.proofs.MoveForms as move
@@ -25,7 +27,7 @@ use Rattle.iox_machine.proofs.Moving.{IsClosed, IsNegotiated, at-one, closed, cr
 use Rattle.iox_machine.proofs.Shorthands.{registered, AtBlocked, AtFree, IsRefused, IsSkipped, factory_of, left, taken}
 use Rattle.iox_machine.proofs.Shorthands.{with_publisher, with_subscriber}
 use Rattle.iox_machine.proofs.Tables.{at-changed}
-use Rattle.iox_machine.specs.Arriving.{PublisherArrives, SubscriberArrives, new_publisher, new_subscriber}
+use Rattle.iox_machine.specs.Arriving.{PublisherArrives, SubscriberArrives, new_publisher, new_subscriber, worst_case}
 use Rattle.iox_machine.specs.Choices.{Choices}
 use Rattle.iox_machine.specs.Message.{Loan, Message, Sample}
 use Rattle.iox_machine.specs.NumberLaws.{publisher_told}
@@ -210,6 +212,20 @@ module _ {T : Type 0} where
 
   -- ---- what each command does at a service
 
+  not-longer : (number : ℕ) (one : Publisher T) (old : Service T) (answer : Reply T) (new : Service T)
+      → PublisherArrives number one old answer new → (new ≡ old) ⊎ (one.room < 2 ^ 32)
+  not-longer number one old answer new h =
+      elim (by-bool (nat_le (2 ^ 32) (worst_case old.settings one.max_loaned_samples) || nat_le (2 ^ 32) one.room)
+      (IsRefused (refusal.Publisher publisher_error.UnableToCreateDataSegment) old answer new)
+      (MatchBool (list_all is_some old.publisher_list.places)
+      (IsRefused (refusal.Publisher publisher_error.ExceedsMaxSupportedPublishers) old answer new)
+      (IsRefused (refusal.Publisher publisher_error.UnableToCreateDataSegment) old answer new
+      ⊎ PublisherComes number one old answer new)) h) [
+        | inl w ↦ inl w.1.1
+        | inr w ↦ inr (leb-false (2 ^ 32) one.room
+            (or_parts (nat_le (2 ^ 32) (worst_case old.settings one.max_loaned_samples)) (nat_le (2 ^ 32) one.room) w.0).1)
+      ]
+
   not-larger : (buffer number : ℕ) (one : Subscriber) (old : Service T) (answer : Reply T) (new : Service T)
       → SubscriberArrives buffer number one old answer new
       → (new ≡ old) ⊎ (one.buffer_size ≤ old.settings.subscriber_max_buffer_size)
@@ -247,16 +263,18 @@ module _ {T : Type 0} where
         loudly asked old answer old none (move.Lends number one then loan made) service
         (record (with_publisher number then service) { loans = service.loans ++ (loan, made) ∷ [] }) after refl (λ p. refl)
         (λ p. least (of_told (publisher_told answer) p)) (λ sample kept. refl) (next, told)
-        (found, up, (numbered-by number count one service then lent, (count, lent)), refl, refl, refl) (quiet-same _ after came)
+        (found, up, (numbered-by number count one service then lent, (count, lent, length-replicate count value)), refl, refl, refl)
+        (quiet-same _ after came)
 
     writes : (loan : ℕ) (one : Loan T) (fit : Bool) (values : List (Option T)) (service after : Service T)
-        → at loan service.loans ≡ Some one → Writes loan one fit values service answer after → Strides asked old answer service after
-    writes loan one false values service after found skipped =
+        → at loan service.loans ≡ Some one → (fit ≡ true → length values ≡ length one.values)
+        → Writes loan one fit values service answer after → Strides asked old answer service after
+    writes loan one false values service after found long skipped =
         quietly asked old answer old none service after (quiet-same service after skipped.1)
-    writes loan one true values service after found (told, came) =
+    writes loan one true values service after found long (told, came) =
         loudly asked old answer old none (move.Writes loan one values) service
         (record service { loans = changed loan (record one { values = values }) service.loans }) after refl (λ p. refl)
-        (λ p. least (of_told (publisher_told answer) p)) (λ sample kept. refl) tt (found, refl) (quiet-same _ after came)
+        (λ p. least (of_told (publisher_told answer) p)) (λ sample kept. refl) (long refl) (found, refl) (quiet-same _ after came)
 
     publishes : (number : ℕ) (options : PublisherOptions) (one : Publisher T) (service after : Service T)
         → one ≡ new_publisher one.factory options service.settings → asked ≡ command.Publisher one.factory options
@@ -265,24 +283,27 @@ module _ {T : Type 0} where
     publishes number options one service after made asks next open_one h =
         elim (publisher-comes number one service answer after h) [
           | inl same ↦ inl (quietly asked old answer old none service after (quiet-same service after same))
-          | inr (place, then, mid, came, is, told, free) ↦
-              let more : Service T = record service { publishers = service.publishers ++ (number, one) ∷ [] } in
-              let on : IsFollowing one then × (mid ≡ record (with_publisher number then more) { mailboxes = mid.mailboxes }) =
-              followed number one more then mid came in
-              alone asked old answer old none (move.Publishes place number options one then) service after refl (λ p. refl)
-              (λ p. subst (λ (it : Reply T). one_if (number == p) + 0 ≤ of_told (publisher_told it) p) (sym told)
-              (same (one_if (number == p)))) (λ sample. refl) (asks, next, told) (
-                open_one,
-                (made, free, mid, came, is),
-                on.0,
-                subst (λ (s : Service T). s ≡ record (with_publisher number then more) {
-                  publisher_list = registered place number service.publisher_list;
-                  mailboxes = s.mailboxes;
-                }) (sym is) (ap (λ (s : Service T). record s {
-                  publisher_list = registered place number s.publisher_list;
-                  mailboxes = mid.mailboxes;
-                }) on.1),
-              )
+          | inr (place, then, mid, came, is, told, free) ↦ elim (not-longer number one service answer after h) [
+            | inl same ↦ inl (quietly asked old answer old none service after (quiet-same service after same))
+            | inr short ↦
+                let more : Service T = record service { publishers = service.publishers ++ (number, one) ∷ [] } in
+                let on : IsFollowing one then × (mid ≡ record (with_publisher number then more) { mailboxes = mid.mailboxes }) =
+                followed number one more then mid came in
+                alone asked old answer old none (move.Publishes place number options one then) service after refl (λ p. refl)
+                (λ p. subst (λ (it : Reply T). one_if (number == p) + 0 ≤ of_told (publisher_told it) p) (sym told)
+                (same (one_if (number == p)))) (λ sample. refl) (asks, next, told) (
+                  open_one,
+                  ((made, short), free, mid, came, is),
+                  on.0,
+                  subst (λ (s : Service T). s ≡ record (with_publisher number then more) {
+                    publisher_list = registered place number service.publisher_list;
+                    mailboxes = s.mailboxes;
+                  }) (sym is) (ap (λ (s : Service T). record s {
+                    publisher_list = registered place number s.publisher_list;
+                    mailboxes = mid.mailboxes;
+                  }) on.1),
+                )
+          ]
         ]
       where
         same : (x : ℕ) → x + 0 ≤ x
@@ -540,14 +561,16 @@ module _ {T : Type 0} where
         (λ (one : Loan T). Writes loan one (is_written one && nat_lt place (length one.values)) (set one.values place (Some value)))
         (λ told. tells-nothing asked old answer (λ p. refl))
         (λ one service after first is did. inl (writes asked old answer (λ p. refl) loan one
-        (is_written one && nat_lt place (length one.values)) (set one.values place (Some value)) service after is did)) h
+        (is_written one && nat_lt place (length one.values)) (set one.values place (Some value)) service after is
+        (λ fit. length-set one.values place (Some value)) did)) h
     step-parts (command.Fill loan values) old answer new h =
         let asked : Command T = command.Fill loan values in
         at-one-acts asked old answer new (λ (service : Service T). at loan service.loans)
         (λ (one : Loan T). Writes loan one (length values == length one.values) (map Some values))
         (λ told. tells-nothing asked old answer (λ p. refl))
         (λ one service after first is did. inl (writes asked old answer (λ p. refl) loan one (length values == length one.values)
-        (map Some values) service after is did)) h
+        (map Some values) service after is
+        (λ fit. length-map values Some ∙ eqb-true (length values) (length one.values) fit) did)) h
     step-parts (command.Drop loan) old answer new h =
         let asked : Command T = command.Drop loan in
         at-one-acts asked old answer new (λ (service : Service T). at loan service.loans)

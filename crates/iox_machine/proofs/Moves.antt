@@ -3,7 +3,7 @@ use Rattle.std.proofs.lemmas.Bool.{and_right, eq-eqb}
 use Rattle.std.specs.List.{AllByRecursion, list_any}
 use Rattle.std.specs.Prelude.{⊤, ◌==◌, nat_lt, drop, filter, find, fold, is_some, option_and_then, slice_get}
 use Rattle.std.specs.Prelude.{zip, MatchBool, bytes_eq}
-use Rattle.std.proofs.Common.{◌≡◌, ◌≤◌, ◌⊎◌, ◌+◌, ℕ, Bool, true, false, cond, not, ◌&&◌, List, [], ◌∷◌, ◌++◌}
+use Rattle.std.proofs.Common.{◌≡◌, ◌≤◌, ◌⊎◌, ◌+◌, ℕ, Bool, true, false, cond, not, ◌&&◌, List, [], ◌∷◌, ◌++◌, length}
 use Rattle.std.proofs.Common.{Option, None, Some, refl, sym, ap, subst, inl, inr, arith, ◌∙◌}
 use Rattle.iox_machine.proofs.Cases.{by-bool, by-option, chosen, never-some, same-some}
 use Rattle.iox_machine.specs.RunLaws.{BeginsToSend, has_begun, numbered}
@@ -377,7 +377,7 @@ module _ {T : Type 0} where
     where
       longer : LendsLonger number count one None after → IsNumbered one after
       longer (inl (told, same)) = never-some _ told
-      longer (inr (room, allowed, few, told, same)) = (room, one.segments + 1, one.next, inr refl, same)
+      longer (inr (room, allowed, few, told, same)) = (room, one.segments + 1, one.next, inr (refl, allowed.1), same)
 
   -- ---- a subscriber
 
@@ -434,6 +434,7 @@ module _ {T : Type 0} where
   -- What a command and its answer tell of one loud move.
   abbrev pub IsTold : Command T → State T → Reply T → Loud T → Type 0
   IsTold asked old answer (move.Lends number was after loan one) = (loan ≡ old.made.loans + 1) × (answer ≡ reply.LoanMade loan)
+  IsTold asked old answer (move.Writes loan one values) = length values ≡ length one.values
   IsTold asked old answer (move.Begins number one message) = BeginsToSend number message.values asked old answer
   IsTold asked old answer (move.Takes number sample) =
       (asked ≡ command.Receive sample.subscriber) × (number ≡ old.made.samples + 1)

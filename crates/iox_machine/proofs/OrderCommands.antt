@@ -96,7 +96,7 @@ module _ {T : Type 0} (p s : ℕ) (G : List ℕ → StaticConfig → Message T �
                 publisher-ordered one.factory place options then mid (sym it ∙ next)
                 (told ∙ ap (λ (n : ℕ). reply.PublisherMade n) it)
                 (subst (λ (q : Publisher T). publishing.Follows p q (record service { publishers = service.publishers ++ (p, q) ∷ [] }) then
-                mid) made
+                mid) made.0
                 (subst (λ (n : ℕ). publishing.Follows n one (record service { publishers = service.publishers ++ (n, one) ∷ [] }) then
                 mid) it
                 did))

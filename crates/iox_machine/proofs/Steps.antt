@@ -70,8 +70,8 @@ module _ {T : Type 0} (Good : ℕ → Message T → Type 0) (Fine : ℕ → Samp
           λ one. same.0 ∙ named.5 (sym same.1 ∙ one),
         )
         | inr more ↦ (
-          subst (λ (count : ℕ). 1 ≤ count) (sym more) (some was.segments),
-          λ one. absurd (further was.segments named.4 (sym more ∙ one)),
+          subst (λ (count : ℕ). 1 ≤ count) (sym more.0) (some was.segments),
+          λ one. absurd (further was.segments named.4 (sym more.0 ∙ one)),
         )
       ] in
       subst (λ (p : Publisher T). PublisherFits Good Fine Named settings number p) (sym is) (
@@ -187,7 +187,7 @@ module _ {T : Type 0} (Good : ℕ → Message T → Type 0) (Fine : ℕ → Samp
         let comes : ComesAs number options asked answer =
         subst (λ (it : Command T). ComesAs number options it answer) (sym told.0) (refl, told.2) in
         let fit : PublisherFits Good Fine Named old.settings number one =
-        subst (λ (p : Publisher T). PublisherFits Good Fine Named old.settings number p) (sym made)
+        subst (λ (p : Publisher T). PublisherFits Good Fine Named old.settings number p) (sym made.0)
         (omega arith, tt, tt, (options, named number options comes, ((refl, refl), (refl, refl, refl, refl, omega arith, λ one. refl)))) in
         let on : IsSound (record old { publishers = old.publishers ++ (number, one) ∷ [] }) = (
           sound.0,

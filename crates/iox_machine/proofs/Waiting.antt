@@ -1,9 +1,11 @@
 -- What a look for data and a receive tell.
-use Rattle.std.proofs.Common.{◌≡◌, ◌≤◌, ◌⊎◌, ◌+◌, ℕ, Bool, true, false, cond, ◌&&◌, ◌||◌, List, [], ◌∷◌, ◌++◌, length, Option, None}
+use Rattle.std.proofs.Common.{◌≡◌, ◌≤◌, ◌<◌, ◌⊎◌, ◌+◌, ℕ, Bool, true, false, cond, ◌&&◌, ◌||◌, List, [], ◌∷◌, ◌++◌, length, Option, None}
 use Rattle.std.proofs.Common.{Some, refl, sym, ap, subst, inl, inr, arith, ◌∙◌, true≢false}
 use Rattle.std.proofs.lemmas.Bool.{ltb-false, ltb-true, or_parts}
+use Rattle.std.specs.Global.{Vec}
 use Rattle.std.specs.List.{AllByRecursion, list_any}
 use Rattle.std.specs.Prelude.{find, is_some, nat_lt}
+use Rattle.std.specs.Vec.{vec_items}
 use Rattle.iox_machine.proofs.Attending.{Attends, attended-state, attends-first}
 use Rattle.iox_machine.proofs.Cases.{both-true, never-some, same-some}
 use Rattle.iox_machine.proofs.Lists.{all-joined, first-there}
@@ -12,19 +14,21 @@ use Rattle.iox_machine.proofs.Sound.{find-passes}
 use Rattle.iox_machine.proofs.Updated.{find-replaced}
 use Rattle.iox_machine.specs.AgreementLaws.{HasOne}
 use Rattle.iox_machine.specs.Choices.{Choices}
+use Rattle.iox_machine.specs.Message.{Sample}
 use Rattle.iox_machine.specs.OnceLaws.{is_skipped}
 use Rattle.iox_machine.specs.PortList.{those}
 use Rattle.iox_machine.specs.Ports.{subscriber_in}
 use Rattle.iox_machine.specs.Receiving.{IsGiver, Receives, gives, has_samples}
-use Rattle.iox_machine.specs.Run.{Step}
+use Rattle.iox_machine.specs.Run.{MayGiveValues, Step}
 use Rattle.iox_machine.specs.Service.{Service, Subscriber, mailbox}
 use Rattle.iox_machine.specs.State.{State, counted, replaced}
 use Rattle.iox_machine.specs.SubscriberUpdate as subscribing
-use Rattle.iox_machine.specs.Table.{contains}
+use Rattle.iox_machine.specs.Table.{at, contains}
 use Rattle.iox_machine.specs.WaitingLaws.{GivesNothing, HasData, HasItsTurn, HasNoData, HasTellsWhatWaits, IsAttended, ReceiveAnswers}
-use Rattle.iox_machine.specs.WaitingLaws.{ReceivesWhatMayBeBorrowed, heard_of}
+use Rattle.iox_machine.specs.WaitingLaws.{HasValues, ReceivesWhatMayBeBorrowed, StopsHaveValues, heard_of}
 use Rattle.iox_command.specs.DomainValues.declared.port_error.ReceiveError.TheVariants as error
 use Rattle.iox_command.specs.NegotiateBase.DescribeBase.declared.message_type.MessageTypeDetails.{MessageTypeDetails}
+use Rattle.iox_command.specs.declared.command.Command.{Command}
 use Rattle.iox_command.specs.declared.command.Command.TheVariants as command
 use Rattle.iox_command.specs.declared.port.PortNumber.TheVariants as port
 use Rattle.iox_command.specs.declared.refusal.Refusal.TheVariants as refusal
@@ -235,3 +239,96 @@ receives-what-may-be-borrowed {T} choices types buffer number old answer new h u
             )
           ]
     ]
+
+-- ---- where a run may stop
+
+module _ {T : Type 0} where
+  -- what a reply tells of a message
+  abbrev told_values : Reply T → List T
+  told_values (reply.Received sample values) = vec_items values
+  told_values (reply.Values values) = vec_items values
+  told_values other = []
+
+  abbrev tells_values : Reply T → Bool
+  tells_values (reply.Received sample values) = true
+  tells_values other = false
+
+  never-other : {A : Type 0} (sample : ℕ) (values : Vec T) (other : Reply T) → reply.Received sample values ≡ other
+      → tells_values other ≡ false → A
+  never-other sample values other same silent = absurd (true≢false (ap tells_values same ∙ silent))
+
+  has-values : (number : ℕ) (service : Service T) (one : Subscriber) (sample : ℕ) (values : Vec T)
+      → ReceiveAnswers number service one (reply.Received sample values) → 0 < length (vec_items values) → HasValues number service one
+  has-values number service one sample values (inl (told, none)) long = never-other sample values reply.NothingWaits told refl
+  has-values number service one sample values (inr (inl (told, some, nothing))) long =
+      never-other sample values (reply.Refused (refusal.Receive error.ExceedsMaxBorrows)) told refl
+  has-values number service one sample values (inr (inr (publisher, message, next, found, turn, first, few, same, told))) long = (
+    publisher,
+    message,
+    turn,
+    first,
+    few,
+    subst (λ (items : List T). 0 < length items) (ap told_values told ∙ same) long,
+  )
+
+  module _ (types : MessageTypeDetails) (choices : Choices T) (buffer : ℕ) where
+    -- what may be given, by the command
+    gives-values : (asked : Command T) (old : State T) → MayGiveValues types choices buffer asked old
+        → ((number : ℕ) × (asked ≡ command.Receive number) × (mid : State T) × (service : Service T) × (one : Subscriber)
+        × IsAttended types choices buffer number old mid service one × HasValues number service one)
+        ⊎ ((sample : ℕ) × (asked ≡ command.Read sample) × (service : Service T) × (one : Sample T)
+        × (find (λ (other : Service T). is_some (at sample other.samples)) old.services ≡ Some service)
+        × (at sample service.samples ≡ Some one) × (0 < length one.message.values))
+    gives-values (command.Receive number) old (sample, values, after, did, long) =
+        elim (receives-what-may-be-borrowed choices types buffer number old (reply.Received sample values) after did refl) [
+          | inl failed ↦ never-other sample values (reply.Refused (refusal.Receive (error.ConnectionFailure failed.0))) failed.1 refl
+          | inr r ↦ inl (number, refl, r.0, r.1, r.2, r.3, has-values number r.1 r.2 sample values r.4 long)
+        ]
+    gives-values (command.Read sample) old (values, did, long) =
+        elim (at-one (λ (service : Service T). at sample service.samples)
+        (λ (one : Sample T) (service : Service T) (answered : Reply T) (after : Service T). (found : Vec T) ×
+        (vec_items found ≡ one.message.values) × (answered ≡ reply.Values found) × (after ≡ service)) old (reply.Values values) old did) [
+          | inl w ↦ absurd (none (vec_items values) (ap told_values w.0) long)
+          | inr w ↦ inr (
+            sample,
+            refl,
+            w.0,
+            w.1,
+            w.3,
+            w.4,
+            subst (λ (items : List T). 0 < length items) (ap told_values w.5.2 ∙ w.5.1) long,
+          )
+        ]
+      where
+        none : (items : List T) → items ≡ [] → 0 < length items → ⊥
+        none [] same less = omega (arith, less)
+        none (item ∷ items) same less = absurd (differ same)
+          where
+            differ : item ∷ items ≡ [] → ⊥
+            differ e = cc
+    gives-values command.Node old never = absurd never
+    gives-values (command.Create node name options attributes steps) old never = absurd never
+    gives-values (command.Open node name options required steps) old never = absurd never
+    gives-values (command.OpenOrCreate node name options required steps) old never = absurd never
+    gives-values (command.Foreign pattern name steps) old never = absurd never
+    gives-values (command.Close factory) old never = absurd never
+    gives-values (command.Publisher factory options) old never = absurd never
+    gives-values (command.Subscriber factory options) old never = absurd never
+    gives-values (command.Loan publisher count) old never = absurd never
+    gives-values (command.LoanUninit publisher count) old never = absurd never
+    gives-values (command.Set loan place value) old never = absurd never
+    gives-values (command.Fill loan values) old never = absurd never
+    gives-values (command.Drop loan) old never = absurd never
+    gives-values (command.Send loan) old never = absurd never
+    gives-values (command.Put publisher values) old never = absurd never
+    gives-values (command.Retry publisher nanoseconds) old never = absurd never
+    gives-values (command.GiveUp publisher) old never = absurd never
+    gives-values (command.Sequence sample) old never = absurd never
+    gives-values (command.Release sample) old never = absurd never
+    gives-values (command.Update port) old never = absurd never
+    gives-values (command.Leave port) old never = absurd never
+    gives-values (command.Has subscriber) old never = absurd never
+
+pub stops-have-values : {T : Type 0} (choices : Choices T) → StopsHaveValues choices
+stops-have-values choices types buffer asked rest old answers (inl none) some = absurd (some none)
+stops-have-values choices types buffer asked rest old answers (inr may) some = gives-values types choices buffer asked old may

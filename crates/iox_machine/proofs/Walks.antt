@@ -179,7 +179,7 @@ module _ {T : Type 0} where
           one.factory,
           options,
           subst (λ (n : ℕ). Registers n (new_publisher one.factory options service.settings) service answer
-              after) next (subst (λ (it : Publisher T). Registers number it service answer after) made
+              after) next (subst (λ (it : Publisher T). Registers number it service answer after) made.0
               (place, free, then, mid, did, told, listed)),
         ))
     port-moves asked old answer (move.Subscribes buffer place number options one then) service after is (asks, next, told)

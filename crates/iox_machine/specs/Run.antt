@@ -1,6 +1,6 @@
 -- The machine: what each command does, what its reply is, and runs of commands.
-use Rattle.std.specs.Prelude.{ℕ, ◌+◌, ◌≡◌, ◌⊎◌, ◌&&◌, ◌==◌, nat_lt, Bool, false, List, [], ◌∷◌, ◌++◌, length, map, set, Some, None, is_some}
-use Rattle.std.specs.Prelude.{MatchBool, MatchOption, if◌then◌else◌}
+use Rattle.std.specs.Prelude.{ℕ, ◌+◌, ◌<◌, ◌≡◌, ◌⊎◌, ◌&&◌, ◌==◌, nat_lt, Bool, false, List, [], ◌∷◌, ◌++◌, length, map, set, Some, None}
+use Rattle.std.specs.Prelude.{is_some, MatchBool, MatchOption, if◌then◌else◌}
 use Rattle.std.specs.Global.{Vec}
 use Rattle.std.specs.List.{list_all}
 use Rattle.std.specs.Vec.{vec_items}
@@ -28,15 +28,6 @@ use Rattle.iox_command.specs.declared.refusal.HubError.TheVariants.{OutOfMemory}
 use Rattle.iox_command.specs.declared.refusal.Refusal.TheVariants as refusal
 use Rattle.iox_command.specs.declared.reply.Reply.{Reply}
 use Rattle.iox_command.specs.declared.reply.Reply.TheVariants as reply
-
-module _ {T : Type 0} where
-  -- A run may stop with these commands left and these answers given: before a command that receives or reads, or, if nothing was answered
-  -- yet, before any command.
-  abbrev pub MayStop : List (Command T) → List (Reply T) → Type 0
-  MayStop [] answers = ⊥
-  MayStop (command.Receive subscriber ∷ rest) answers = Unit {0}
-  MayStop (command.Read sample ∷ rest) answers = Unit {0}
-  MayStop (other ∷ rest) answers = answers ≡ []
 
 -- The parameters of a machine: the types of its messages, the choices of others, and the maximum number of expired connections of a
 -- subscriber (or the service's borrow limit, if that is larger).
@@ -150,8 +141,23 @@ module _ {T : Type 0} (types : MessageTypeDetails) (choices : Choices T) (buffer
       (answer : Reply T) × (mid : State T) × (rest : List (Reply T)) × Step command old answer mid × Runs more mid rest new ×
       (answers ≡ answer ∷ rest)
 
+  -- The machine may answer the command with the values of a message that has some: it receives the message, or reads its sample.
+  abbrev pub MayGiveValues : Command T → State T → Type 0
+  MayGiveValues (command.Receive subscriber) state =
+      (sample : ℕ) × (values : Vec T) × (after : State T)
+      × Step (command.Receive subscriber) state (reply.Received sample values) after × (0 < length (vec_items values))
+  MayGiveValues (command.Read sample) state =
+      (values : Vec T) × Step (command.Read sample) state (reply.Values values) state × (0 < length (vec_items values))
+  MayGiveValues other state = ⊥
+
+  -- A run may stop in this state, with these commands left and these answers given: if nothing was answered yet, before any command; or
+  -- before a command that the machine may answer with values.
+  abbrev pub MayStop : List (Command T) → State T → List (Reply T) → Type 0
+  MayStop [] state answers = ⊥
+  MayStop (asked ∷ rest) state answers = (answers ≡ []) ⊎ MayGiveValues asked state
+
   -- What a new machine may answer to commands: all of them are answered, or, if it stopped, those before a command at which it may stop.
   abbrev pub Answers : List (Command T) → Bool → List (Reply T) → Type 0
   Answers commands stopped answers =
       (first : List (Command T)) × (rest : List (Command T)) × (after : State T)
-      × (commands ≡ first ++ rest) × MatchBool stopped (MayStop rest answers) (rest ≡ []) × Runs first new_state answers after
+      × (commands ≡ first ++ rest) × MatchBool stopped (MayStop rest after answers) (rest ≡ []) × Runs first new_state answers after

@@ -1,6 +1,6 @@
 -- Theorems about every run of the machine: sizes, messages, samples, and commands that change nothing.
-use Rattle.std.specs.Prelude.{ℕ, ◌+◌, ◌*◌, ◌≡◌, ◌≤◌, ◌⊎◌, Bool, true, false, min, max, List, [], ◌∷◌, length, filter_map, find, is_some}
-use Rattle.std.specs.Prelude.{None, Some, unwrap_or}
+use Rattle.std.specs.Prelude.{ℕ, ◌+◌, ◌*◌, ◌^◌, ◌≡◌, ◌<◌, ◌≤◌, ◌⊎◌, Bool, true, false, min, max, List, [], ◌∷◌, length, filter_map}
+use Rattle.std.specs.Prelude.{find, is_some, None, Some, unwrap_or}
 use Rattle.std.specs.Global.{Vec}
 use Rattle.std.specs.List.{AllByRecursion, list_all}
 use Rattle.std.specs.Vec.{vec_items}
@@ -163,6 +163,13 @@ module _ {T : Type 0} (choices : Choices T) where
       → AllByRecursion
       (AllMessages (λ publisher message. Began types choices buffer publisher message.values asked new_state answers new run))
       new.services
+
+  -- In every run of a new machine, each message that waits, is borrowed, is kept or is held has fewer than 2^32 values. So the values of
+  -- each message fit in a vector.
+  abbrev pub MessagesAreShort : Type 0
+  MessagesAreShort = (types : MessageTypeDetails) (buffer : ℕ) (asked : List (Command T)) (answers : List (Reply T)) (new : State T)
+      → Runs types choices buffer asked new_state answers new
+      → AllByRecursion (AllMessages (λ publisher message. length message.values < 2 ^ 32)) new.services
 
   -- A sample reads the values with which it was received, whatever commands come between.
   abbrev pub SamplesReadTheSame : Type 0

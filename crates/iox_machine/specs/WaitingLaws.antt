@@ -5,17 +5,18 @@ use Rattle.std.specs.List.{AllByRecursion}
 use Rattle.std.specs.Vec.{vec_items}
 use Rattle.iox_machine.specs.AgreementLaws.{HasOne}
 use Rattle.iox_machine.specs.Choices.{Choices}
-use Rattle.iox_machine.specs.Message.{Message}
+use Rattle.iox_machine.specs.Message.{Message, Sample}
 use Rattle.iox_machine.specs.OnceLaws.{is_skipped}
 use Rattle.iox_machine.specs.PortList.{those}
 use Rattle.iox_machine.specs.Ports.{subscriber_in}
-use Rattle.iox_machine.specs.Run.{Step}
+use Rattle.iox_machine.specs.Run.{MayStop, Step}
 use Rattle.iox_machine.specs.Service.{Service, Subscriber, mailbox}
 use Rattle.iox_machine.specs.State.{State}
-use Rattle.iox_machine.specs.Table.{contains}
+use Rattle.iox_machine.specs.Table.{at, contains}
 use Rattle.iox_command.specs.DomainValues.declared.connection_failure.ConnectionFailure.{ConnectionFailure}
 use Rattle.iox_command.specs.DomainValues.declared.port_error.ReceiveError.TheVariants as error
 use Rattle.iox_command.specs.NegotiateBase.DescribeBase.declared.message_type.MessageTypeDetails.{MessageTypeDetails}
+use Rattle.iox_command.specs.declared.command.Command.{Command}
 use Rattle.iox_command.specs.declared.command.Command.TheVariants as command
 use Rattle.iox_command.specs.declared.port.PortNumber.TheVariants as port
 use Rattle.iox_command.specs.declared.refusal.Refusal.TheVariants as refusal
@@ -67,6 +68,14 @@ module _ {T : Type 0} (number : ℕ) (service : Service T) where
       × (length (mailbox publisher number service).borrowed < service.settings.subscriber_max_borrowed_samples)
       × (vec_items values ≡ message.values) × (answer ≡ reply.Received sample values)))
 
+  -- A message that has values can be received: it is the oldest in the connection that has its turn, and fewer messages of that publisher
+  -- are borrowed than the service allows.
+  abbrev pub HasValues : Subscriber → Type 0
+  HasValues one =
+      (publisher : ℕ) × (message : Message T) × HasItsTurn one publisher × WaitsFirst message publisher
+      × (length (mailbox publisher number service).borrowed < service.settings.subscriber_max_borrowed_samples)
+      × (0 < length message.values)
+
 module _ {T : Type 0} (types : MessageTypeDetails) (choices : Choices T) (buffer number : ℕ) where
   -- An update of the subscriber leads to this state. It is open there, at this service, and these are its connections.
   abbrev pub IsAttended : State T → State T → Service T → Subscriber → Type 0
@@ -93,3 +102,16 @@ module _ {T : Type 0} (choices : Choices T) where
       × Step types choices buffer (command.Update (port.Subscriber number)) old (reply.Refused (refusal.Connection failure)) new)
       ⊎ ((mid : State T) × (service : Service T) × (one : Subscriber) × IsAttended types choices buffer number old mid service one
       × ReceiveAnswers number service one answer)
+
+  -- A run that answered something stops only where there are values to give: before a receive, if a message that has values can be
+  -- received once the subscriber's connections are updated; or before a read of a sample whose message has values.
+  abbrev pub StopsHaveValues : Type 0
+  StopsHaveValues = (types : MessageTypeDetails) (buffer : ℕ) (asked : Command T) (rest : List (Command T)) (old : State T)
+      (answers : List (Reply T))
+      → MayStop types choices buffer (asked ∷ rest) old answers → (answers ≡ [] → ⊥)
+      → ((number : ℕ) × (asked ≡ command.Receive number)
+      × (mid : State T) × (service : Service T) × (one : Subscriber) × IsAttended types choices buffer number old mid service one
+      × HasValues number service one)
+      ⊎ ((sample : ℕ) × (asked ≡ command.Read sample) × (service : Service T) × (one : Sample T)
+      × (find (λ other. is_some (at sample other.samples)) old.services ≡ Some service) × (at sample service.samples ≡ Some one)
+      × (0 < length one.message.values))

@@ -25,7 +25,7 @@ ghost use Rattle.iox_machine.specs.OpeningLaws.{EitherMeetsAsked, OpenedMeetsAsk
 ghost use Rattle.iox_machine.specs.RefusalLaws.{RefusedCallsLeaveNodes, RefusedCallsLeaveSteps, RefusedPortsLeave, RetriesLeave};
 ghost use Rattle.iox_machine.specs.RefusalLaws.{UndeliveredLeaves};
 ghost use Rattle.iox_machine.specs.OnceLaws.{LoansAreSpentOnce, MessagesGoOnce};
-ghost use Rattle.iox_machine.specs.RunLaws.{MessagesWereSent, RefusedCallsLeaveServices, RefusedChangesNothing};
+ghost use Rattle.iox_machine.specs.RunLaws.{MessagesAreShort, MessagesWereSent, RefusedCallsLeaveServices, RefusedChangesNothing};
 ghost use Rattle.iox_machine.specs.RunLaws.{SamplesReadTheSame, SizesAreAgreed, SkippedChangesNothing};
 ghost use Rattle.iox_machine.specs.SequenceLaws.{GapsAreLosses, SequenceStays, SequencesGoUp};
 ghost use Rattle.iox_machine.specs.UseLaws.{UseIsOwned};
@@ -59,6 +59,13 @@ pub fn sizes_are_agreed<T: Default, B: Decides + Degrades, D: Degrades>()
 /// its publisher began to send it, earlier in the run.
 pub fn messages_were_sent<T: Default, B: Decides + Degrades, D: Degrades>()
     ensures { (handed : Handed B D) → MessagesWereSent (chosen_by T.is_default (λ who. B.decides who) (λ who. B.degrades who)
+        (λ who. D.degrades who) handed) }
+{}
+
+/// In every run of a new machine, each message that waits, is borrowed, is kept as history or is held as a sample has fewer than 2^32
+/// values. So the values of each message fit in a vector.
+pub fn messages_are_short<T: Default, B: Decides + Degrades, D: Degrades>()
+    ensures { (handed : Handed B D) → MessagesAreShort (chosen_by T.is_default (λ who. B.decides who) (λ who. B.degrades who)
         (λ who. D.degrades who) handed) }
 {}
 

@@ -13,7 +13,7 @@ ghost use Rattle.iox_machine.specs.PortReplyLaws.{DoneUnlessSkipped, DropsEndLoa
 ghost use Rattle.iox_machine.specs.PortReplyLaws.{ReleasesEndSamples, SendsAreRefusedSo};
 ghost use Rattle.iox_machine.specs.SkippedLaws.{SkippedIfUnready};
 ghost use Rattle.iox_machine.specs.VerdictLaws.{SettingsAreRefusedSo, VerdictsAreSo};
-ghost use Rattle.iox_machine.specs.WaitingLaws.{HasTellsWhatWaits, ReceivesWhatMayBeBorrowed};
+ghost use Rattle.iox_machine.specs.WaitingLaws.{HasTellsWhatWaits, ReceivesWhatMayBeBorrowed, StopsHaveValues};
 ghost use Rattle.iox_machine.specs.WorstCaseLaws.{WorstCaseIsEnough};
 ghost use Rattle.iox_machine.specs.WrittenLaws.{FillWritesAll, LoansBegin, SetWritesOne};
 
@@ -40,6 +40,13 @@ pub fn a_look_tells_what_waits<T: Default, B: Decides + Degrades, D: Degrades>()
 /// too, and `ExceedsMaxBorrows` otherwise.
 pub fn a_receive_gives_what_may_be_borrowed<T: Default, B: Decides + Degrades, D: Degrades>()
     ensures { (handed : Handed B D) → ReceivesWhatMayBeBorrowed (chosen_by T.is_default (λ who. B.decides who) (λ who. B.degrades who)
+        (λ who. D.degrades who) handed) }
+{}
+
+/// A run that answered something stops only where there are values to give: before a receive, if a message that has values can be received
+/// once the subscriber's connections are updated; or before a read of a sample whose message has values.
+pub fn a_stop_has_values<T: Default, B: Decides + Degrades, D: Degrades>()
+    ensures { (handed : Handed B D) → StopsHaveValues (chosen_by T.is_default (λ who. B.decides who) (λ who. B.degrades who)
         (λ who. D.degrades who) handed) }
 {}
 

@@ -98,7 +98,7 @@ replies_as_new_machine : ScriptRunsAnswer → (config : HubConfig) (old new : Sc
     → machine.Answers (types_of (codes "u64") 8 8 (codes "u64") 8 8) (as_named (λ value. value ≡ 0)) config.expired_connection_buffer
     (commands_among reads) false replies
 replies_as_new_machine law config old new lines reads replies is are run few = λ own.
-    law config (commands_among reads) old new replies false run (λ room grown stopped. never_stops stopped)
+    law config (commands_among reads) old new replies false run (λ stopped. never_stops stopped)
     (record {
       failed = λ strategy handler named answered info is. is;
       full = λ strategy handler named info decision is. is;

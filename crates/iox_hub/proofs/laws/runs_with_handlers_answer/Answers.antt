@@ -9,3 +9,4 @@ returns g c = runs_answer (terms_of g.T.ZeroCopySend.name g.T.ZeroCopySend.size 
     (λ handlers. g.B.Decides.decides handlers) g.D.SubscriberHandler.fixed (λ handler. g.D.Degrades.degrades handler))
     (λ strategy action degrading at_full at_failure. g.B.TakesHandlers.handled strategy action degrading at_full at_failure)
     (λ handed. c.decided_runs_go_on.ensures handed) (λ handed. c.new_hub_begins.ensures handed)
+    (λ handed. c.messages_are_short.ensures handed)

@@ -46,7 +46,8 @@ returns-clause-agreed g c = λ grown. are_as_agreed c.carry_out_all.new.hub.hub.
 
 pub returns-clause-answers : goal.returns-clause-answers
 returns-clause-answers g c = λ config. c.runs_with_handlers_answer.ensures config _ (c.args.hub.now, c.args.given.now.places.items)
-    (c.carry_out_all.new.hub, c.carry_out_all.new.given.places.items) _ _ c.carry_out_all.ensures.ran c.carry_out_all.ensures.stops
+    (c.carry_out_all.new.hub, c.carry_out_all.new.given.places.items) _ _ c.carry_out_all.ensures.ran
+    (λ stopped. c.carry_out_all.ensures.each)
 
 pub returns-clause-joins : goal.returns-clause-joins
 returns-clause-joins g c = c.runs_with_handlers_go_on.ensures _ (c.args.hub.now, c.args.given.now.places.items)
