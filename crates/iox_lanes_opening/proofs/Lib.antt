@@ -10,3 +10,4 @@ pub mod Waits
 pub mod Returning
 pub mod Remembering
 pub mod Filling
+mod Marking

@@ -7,6 +7,7 @@ pub mod Lingering
 pub mod Slices
 pub mod Sequences
 pub mod Soundness
+pub mod SharedSlots
 pub mod Refusals
 pub mod EachAsked
 pub mod Middles

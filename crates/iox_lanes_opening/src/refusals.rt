@@ -6,6 +6,7 @@
 //! - [`lingering`]: loans and samples that exist, and closed ports that still exist.
 //! - [`slices`]: publishers and messages that don't have single values.
 //! - [`soundness`]: states of the ports that no calls leave.
+//! - `shared_slots`: whether two messages of a publisher are in one slot.
 //! - [`sequences`]: which sequence numbers are too large.
 //! - [`each_asked`]: a question asked of each publisher.
 //! - [`reasons`]: the first reason that applies.
@@ -23,6 +24,7 @@ pub mod into_lanes_error;
 pub mod lingering;
 pub mod reasons;
 pub mod sequences;
+mod shared_slots;
 pub mod slices;
 pub mod soundness;
 pub mod up_to_date;

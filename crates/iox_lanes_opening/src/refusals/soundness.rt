@@ -1,16 +1,16 @@
 //! States of the ports of a service that no calls leave.
-ghost use Rattle.std.specs.Prelude.{◌≡◌, ◌<◌, true, length, slice_get};
+ghost use Rattle.std.specs.Prelude.{◌≡◌, true};
 ghost use Rattle.std.specs.List.{list_any};
 ghost use Rattle.iox_domain.specs.DomainPorts.Ports.{connection_of};
 ghost use Rattle.iox_domain.specs.DomainPorts.Subscribing.{attached_at};
 ghost use Rattle.iox_domain.specs.DomainSlots.Uses.{is_there};
 ghost use Rattle.iox_lanes_opening.specs.Listed.{holds_at, of_each_listed};
-ghost use Rattle.iox_lanes_opening.specs.Soundness.{are_placed, has_twice, is_misfit, is_publisher_placed, is_subscriber_placed};
+ghost use Rattle.iox_lanes_opening.specs.Soundness.{are_placed, is_misfit, is_publisher_placed, is_subscriber_placed};
 ghost use Rattle.iox_lanes_opening.specs.Soundness.{attaches_twice, comes_again, is_misnumbered, is_unsound, remembers_ill};
-ghost use Rattle.iox_lanes_opening.specs.Soundness.{share_publisher};
-ghost use Rattle.iox_lanes_opening.specs.Soundness.{share_slot, stands_again, waits_ill};
+ghost use Rattle.iox_lanes_opening.specs.Soundness.{share_publisher, waits_ill};
 
 use crate::refusals::each_asked::{Question, has_such};
+use crate::refusals::shared_slots::{Messages, has_twice};
 use iox_domain::ports::ServicePorts;
 use iox_domain_ports::reading::{limit_at, waiting_at};
 use iox_domain_ports::{
@@ -136,41 +136,8 @@ fn is_misnumbered<T: Copy, U: Copy>(sizes: ServiceSizes, port: &PublisherPort<T,
 fn remembers_ill<T: Copy, U: Copy>(sizes: ServiceSizes, port: &PublisherPort<T, U>) -> bool
     ensures { result ≡ remembers_ill sizes port.now }
 {
-    (sizes.history_size as usize) < port.sender.slots().history() || remembers_twice(port)
-}
-
-fn remembers_twice<T: Copy, U: Copy>(port: &PublisherPort<T, U>) -> bool
-    ensures { result ≡ has_twice port.now.sender.uses.history }
-{
-    for place in 0..port.sender.slots().history() {
-        if is_remembered_again(port, place) {
-            return true;
-        }
-    }
-    false
-}
-
-// Whether the message at this place of the history is in the slot of an earlier one.
-fn is_remembered_again<T: Copy, U: Copy>(port: &PublisherPort<T, U>, place: usize) -> bool
-    requires { place < length port.now.sender.uses.history }
-    ensures { result ≡ stands_again port.now.sender.uses.history place }
-{
-    for other in 0..place {
-        if share_remembered(port, other, place) {
-            return true;
-        }
-    }
-    false
-}
-
-fn share_remembered<T: Copy, U: Copy>(port: &PublisherPort<T, U>, one: usize, other: usize) -> bool
-    requires one { one < length port.now.sender.uses.history }
-    requires other { other < length port.now.sender.uses.history }
-    ensures { result ≡ share_slot (slice_get port.now.sender.uses.history one) (slice_get port.now.sender.uses.history other) }
-{
-    let first = port.sender.remembered(one);
-    let second = port.sender.remembered(other);
-    first == second
+    (sizes.history_size as usize) < port.sender.slots().history()
+        || has_twice(port, Messages::Remembered)
 }
 
 fn has_ill_connection<T: Copy, U: Copy>(sizes: ServiceSizes, port: &PublisherPort<T, U>) -> bool
@@ -211,50 +178,7 @@ fn waits_ill<T: Copy, U: Copy>(
     limit == 0
         || (sizes.subscriber_max_buffer_size as usize) < limit
         || limit < waiting_at(port, index)
-        || waits_twice(port, index)
-}
-
-fn waits_twice<T: Copy, U: Copy>(port: &PublisherPort<T, U>, index: usize) -> bool
-    requires { is_there (connection_of index port.now) ≡ true }
-    ensures { result ≡ has_twice (connection_of index port.now).waiting }
-{
-    for place in 0..waiting_at(port, index) {
-        if waits_again(port, index, place) {
-            return true;
-        }
-    }
-    false
-}
-
-// Whether the message that waits at this place of the connection is in the slot of an earlier one.
-fn waits_again<T: Copy, U: Copy>(port: &PublisherPort<T, U>, index: usize, place: usize) -> bool
-    requires there { is_there (connection_of index port.now) ≡ true }
-    requires waits { place < length (connection_of index port.now).waiting }
-    ensures { result ≡ stands_again (connection_of index port.now).waiting place }
-{
-    for other in 0..place {
-        if share_waiting(port, index, other, place) {
-            return true;
-        }
-    }
-    false
-}
-
-fn share_waiting<T: Copy, U: Copy>(
-    port: &PublisherPort<T, U>,
-    index: usize,
-    one: usize,
-    other: usize,
-) -> bool
-    requires there { is_there (connection_of index port.now) ≡ true }
-    requires one { one < length (connection_of index port.now).waiting }
-    requires other { other < length (connection_of index port.now).waiting }
-    ensures { result ≡ share_slot (slice_get (connection_of index port.now).waiting one)
-        (slice_get (connection_of index port.now).waiting other) }
-{
-    let first = port.sender.waiting_slot(index, one);
-    let second = port.sender.waiting_slot(index, other);
-    first == second
+        || has_twice(port, Messages::Waiting(index))
 }
 
 fn has_attached_twice<T: Copy, U: Copy>(ports: &ServicePorts<T, U>) -> bool
