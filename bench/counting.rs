@@ -3,6 +3,7 @@
 //!
 //! Standard input is a file of lines. One that begins with `count ` is read alone, without that word; the others are read in blocks.
 //! What a program writes that begins with `measure ` is counted, too, from there to its next write; its requests for memory from there on.
+//! Behind `measure memory ` no instructions are counted, so that much may be done there.
 //! For each counted line, when its reply is written, and at the end of the program, a row is appended to the file that `COUNTS` names:
 //! the instructions from the end of the read, or of that write, to the next write, the requests for memory so far, the bytes in use, and
 //! the most that ever were.
@@ -34,6 +35,7 @@ const EXIT_GROUP: i64 = 231;
 const TRAP: c_int = 5;
 const MARK: &[u8] = b"count ";
 const WRITTEN_MARK: &[u8] = b"measure ";
+const MEMORY_MARK: &[u8] = b"measure memory ";
 // In bytes, how much is read at once.
 const BLOCK: usize = 16_384;
 
@@ -64,6 +66,7 @@ extern "C" fn begin() {
     }
     IS_OF_MEMORY.store(unsafe { CStr::from_ptr(of) } == c"memory", Relaxed);
     NOTES.store(unsafe { open(notes, APPEND, 0o600) }, Relaxed);
+    unsafe { signal(TRAP, took_a_step) };
 }
 
 extern "C" fn took_a_step(_number: c_int) {
@@ -78,7 +81,6 @@ fn lines() -> &'static [u8] {
         let length = unsafe { lseek(0, 0, END) } as usize;
         LINES.store(unsafe { mmap(std::ptr::null_mut(), length, 1, 2, 0, 0) } as usize, Relaxed);
         LENGTH.store(length, Relaxed);
-        unsafe { signal(TRAP, took_a_step) };
     }
     unsafe { std::slice::from_raw_parts(LINES.load(Relaxed) as *const u8, LENGTH.load(Relaxed)) }
 }
@@ -135,7 +137,9 @@ fn begin_to_count() {
 }
 
 fn begins_a_count(from: *const c_void, length: usize) -> bool {
-    NOTES.load(Relaxed) >= 0 && unsafe { std::slice::from_raw_parts(from as *const u8, length) }.starts_with(WRITTEN_MARK)
+    let written = unsafe { std::slice::from_raw_parts(from as *const u8, length) };
+    let is_for_both = !written.starts_with(MEMORY_MARK);
+    NOTES.load(Relaxed) >= 0 && written.starts_with(WRITTEN_MARK) && (is_for_both || IS_OF_MEMORY.load(Relaxed))
 }
 
 #[unsafe(no_mangle)]

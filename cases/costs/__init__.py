@@ -46,6 +46,8 @@ put p1 5
 measure take 1
 measure put
 """
+# The test that makes each call of a port in threads, at few places and at many.
+OF_PORTS = ["measured::calls_of_ports_are_measured"]
 # What two sensors and two displays ask for in all, and the most bytes in use.
 IN_THREADS = counting.Counted(steps=0, requests=83, in_use=0, most=15_400)
 
@@ -229,10 +231,10 @@ def calls_that_take_no_memory_ask_for_none_and_what_ends_keeps_none():
 # ---- machines, and domains that are put back, by the program of cases
 
 
-def measured(what, given):
+def measured(of, what, given="", words=()):
     """What was counted of each line that begins with `measure`, with the line."""
-    text, counted = counting.run(counting.built("script_cases"), what, given)
-    lines = [it for it in text.splitlines() if it.startswith("measure ")]
+    text, counted = counting.run(of, what, given, words)
+    lines = [it for it in text.splitlines() if it.startswith("measure ") and (what == "memory" or not it.startswith("measure memory "))]
     # The last row is of the program's end.
     return list(zip(lines, counted[:-1], strict=True))
 
@@ -251,7 +253,8 @@ def judge_capacity(at_few, at_many):
 @case
 def a_call_takes_no_more_at_a_larger_capacity():
     text = "".join(it for it in (HERE / "machines.txt").read_text(encoding="ascii").splitlines(True) if not it.startswith("#")).strip()
-    few, many = (measured("steps", at(text, times, times)) for times in CAPACITIES)
+    of = counting.built("script_cases")
+    few, many = (measured(of, "steps", at(text, times, times)) for times in CAPACITIES)
     wrong = judge_capacity(few, many)
     if wrong or not few:
         raise Differs("; ".join(wrong) or "no line is measured")
@@ -259,13 +262,35 @@ def a_call_takes_no_more_at_a_larger_capacity():
 
 @case
 def a_domain_is_taken_out_and_put_back_without_a_request_for_memory():
+    of = counting.built("script_cases")
     for times in (10, 10_000):
-        for (line, counted), said in zip(measured("memory", PUT_BACK.replace("{n}", str(times))), ("take 1", "put"), strict=True):
+        for (line, counted), said in zip(measured(of, "memory", PUT_BACK.replace("{n}", str(times))), ("take 1", "put"), strict=True):
             note(f"{line}: {counted.requests:,} requests for memory after {times:,} messages")
             expect((line, counted.requests), (f"measure {said} -> true", 0))
 
 
 # ---- threads
+
+
+def measured_in_threads(what):
+    return measured(counting.built("iox_lanes_rows", of_tests=True), what, words=OF_PORTS)
+
+
+@case
+def a_call_of_a_port_in_threads_takes_no_more_at_a_larger_capacity():
+    found = measured_in_threads("steps")
+    half = len(found) // 2
+    wrong = judge_capacity(found[:half], found[half:])
+    if wrong or not half:
+        raise Differs("; ".join(wrong) or "no call is measured")
+
+
+@case
+def a_call_of_a_port_in_threads_asks_for_no_memory():
+    """Neither do 10 messages, samples that are held and loans, or 10,000 of each."""
+    for line, counted in measured_in_threads("memory"):
+        note(f"{line}: {counted.requests:,} requests for memory")
+        expect((line, line.endswith(" -> true"), counted.requests), (line, True, 0))
 
 
 @case

@@ -37,9 +37,9 @@ def program():
     return proved
 
 
-def built(crate):
-    """A program of this repository that `rt ci` built, or the one that COSTS_OF_ and its name names."""
-    made = TOP / "crates" / crate / "out" / crate
+def built(crate, of_tests=False):
+    """A program of this repository that `rt ci` built, or that of a crate's tests, or the one that COSTS_OF_ and its name names."""
+    made = TOP / "crates" / crate / "out" / (f"{crate}_tests" if of_tests else crate)
     named = os.environ.get(f"COSTS_OF_{crate}")
     youngest = max(it.stat().st_mtime for it in (TOP / "crates" / crate / "src").iterdir())
     if not named and (not made.exists() or made.stat().st_mtime < youngest):
@@ -72,14 +72,14 @@ def lie_still():
     ctypes.CDLL(None).personality(WITHOUT_CHANCE)
 
 
-def run(of, what, given=""):
-    """Runs a program on lines, and counts `steps` or `memory`. Returns what it writes, and what was counted at each place."""
+def run(of, what, given="", words=()):
+    """Runs a program on lines and words, and counts `steps` or `memory`. Returns what it writes, and what was counted at each place."""
     with tempfile.TemporaryDirectory(prefix="iox-check-") as name:
         script, notes = Path(name) / "script", Path(name) / "notes"
         script.write_text(given, encoding="ascii")
         env = {"LD_PRELOAD": str(library()), "GLIBC_TUNABLES": WITHOUT_REPEATS, "COUNT_OF": what, "COUNTS": "notes"}
         with open(script, "rb") as lines:
-            ran = subprocess.run([of], stdin=lines, env=env, cwd=name, capture_output=True, timeout=LONG, preexec_fn=lie_still)
+            ran = subprocess.run([of, *words], stdin=lines, env=env, cwd=name, capture_output=True, timeout=LONG, preexec_fn=lie_still)
         if ran.returncode or not notes.exists():
             raise NotHere(f"nothing is counted here: status {ran.returncode} {ran.stderr[-200:]!r}")
         return ran.stdout.decode(), [Counted(*map(int, it.split())) for it in notes.read_text().splitlines()]

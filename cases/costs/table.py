@@ -4,8 +4,8 @@ from dataclasses import dataclass, field
 from pathlib import Path
 
 HERE = Path(__file__).resolve().parent
-# A number in a line: of the time, or of all times, and how many more.
-NUMBER = re.compile(r"\{([nN])(?:\+(\d+))?\}")
+# A number in a line: of the time, or of all times, how many times that, and how many more.
+NUMBER = re.compile(r"\{(\d*)([nN])(?:\+(\d+))?\}")
 
 # How often what was there before, where a script doesn't say it.
 TIMES = (10, 1_000, 10_000)
@@ -51,7 +51,7 @@ def at(text, number, times):
     """A line as it is at a time."""
     if "{" not in text:
         return text
-    return NUMBER.sub(lambda it: str((number if it[1] == "n" else times) + int(it[2] or 0)), text)
+    return NUMBER.sub(lambda it: str(int(it[1] or 1) * (number if it[2] == "n" else times) + int(it[3] or 0)), text)
 
 
 def read(name):

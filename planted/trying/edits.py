@@ -31,6 +31,8 @@ class Edit:
     laws: tuple[str, ...] = ()
     # The case of ./check that must notice the edit, where no clause and no test can: what it changes is a cost.
     case: str = ""
+    # The crate and the test that must notice it, where no clause can, so that no others are run.
+    test: tuple[str, ...] = ()
 
     @property
     def key(self) -> str:
@@ -38,7 +40,7 @@ class Edit:
 
 
 def said_of(path: Path, key: str) -> str:
-    """What an edit's line of this key says, as `above: CRATE`, `laws: FUNCTION..` and `case: NAME`."""
+    """What an edit's line of this key says, as `above: CRATE`, `laws: FUNCTION..`, `case: NAME` and `test: CRATE NAME`."""
     lines = path.read_text(encoding="utf-8").splitlines()
     return next((line.partition(": ")[2] for line in lines if line.startswith(f"{key}: ")), "")
 
@@ -60,8 +62,8 @@ def changes(path: Path) -> tuple[Change, ...]:
 def edit_of(path: Path) -> Edit:
     """The edit of a file: it lies in planted/CRATE or in crates/CRATE/must-fail."""
     folder = path.parent if path.parent.name != "must-fail" else path.parent.parent
-    laws = tuple(said_of(path, "laws").split())
-    return Edit(folder.name, path.stem, path, changes(path), said_of(path, "above"), laws, said_of(path, "case"))
+    laws, test = (tuple(said_of(path, key).split()) for key in ("laws", "test"))
+    return Edit(folder.name, path.stem, path, changes(path), said_of(path, "above"), laws, said_of(path, "case"), test)
 
 
 def every_edit() -> list[Edit]:

@@ -94,6 +94,8 @@ def fall_anywhere(edit: Edit) -> tests.Fallen:
     """
     if edit.case:
         return tests.fall_in_cases(edit, (edit.case,))
+    if edit.test:
+        return tests.fall(edit, [edit.test[0]], edit.test[1])
     spent, text, counting = 0.0, tests.CASES[:1], tests.CASES[1:]
     is_of_gate = any(edit.key in keys for keys in promised().values())
     for cases in (text, None, counting) if not is_of_gate else (None, text, counting):

@@ -16,8 +16,8 @@ from pathlib import Path
 from planted.trying.edits import TOP
 from planted.trying.functions import functions_of
 
-# A check that takes longer than this, in seconds, or more memory, in bytes, has no answer.
-LIMIT, MOST_MEMORY = 2400, 4 << 30
+# A check that takes more processor time than this, in seconds, so many times that time, or more memory than this, in bytes, has no answer.
+LIMIT, MOST_TIMES, MOST_MEMORY = 2400, 6, 4 << 30
 
 
 @cache
@@ -147,13 +147,23 @@ def timed(command: list[str], folder: Path, given: Path = Path(os.devnull), envi
         began, ended = time.monotonic(), 0
         while not ended:
             ended, status, used = os.wait4(started.pid, os.WNOHANG)
-            if not ended and (time.monotonic() - began > LIMIT or memory_of(started.pid) > MOST_MEMORY):
+            if not ended and (spent(started.pid, began) > LIMIT or memory_of(started.pid) > MOST_MEMORY):
                 os.killpg(started.pid, signal.SIGKILL)
                 ended, status, used = os.wait4(started.pid, 0)
             time.sleep(0 if ended else 0.1)
         started.returncode = os.waitstatus_to_exitcode(status)
         said.seek(0)
         return Answer(started.returncode, said.read(), used.ru_utime + used.ru_stime)
+
+
+def spent(process: int, began: float) -> float:
+    """How much processor time a process took, in seconds. Of the time that went by since it began a share counts, too."""
+    try:
+        words = Path(f"/proc/{process}/stat").read_text(encoding="ascii", errors="replace").rpartition(")")[2].split()
+        took = sum(map(int, words[11:15])) / os.sysconf("SC_CLK_TCK")
+    except (OSError, ValueError):
+        took = 0.0
+    return max(took, (time.monotonic() - began) / MOST_TIMES)
 
 
 def memory_of(process: int) -> int:

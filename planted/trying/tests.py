@@ -25,12 +25,17 @@ CASES = (
     "a_line_of_each_verb_takes_what_the_table_says",
     "a_message_in_threads_asks_for_no_memory",
     "a_call_takes_no_more_at_a_larger_capacity",
+    "a_call_of_a_port_in_threads_takes_no_more_at_a_larger_capacity",
+    "a_call_of_a_port_in_threads_asks_for_no_memory",
 )
 # For each case that counts the program that it takes from the environment, with the library that names all of its own.
 COUNTED = {case: ("COSTS_OF", "iox", "iox_script") for case in CASES[1:4]}
 COUNTED[CASES[4]] = ("COSTS_OF_example_threads", "example_threads", "iox_lanes")
 # (the libraries that a program names are those of its line in crates.txt)
-COUNTED |= {case: ("COSTS_OF_script_cases", "script_cases", "") for case in CASES[5:]}
+COUNTED[CASES[5]] = ("COSTS_OF_script_cases", "script_cases", "")
+COUNTED |= {case: ("COSTS_OF_iox_lanes_rows", "iox_lanes_rows", "iox_lanes") for case in CASES[6:]}
+# The test that these two count: here it is a program of its own.
+COUNTED_TEST = "crates/iox_lanes_rows/src/measured.rt"
 
 
 @dataclass(frozen=True)
@@ -125,12 +130,22 @@ def is_there(case: str) -> bool:
     return any(f"def {case}(" in file.read_text(encoding="utf-8") for file in [TOP / "check", *(TOP / "cases").rglob("*.py")])
 
 
+def root_of(top: Path, crate: str) -> Path:
+    """The root file of a program; of a crate of tests the one that is counted, with a `main` in place of the test."""
+    root = top / "crates" / crate / "src" / "main.rt"
+    if not root.exists():
+        root.parent.with_name("counted").mkdir(exist_ok=True)
+        root = root.parent.with_name("counted") / "main.rt"
+        root.write_text(re.sub(r"#\[test\]\nfn \w+", "fn main", (top / COUNTED_TEST).read_text(encoding="utf-8")), encoding="utf-8")
+    return root
+
+
 def counted_program(top: Path, case: str) -> tuple[dict[str, str], float]:
     """The environment that names a case the program of a copy, built without proof and without checks; and what the build took."""
     variable, crate, library = COUNTED[case]
     program = top.parent / crate
     named = [library] if library else prover.below_each()[crate]
-    words = ["bench/split.py", "build", crate, f"crates/{crate}/src/main.rt", str(program), *named]
+    words = ["bench/split.py", "build", crate, str(root_of(top, crate)), str(program), *named]
     took = 0.0 if program.exists() else prover.timed([sys.executable, *words], top).seconds
     return {variable: str(program)}, took
 
@@ -176,6 +191,9 @@ def fall_in_cases(edit: Edit, cases: tuple[str, ...]) -> Fallen:
         shutil.copytree(TOP, top, ignore=shutil.ignore_patterns("out", "__pycache__", ".git"), symlinks=True)
         write(changed(edit, top / "crates" / edit.crate), top / "crates" / edit.crate)
         for case in filter(is_there, cases):
+            if case in COUNTED and edit.crate not in prover.Libraries().reached(COUNTED[case][1]):
+                # The program doesn't stand on what is changed.
+                continue
             environment, took = counted_program(top, case) if case in COUNTED else ({}, 0.0)
             if not all(Path(it).exists() for it in environment.values()):
                 # What isn't built can't be counted, which says nothing of the body.

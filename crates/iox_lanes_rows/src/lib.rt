@@ -4,8 +4,8 @@
 //! the messages; `counted` runs a whole schedule by one call; `messages` reads the messages that lanes keep; `in_turn` sends messages by
 //! calls that don't overlap. Lanes in threads: `service` makes services of two publishers and two subscribers; in `streams` the publishers
 //! send numbers, and in `turns` two ports answer each other, once all threads run (`start`); `boards` calls the ports of three boards one
-//! after the other. In `wide` values have three words, by lanes and by ports. `answers` has the checks of results, and `texts` checks how
-//! errors display.
+//! after the other. In `wide` values have three words, by lanes and by ports. `measured` has the calls whose cost `./check` counts.
+//! `answers` has the checks of results, and `texts` checks how errors display.
 //!
 //! `stepping` hands on the calls of lanes without their contracts, so that these are read only once; `calls` has the calls that cases name.
 //!
@@ -21,10 +21,14 @@
 //! - `refusals`: each reason why a domain can't become lanes.
 //! - `returns`: what lanes find in a domain, and what lanes and threads leave in it.
 //! - `sizes`: domains with up to 1,000 messages, and with up to 64 publishers and subscribers.
+//!
+//! `asked` has a publisher of a domain alone: what its handler is asked.
 #![tactic(auto)]
 
 #[cfg(test)]
 mod answers;
+#[cfg(test)]
+mod asked;
 #[cfg(test)]
 mod boards;
 #[cfg(test)]
@@ -43,6 +47,8 @@ mod in_turn;
 mod known;
 #[cfg(test)]
 mod lanes;
+#[cfg(test)]
+mod measured;
 #[cfg(test)]
 mod messages;
 #[cfg(test)]

@@ -202,7 +202,7 @@ pub(crate) fn answer_steps(rt: &HostRuntime, alloc: Global, lines: &str) -> io::
     match word(&mut words) {
         "overflowing" | "refusing" => serve(rt, alloc, rings::ring(alloc, head), rest),
         "bits" => serve(rt, alloc, bits::set(alloc, head), rest),
-        "plain" => serve(rt, alloc, plain::set(alloc, head), rest),
+        "plain" | "counts" => serve(rt, alloc, plain::set(alloc, head), rest),
         "indices" => serve(rt, alloc, indices::set(alloc, head), rest),
         "value" => serve(rt, alloc, values::value(alloc, head), rest),
         "robust" => serve(rt, alloc, robust::set(alloc, head), rest),

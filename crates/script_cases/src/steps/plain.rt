@@ -1,22 +1,37 @@
-//! Plain bit sets, each of whose calls is a single step.
+//! Plain sets of bits, and of counts, each of whose calls is a single step.
 use super::{Asked, Machine};
 use crate::said::{NONE, Said, UNKNOWN};
 use crate::words::size;
-use iox_queues::BitSet;
+use iox_queues::{BitSet, CountingBitSet};
 use iox_queues_steps::Stepped;
 use std::alloc::{AllocError, Global};
 
-/// A bit set, and what its last call answered.
+#[derive(Drop)]
+enum Kind {
+    Bits(BitSet),
+    Counts(CountingBitSet),
+}
+
+/// A set, and what its last call answered.
 #[derive(Drop)]
 pub(crate) struct Plain {
-    set: BitSet,
+    set: Kind,
     told: Said<'static>,
+}
+
+fn new_set(alloc: Global, line: &str) -> Result<Kind, AllocError> {
+    let capacity = size(line, "capacity", 1) as usize;
+    if line.starts_with("steps counts ") {
+        Ok(Kind::Counts(CountingBitSet::new(alloc, capacity)?))
+    } else {
+        Ok(Kind::Bits(BitSet::new(alloc, capacity)?))
+    }
 }
 
 /// The empty set that a line names.
 pub(crate) fn set(alloc: Global, line: &str) -> Result<Plain, AllocError> {
     Ok(Plain {
-        set: BitSet::new(alloc, size(line, "capacity", 1) as usize)?,
+        set: new_set(alloc, line)?,
         told: NONE,
     })
 }
@@ -30,8 +45,17 @@ fn sets(set: &mut BitSet, place: usize) -> Option<Said<'static>> {
     }
 }
 
-// What a call answers; nothing where it doesn't fit.
-fn told(set: &mut BitSet, asked: Asked<'_>) -> Option<Said<'static>> {
+// Counts a place up, if the set has it.
+fn counts(set: &mut CountingBitSet, place: usize) -> Option<Said<'static>> {
+    if place < set.capacity() {
+        Some(Said::Is(set.set(place)))
+    } else {
+        None
+    }
+}
+
+// What a call of a bit set answers; nothing where it doesn't fit.
+fn told_of_bits(set: &mut BitSet, asked: Asked<'_>) -> Option<Said<'static>> {
     match asked.verb {
         "set" => sets(set, asked.first as usize),
         "next" => Some(
@@ -39,6 +63,17 @@ fn told(set: &mut BitSet, asked: Asked<'_>) -> Option<Said<'static>> {
                 .map_or(NONE, |place| Said::Number(place as u64)),
         ),
         _ => None,
+    }
+}
+
+// What a call answers; nothing where it doesn't fit.
+fn told(set: &mut Kind, asked: Asked<'_>) -> Option<Said<'static>> {
+    match set {
+        Kind::Bits(bits) => told_of_bits(bits, asked),
+        Kind::Counts(set) => match asked.verb {
+            "set" => counts(set, asked.first as usize),
+            _ => None,
+        },
     }
 }
 
