@@ -72,18 +72,28 @@ def messages_of_the_same_values_leave_each_state_that_fits():
             script.write_text(head + "receive s1\n" * len(received.split(" ")))
             told.write_text("".join(f"{it}\n" for it in replies))
             ran = Ran("--against", f"sh -c 'exec cat {told}'", script, cwd=folder)
-            last = f"line {len(replies)}, 'receive s1': the reply {replies[-1]!r} isn't allowed"
-            expect((received, ran.status, last.encode() in ran.err), (received, 5, True) if is_wrong else (received, 0, False))
+            last = f"{script}:{len(replies)}: the reply {replies[-1]!r} to 'receive s1' isn't allowed\n"
+            expect((received, ran.status, ran.err.startswith(last.encode())), (received, 5, True) if is_wrong else (received, 0, False))
 
 
 @case
 def a_program_that_ends_or_is_missing_is_told():
     with tempfile.TemporaryDirectory(prefix="iox-check-") as folder:
+        # No file that is there already is written.
+        (Path(folder) / "against-1.svg").write_bytes(b"mine")
         ran = Ran("--against", "sh -c 'read line; exit 3'", SCRIPT, cwd=folder)
         expect((ran.status, ran.out), (5, b"node  (the program ended, status 3)\n      allowed: ok n1\n"))
-        expect_in(b"iox: 3 of 3 runs of these 1 lines show it", ran.err)
+        told = "the reply '(the program ended, status 3)' to 'node' isn't allowed\niox: 3 of 3 runs of these 1 lines show it"
+        expect_in(f"{SCRIPT}:1: {told}".encode(), ran.err)
+        # A script that has no name is called by its lines, and a random one by what makes it again.
+        for words, name in (([], ""), (["--random", "2,late,5"], "script 1 of 2, late, seed 5, ")):
+            ran = Ran("--against", "sh -c 'read line; exit 3'", *words, given=SCRIPT.read_bytes(), cwd=folder)
+            expect_in(f"{name}line 1: {told}".encode(), b"\n" + ran.err)
         ran = Ran("--against", "cat /dev/zero", SCRIPT, cwd=folder)
         expect((ran.status, ran.out), (5, b"node  (a reply of more than 65536 bytes)\n      allowed: ok n1\n"))
+        names = sorted(it.name for it in Path(folder).iterdir())
+        expect(names, ["against-1.svg", *(f"against-{at}.{end}" for at in range(2, 6) for end in ("iox", "svg"))])
+        expect((Path(folder) / "against-1.svg").read_bytes(), b"mine")
     Ran("--against", "./no-such-program", SCRIPT).expect_one_line(66, "./no-such-program: No such file or directory")
     Ran("--against", ADAPTER, "./no-such.iox").expect_one_line(66, "./no-such.iox: No such file or directory")
 

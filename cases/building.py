@@ -320,7 +320,7 @@ def a_build_that_answers_the_first_script_otherwise_is_kept_and_the_line_is_told
         (copy.top / "wrong").touch()
         ran = copy.run(given=b"node\ncreate n1 ps A\nsubscriber f1\nreceive s1\n")
         expect((ran.status, ran.out, copy.tries()), (0, b"ok n1\nok f1\nok s1\nnothing\n", 1))
-        told = b'iox: line 14 of examples/first.iox: this build replies "nothing", and first.replies has "none"\n'
+        told = b'iox: examples/first.iox:14: this build replies "nothing", and first.replies has "none"\n'
         expect_in(told, ran.err)
         # It is told once, and nothing is built again.
         ran = copy.run(SCRIPT)

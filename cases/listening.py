@@ -205,7 +205,7 @@ def who_is_idle_is_dropped_and_others_stay():
         def replies(self, lines):
             return iter(()) if lines[0].text == b"end" else super().replies(lines)
 
-    options = argparse.Namespace(json=None, comments=False, quiet=True, verbose=False, numbers=False)
+    options = argparse.Namespace(file=None, json=None, comments=False, quiet=True, verbose=False, numbers=False)
     listener = open_listener("0")
     port = listener.getsockname()[1]
     serving = threading.Thread(target=Server(options, Ends(), listener, idle=1.0).serve)

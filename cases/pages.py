@@ -274,6 +274,30 @@ def each_message_that_ends_the_launcher_or_vendor_is_on_the_page_of_errors():
     expect(found > 30, True)
 
 
+def numberless(text):
+    """A message with one number for all that has a number, as `p1` for `p9`."""
+    return re.sub(r"\b([nfpslm])\d+\b", r"\g<1>1", text.replace("`", ""))
+
+
+def strings_of(script):
+    """The texts in a file of Python, also those in bytes."""
+    for it in ast.walk(ast.parse(script.read_text(encoding="utf-8"))):
+        if isinstance(it, ast.Constant) and isinstance(it.value, (str, bytes)):
+            yield it.value if isinstance(it.value, str) else it.value.decode(errors="replace")
+
+
+@case
+def each_message_about_a_line_on_the_page_of_errors_is_one_of_the_cases():
+    """What is before and behind `..` is in a text of `cases/saying.py`, or of the module that says it."""
+    page = (TOP / "docs" / "ERRORS.md").read_text(encoding="utf-8").partition("### Messages about a line")[2].partition("\n## ")[0]
+    said = [numberless(it) for script in ("cases/saying.py", "tool/notes.py") for it in strings_of(TOP / script)]
+    messages = [it[2] for row in re.findall(r"(?m)^\| (`.*?) \| ", page) for it in re.finditer(r"(`+)(.+?)\1(?!`)", row)]
+    expect(len(messages) > 25, True)
+    for message in messages:
+        parts = re.sub(r"^(?:FILE:\d+(?::\d+)?: )?(?:skip: |StillInUse: )?", "", message).split("..")
+        expect((message, [it for it in parts if not any(numberless(it).strip(" ):") in text for text in said)]), (message, []))
+
+
 @case
 def api_pages_are_not_written_among_other_files():
     with tempfile.TemporaryDirectory(prefix="iox-check-") as folder:
@@ -290,13 +314,15 @@ def users_pages_have_no_more_words_than_they_may():
     expect({it: count for it, count in counts.items() if count > MOST_WORDS[it]}, {})
 
 
-# Pages for users.
-LINKED_DOCS = "THREADS FAQ ERRORS FORMATS GLOSSARY PREMISES DIFFERENCES".split()
-LINKED = [*MOST_WORDS, *(f"docs/{it}.md" for it in LINKED_DOCS), "examples/README.md"]
+# Pages whose readers follow links: all but the notes and the benches, which are for who works on them.
+LINKED = ["README.md", "examples/README.md", *sorted(it.relative_to(TOP).as_posix() for it in (TOP / "docs").glob("*.md"))]
 
 
 @case
-def users_pages_name_other_pages_by_links():
+def pages_name_other_pages_by_links_and_each_is_linked():
+    leads_to = set()
     for page in LINKED:
         plain = re.sub(r"(?ms)^```.*?^```$", "", (TOP / page).read_text(encoding="utf-8"))
         expect((page, re.findall(r"(?<!\[)`((?:docs|examples|bench)/\w+\.md)`", plain)), (page, []))
+        leads_to |= {(TOP / page).parent / it for it in re.findall(r"\]\(([^)\s#]+)", plain) if ":" not in it}
+    expect([it for it in LINKED if it != "README.md" and (TOP / it).resolve() not in {to.resolve() for to in leads_to}], [])

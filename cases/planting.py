@@ -3,7 +3,7 @@ import re
 import subprocess
 
 from cases.kit import LONG, TOP, Differs, case, case_behind_proofs, expect
-from planted.trying import choosing, page, table
+from planted.trying import choosing, page, table, tests
 from planted.trying.edits import edit_of, every_edit, fault_of
 
 NOTES = TOP / "docs" / "notes"
@@ -32,6 +32,17 @@ def each_law_that_a_planted_fault_names_is_a_function_of_its_crate():
     for it in every_edit():
         text = "".join(file.read_text(encoding="utf-8") for file in (TOP / "crates" / it.crate / "src").rglob("*.rt")) if it.laws else ""
         wrong += [f"{it.key}: {law}" for law in it.laws if not re.search(rf"\bfn {law}\b", text)]
+    expect(wrong, [])
+
+
+@case
+def each_test_or_case_that_a_planted_fault_names_is_there():
+    wrong = [f"{it.key}: {it.case}" for it in every_edit() if it.case and not tests.is_there(it.case)]
+    for it in every_edit():
+        crate, name = it.test or ("", "")
+        file = TOP / "crates" / crate / "src" / f"{name.rpartition('::')[0].replace('::', '/')}.rt"
+        if name and not (file.exists() and f"#[test]\nfn {name.rpartition('::')[2]}(" in file.read_text(encoding="utf-8")):
+            wrong.append(f"{it.key}: {crate} {name}")
     expect(wrong, [])
 
 

@@ -61,6 +61,8 @@ def labels_of_dense_rows_do_not_overlap():
     found = [*labels(ran.out)]
     width = int(ElementTree.fromstring(ran.out).get("width"))
     expect((len(found) >= 20, sum(it[0].startswith("[") for it in found) >= 20), (True, True))
+    # Long values don't make the picture wide.
+    expect_in("[18446744073709551615 ..] #4", [it[0] for it in found])
     expect([it for it in found if it[1] < 0 or it[3] > width], [])
     overlapping = [(a[0], b[0]) for a, b in combinations(found, 2) if a[1] < b[3] and b[1] < a[3] and a[2] < b[4] and b[2] < a[4]]
     expect(overlapping, [])
@@ -86,6 +88,28 @@ def the_state_names_the_sample_of_each_subscriber_that_holds_a_message():
     expect(held, {"s1": [["m1"]], "s2": [["m2"]]})
 
 
+# A long name of an error, and ports of which the one that a line changes is below a phone's screen.
+LONG = """node
+create n1 ps A history=3 buffer=2 overflow=0
+open_or_create n1 ps A
+publisher f1
+publisher f1
+subscriber f1
+put p1 18446744073709551615
+put p2 9007199254740993
+receive s1
+"""
+# How wide a name's lines are, and whether they begin with a capital; the values of the state; whether what changed is in sight.
+SEEN = """(() => {
+  const name = document.querySelector(".reply .long"), box = it => it.getBoundingClientRect();
+  const range = document.createRange(), tops = [...name.childNodes].filter(it => it.data).map(it => {
+    range.selectNodeContents(it);
+    return range.getClientRects().length;
+  });
+  const state = box(get("state")), changed = box([...document.querySelectorAll("#state .fresh")].pop());
+  const values = [...document.querySelectorAll("#state .slot")].map(it => it.textContent.trim()).filter(it => it);
+  return { whole: tops.every(it => it === 1), values, inSight: changed.bottom <= Math.min(state.bottom, innerHeight) + 1 && changed.top >= state.top };
+})()"""
 # What a reader does, and what is to be seen then.
 READS = """(async () => {
   const seen = [location.hash], moment = () => new Promise(done => setTimeout(done, 50));
@@ -168,3 +192,15 @@ def help_on_each_option_is_there():
     for it in OPTIONS:
         expect_in("default" if it not in ("buffer", "slice", "slots") else f"{it}=", help_on_option(it))
     expect(help_on_option("nothing"), None)
+
+
+@case
+def the_page_on_a_phone_breaks_long_names_between_words_and_shows_what_a_line_changed():
+    with tempfile.TemporaryDirectory(prefix="iox-check-") as folder, browser() as asked:
+        file = Path(folder) / "long.html"
+        file.write_bytes(Ran("--model", "-q", "--html", "-", given=LONG.encode()).out)
+        for width in (360, 768, 1440):
+            asked.open(f"{file.as_uri()}#9", width, False)
+            # Numbers above 2^53 are whole.
+            values = ["m1 [18446744073709551615]", "[9007199254740993]"]
+            expect((width, asked.value(SEEN)), (width, {"whole": True, "values": values, "inSight": True}))

@@ -198,7 +198,7 @@ def join_all():
     folder = Path(KEPT.name) / "programs"
     weather = program_of_threads(folder, BEGINS, function_of_lost_ports() + BEGINS + CALLS, "called")
     printed = {"weather": last_reading(), "own": structs.OUTPUT, **programs_of_the_users_page(folder)}
-    add_library(folder, "own: iox_hub anyhow", structs.PROGRAM, own="imu", imu=structs.STRUCTS, whole=structs.whole())
+    add_library(folder, "own: iox_hub iox_lanes anyhow", structs.PROGRAM, own="imu", imu=structs.STRUCTS, whole=structs.whole())
     for it in ("example_tracer", "script_cases"):
         add_ours(folder, it)
     add(folder, "called: robot latest speak own example_tracer script_cases anyhow", lib=CALLER)

@@ -46,10 +46,11 @@ FAULTS = [
     ("foreign ps A publish:x1:", 25, "an option is missing: publish:x1:KEY=VALUE,.."),
     ("foreign ps A publish1:x1:", 26, "an option is missing: publish1:x1:KEY=VALUE,.."),
     ("foreign ps A publish1:x1:buffer=1:", 35, "one colon too many in the step publish1"),
-    ("create n1 ps A sequence=2", 25, 'sequence is 0 or 1, and "2" is neither'),
     ("create n1 rr A sequence=1", 16, '"sequence" isn\'t an option of rr services: it is one of ps services'),
     ("sequence s1", 10, 'expected a sample such as m1, not "s1"'),
     ("sequence m1 m2", 13, '"m2" is one word too many: sequence mK'),
+    ("create n1 ps A sequence=", 25, "sequence= needs 0 or 1"),
+    ("create n1 ps A sequence=2", 25, 'sequence is 0 or 1, and "2" is neither'),
 ]
 
 
@@ -59,6 +60,44 @@ def each_faulty_line_is_told_with_its_column_and_what_is_wrong():
     notes = "".join(f"line {at}, column {column}: {why}\n" for at, (_, column, why) in enumerate(FAULTS, 1))
     ran = Ran("--model", given=script.encode())
     expect((ran.status, ran.out, ran.err.decode().splitlines()), (0, b"err faulty line\n" * len(FAULTS), notes.splitlines()))
+
+
+# A script, and what is said of it if it is named: the place as compilers have it, and then what else `-v` says.
+NAMED = """node
+put p1 1
+nod
+create n1 ps A buffer=0
+publisher f1
+close f1
+open n1 ps B
+"""
+SAID_OF_NAMED = """own.iox:2: skip: p1 doesn't exist
+own.iox:3:1: "nod" isn't a command; did you mean "node"?
+own.iox:4: buffer=0 counts as 1
+own.iox:6: StillInUse: f1 is still used by p1
+"""
+MORE_OF_NAMED = """own.iox:2: put p1 1
+own.iox:3: nod
+own.iox:6: close f1
+own.iox:7: open n1 ps B
+own.iox:7: no service of this name exists: create it, or open_or_create
+"""
+
+
+@case
+def lines_of_a_script_that_is_named_are_told_by_file_and_line():
+    with tempfile.TemporaryDirectory(prefix="iox-check-") as folder:
+        (Path(folder) / "own.iox").write_text(NAMED)
+        expect(Ran("--model", "own.iox", cwd=folder).err.decode(), SAID_OF_NAMED)
+        told = [Ran("--model", it, "own.iox", cwd=folder).err.decode().splitlines() for it in ("-v", "--verbose")]
+        expect((told[0], [it for it in (SAID_OF_NAMED + MORE_OF_NAMED).splitlines() if it not in told[0]]), (told[1], []))
+        expect([Ran("--model", it, "own.iox", cwd=folder).err for it in ("-q", "--quiet")], [b"", b""])
+        ran = Ran("--model", "./own.iox", cwd=folder)
+        expect(ran.err.decode(), SAID_OF_NAMED.replace("own.iox", "./own.iox"))
+    # Standard input has no name.
+    told = SAID_OF_NAMED.replace("own.iox:3:1", "line 3, column 1").replace(": skip", ", skip").replace(": StillInUse", ", StillInUse")
+    for words in ([], ["-"]):
+        expect(Ran("--model", *words, given=NAMED.encode()).err.decode(), told.replace("own.iox:", "line "))
 
 
 @case
@@ -123,6 +162,10 @@ publisher f2
 loan p2 1
 close f2
 close f2
+publisher f1
+loan p2 1
+send l2
+send l2
 """
     reasons = """line 2, skip: p1 doesn't exist
 line 7, skip: l1 isn't written
@@ -137,6 +180,7 @@ line 22, skip: p1 left
 line 24, skip: f2 is of an ev service, and only ps services have ports
 line 25, skip: p2 doesn't exist
 line 27, skip: f2 was closed
+line 31, skip: l2 was sent
 """
     ran = Ran("--model", given=script.encode())
     expect((ran.status, ran.err.decode().splitlines()), (0, reasons.splitlines()))

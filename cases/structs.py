@@ -7,19 +7,19 @@ from pathlib import Path
 from cases.kit import TOP, case, expect, expect_in
 from cases.vendoring import vendor
 
-# A struct, what is refused of it, and in which line.
+# A struct, the line that is refused if it is one, and why.
 REFUSED = {
-    "pub struct A {\n    pub x: u64,\n    pub y: String,\n}\n": "line 3: a field of type String isn't supported",
-    "pub struct A {\n    pub x: [u8; 16],\n    pub y: [u8; 17],\n}\n": "line 3: a field of type [u8; 17] isn't supported",
-    "pub struct A {\n    pub y: [[u8; 2]; 2],\n}\n": "line 2: a field of type [[u8; 2]; 2] isn't supported",
-    "pub struct A {\n    // x: u8,\n    pub x: u64,\n    y: u8,\n}\n": "line 4: y is private; write `pub(crate) y`",
-    "pub struct A {\n    pub x u64,\n}\n": "line 2: expected a field such as `pub x: f64`, not `pub x u64`",
-    "struct A(u64);\n": "line 1: A has no named fields",
-    "\nstruct A<T> {\n    pub x: T,\n}\n": "line 2: A has no named fields, or it has type parameters",
-    "struct A {}\n": "line 1: A has no fields",
-    "struct A {\n    pub x: u64,\n": "line 1: A has no closing brace",
-    "#[derive(Clone, Debug)]\nstruct A {\n    pub x: u64,\n}\n": "line 2: A isn't `Copy`; write `#[derive(Clone, Copy)]`",
-    "// struct A {}\n": "it has no struct with named fields",
+    "pub struct A {\n    pub x: u64,\n    pub y: String,\n}\n": ":3: a field of type String isn't supported",
+    "pub struct A {\n    pub x: [u8; 16],\n    pub y: [u8; 17],\n}\n": ":3: a field of type [u8; 17] isn't supported",
+    "pub struct A {\n    pub y: [[u8; 2]; 2],\n}\n": ":2: a field of type [[u8; 2]; 2] isn't supported",
+    "pub struct A {\n    // x: u8,\n    pub x: u64,\n    y: u8,\n}\n": ":4: y is private; write `pub(crate) y`",
+    "pub struct A {\n    pub x u64,\n}\n": ":2: expected a field such as `pub x: f64`, not `pub x u64`",
+    "struct A(u64);\n": ":1: A has no named fields",
+    "\nstruct A<T> {\n    pub x: T,\n}\n": ":2: A has no named fields, or it has type parameters",
+    "struct A {}\n": ":1: A has no fields",
+    "struct A {\n    pub x: u64,\n": ":1: A has no closing brace",
+    "#[derive(Clone, Debug)]\nstruct A {\n    pub x: u64,\n}\n": ":2: A isn't `Copy`; write `#[derive(Clone, Copy)]`",
+    "// struct A {}\n": ": it has no struct with named fields",
 }
 # The fields of a struct, with its size and its alignment by `#[repr(C)]`.
 SIZES = {
@@ -67,13 +67,37 @@ fn main(rt: HostRuntime) -> Result<()> {
 """
 WHOLE = """\
 //! The whole examples of the API pages, over two services, of single values and of slices.
-use anyhow::{Context, Result, bail};
+use anyhow::{Context, Result, bail, ensure};
 use iox_hub::prelude::*;
+use iox_lanes::threads::{DomainThreads, abandon, end, open_threads};
+use iox_lanes::{DomainLanes, into_lanes};
 
 pub type Bus = Hub<u64, (), Nobody, Nobody>;
+pub type Service = PortFactory<PublishSubscribe>;
 
 EXAMPLES
-pub fn run_all(alloc: Global, hub: &mut Bus) -> Result<(usize, usize, u64, usize, usize)> {
+// Takes a service out and puts it back, with all its ports and without one; meanwhile a value is sent. No thread is begun here.
+fn go_by_lanes(alloc: Global, hub: &mut Bus, service: &Service, publisher: Publisher<u64, ()>) -> Result<(bool, bool)> {
+    let (id, is_refused) = (publisher.id(), lanes_of(alloc, hub, service).is_err());
+    // (What is refused is back.)
+    publisher.update_connections(alloc, hub)?;
+    ensure!(is_refused, "a subscriber came later, and the publisher isn't connected to it");
+    let lanes = lanes_of(alloc, hub, service)?;
+    ensure!(lanes_of(alloc, hub, service).is_err(), "a service is taken out once");
+    let mut ports = ports_of(alloc, hub, lanes)?;
+    let mut port = ports.take_publisher(id).context("no such port")?;
+    let loan = port.loan()?;
+    port.write(&loan, &1, &())?;
+    port.send(loan).map_err(|unsent| unsent.error)?;
+    ensure!(ports.put_publisher(port).is_ok(), "a port too many");
+    let first = put_back(hub, ports)?;
+    let lanes = lanes_of(alloc, hub, service)?;
+    let mut ports = ports_of(alloc, hub, lanes)?;
+    ensure!(ports.take_publisher(id).is_some(), "no such port");
+    Ok((first, put_back(hub, ports)?))
+}
+
+pub fn run_all(alloc: Global, hub: &mut Bus) -> Result<((bool, bool), usize, usize, u64, usize, usize)> {
     let node = hub.new_node()?;
     let asked = hub.service_builder(&node, ServiceName::new(b"single values")?).publish_subscribe::<u64>();
     let service = asked.create_in(alloc, hub, Vec::new(alloc))?;
@@ -81,6 +105,7 @@ pub fn run_all(alloc: Global, hub: &mut Bus) -> Result<(usize, usize, u64, usize
     let publisher = builder.set_handlers(Nobody).create(alloc, hub)?;
     let builder = hub.subscriber_builder(&service).context("no domain")?;
     let subscriber = builder.set_handler(Nobody).create(alloc, hub)?;
+    let went = go_by_lanes(alloc, hub, &service, publisher)?;
     let asked = hub.service_builder(&node, ServiceName::new(b"slices")?).publish_subscribe::<Slice<u64>>();
     let service = asked.create_in(alloc, hub, Vec::new(alloc))?;
     let builder = hub.slice_publisher_builder(&service).context("no domain")?.initial_max_slice_len(2);
@@ -91,7 +116,7 @@ pub fn run_all(alloc: Global, hub: &mut Bus) -> Result<(usize, usize, u64, usize
     let first = send_value(alloc, hub, publisher, 3)?;
     let second = send_in_place(alloc, hub, publisher, 4)?;
     let sum = receive_all(alloc, hub, subscriber)?;
-    Ok((first, second, sum, without, send_copied(alloc, hub, of_slices, &[7, 8])?))
+    Ok((went, first, second, sum, without, send_copied(alloc, hub, of_slices, &[7, 8])?))
 }
 """
 STRUCTS = """\
@@ -124,7 +149,7 @@ pub struct Lamp {
 }
 """
 OUTPUT = (
-    "(1, 1, 7, 0, 1)\nImu { a: 255, b: 65535, c: 2147483648, d: 18446744073709551615, e: -128, f: -2, g: -2147483648,"
+    "((true, false), 1, 1, 7, 0, 1)\nImu { a: 255, b: 65535, c: 2147483648, d: 18446744073709551615, e: -128, f: -2, g: -2147483648,"
     " h: -9223372036854775808, i: 7, j: -7, k: 0.5, l: -2.25, m: 'ß', n: true, o: [1.5, -0.5, 0.0], p: [0, 255] }\n"
     "Lamp { is_on: false }\n88 8 88 3\n"
 )
@@ -152,7 +177,7 @@ def a_struct_that_is_not_supported_is_refused_with_its_line():
         for text, why in REFUSED.items():
             ran, made = written(folder, text)
             expect((text, ran.returncode, ran.stdout, made), (text, 64, "", None))
-            expect_in(f"own.rt: {why}", ran.stderr)
+            expect_in(f"own.rt{why}", ran.stderr)
         (Path(folder) / "latin.rt").write_bytes("// Größe\n".encode("latin-1"))
         ran = vendor("--struct", f"{folder}/latin.rt")
         expect((ran.returncode, ran.stdout, ran.stderr), (66, "", f"vendor: {folder}/latin.rt has bytes that aren't UTF-8\n"))

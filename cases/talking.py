@@ -32,6 +32,7 @@ STORED = TOP / "crates" / "iox"
 @case
 def help_fits_a_screen_and_names_each_option():
     ran = Ran("--help")
+    expect(Ran("-h").out, ran.out)
     expect((ran.status, ran.err), (0, b""))
     lines = ran.out.decode().splitlines()
     expect((len(lines) <= 38, max(map(len, lines)) <= 80), (True, True))
@@ -143,14 +144,20 @@ def a_write_fault_ends_with_status_1():
         raise NotHere("no /dev/full")
     with open("/dev/full", "wb") as full:
         ran = Ran(SCRIPT, stdout=full)
-    expect((ran.status, ran.err), (1, b"write fault\n"))
+    expect((ran.status, ran.err), (1, b"iox: write fault: standard output: No space left on device\n"))
 
 
 @case_of_program
 def a_read_fault_ends_with_status_1():
     with open(os.devnull, "wb") as not_for_reading:
-        Ran(given=not_for_reading).expect(1, b"", b"read fault\n")
-        Ran("--numbers", given=not_for_reading).expect(1, b"", b"read fault\n")
+        for words in ([], ["--numbers"], ["--json"]):
+            Ran(*words, given=not_for_reading).expect(1, b"", b"iox: read fault: standard input: Bad file descriptor\n")
+        # The program that reads by itself has no prefix.
+        Ran("-q", given=not_for_reading).expect(1, b"", b"read fault\n")
+    if not os.path.exists("/proc/self/mem"):
+        raise NotHere("no /proc")
+    # (A file that can be opened, and not read.)
+    Ran("/proc/self/mem").expect(1, b"", b"iox: read fault: /proc/self/mem: Input/output error\n")
 
 
 @case

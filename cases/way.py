@@ -23,14 +23,15 @@ NOT_PASSED = {
     "leading_number": "alone",
     "first_verb": "seldom_verb",
     "of_port_verb": "only with_number with_two port",
-    "NumberedHub::carry_out_port": "lending::loan lending::loan_uninit receiving::receive following::update following::leave following::has"
+    "NumberedHub::carry_out_port": "lending::loan lending::loan_uninit receiving::receive following::update self.leave following::has"
     " messages::set messages::fill messages::drop_loan messages::send messages::retry messages::give_up messages::read messages::sequence"
     " messages::release",
     "Numbered::get": "value_of",
-    "entry_of": "search_of",
-    "near": "search_of",
-    "note_lent": "share_in",
-    "PublisherPort::lend": "self.lend_longer",
+    "entry_of": "entry_behind",
+    "near": "sought",
+    "note_lent": "note_another",
+    "ByNumber::get_mut": "self.get_mut_behind",
+    "PublisherPort::lend": "self.lend_unless",
     "Link::take_back": "self.take_one_back",
     "places::settle": "free_unused",
     "PublisherPort::send": "self.drop_loan",
@@ -41,7 +42,9 @@ NOT_PASSED = {
     "PublisherPort::put": ".asked_at",
     "UniqueIndexSet::settle": "self.borrowed_indices",
     "print_reply": "append_made append_sample append_read append_refusal",
-    "subscribers::note_lent": "share_in",
+    "subscribers::note_lent": "note_another",
+    "borrowed::near": "near_behind",
+    "free_step": "free_step_behind",
     "SubscriberPort::update_each": "self.follow_list",
     "SubscriberPort::receive_now": "nothing_taken",
     "SubscriberPort::receive_from": "nothing_taken self.first_data",
@@ -54,30 +57,23 @@ NOT_PASSED = {
     "oldest": ".oldest_of",
     "Links::give_back": "self.let_go self.settle",
     "step_at": "steps_behind",
-    "Publishers::settle": ".note remove_port",
-    "Subscribers::settle": ".note",
-    "is_over": ".loans has_connections",
     "Numbered::remove": "take_of",
+    "Publishers::give_back": "self.settle",
 }
-# Each call on a way that looks a thing up by its number, id or place: the number of the port or sample, the domain, who decides for the
-# port, the port, the publisher of a message, and by their places the others that a port is tied to and the connection.
+# Each call on a way that looks a thing up by its number, id or place: the number of the port or sample, the domain, the port, the publisher
+# of a message, and by their places the others that a port is tied to and the connection.
 LOOK_UPS = {
     "Made::lender": ["self.publishers.get"],
     "domain_mut": ["home.place"],
     "Hub::place": ["self.services.place"],
     "Services::place": ["self.presences.place"],
     "Presences::place": ["self.entries.place"],
-    "DomainState::put": ["self.publisher_handlers.get"],
-    "Kept::get": ["self.values.get"],
-    "ByNumber::get": ["self.place"],
     "ServicePorts::put": ["self.publishers.get_mut"],
     "Publishers::get_mut": ["self.ports.get_mut"],
-    "ByNumber::get_mut": ["self.place"],
     "PublisherPort::meet": ["self.ties.get"],
     "SlotUses::link": ["self.links.get"],
     "Made::subscriber": ["self.subscribers.get"],
     "receive_at": ["home.place"],
-    "DomainState::receive": ["self.subscriber_handlers.get"],
     "ServicePorts::receive": ["self.subscribers.get_mut"],
     "Subscribers::get_mut": ["self.ports.get_mut"],
     "Keys::at": ["self.items.get"],
@@ -91,12 +87,8 @@ LOOK_UPS = {
     "Made::read": ["self.samples.get"],
     "home::domain": ["home.place"],
     "Made::release": ["self.samples.get"],
-    "ServicePorts::release": ["self.subscribers.get"],
-    "Subscribers::get": ["self.ports.get"],
+    "ServicePorts::release": ["self.subscribers.get_mut"],
     "Publishers::give_back_there": ["self.get_mut"],
-    "Publishers::is_over": ["self.get"],
-    "ServicePorts::let_go": ["self.subscribers.get_mut"],
-    "Subscribers::is_over": ["self.get"],
 }
 # Calls of these names on a way are the standard library's, though a function of ours has the name, too.
 OF_OTHERS = ".as_bytes .as_mut .as_ref .first .is_empty .is_none .is_some .kind .push_reserved .reserve .truncate".split()

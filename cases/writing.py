@@ -113,7 +113,7 @@ OUTCOMES = [
     ("--it /dev/stdout own.iox", 64, "/dev/stdout is where the replies go: `--it -` writes to standard output", ""),
     ("--it replies own.iox >replies", 64, "replies is where the replies go", ""),
     ("--it messages own.iox 2>messages", 64, "messages is where the messages go", ""),
-    ("--it - own.iox >/dev/full", 1, "write fault", ""),
+    ("--it - own.iox >/dev/full", 1, "iox: write fault: standard output: No space left on device", ""),
     ("--it /dev/null own.iox", 0, "iox: wrote /dev/null", ""),
     # What can't be written is said before anything runs.
     ("--it folder own.iox", 66, "folder: Is a directory", ""),
@@ -362,7 +362,7 @@ def a_long_line_is_drawn_too():
 
 @case
 def replies_are_compared_with_those_that_are_expected():
-    second = " is expected (own.replies, line 2), and the reply is "
+    second = " is expected (own.replies:2), and the reply is "
     with own_script() as script:
         wanted = script.with_suffix(".replies")
         wanted.write_bytes(REPLIES)
@@ -372,13 +372,16 @@ def replies_are_compared_with_those_that_are_expected():
             (b"node\nput p1 1\nnode\n", b"ok n1\nok 1\nok n3\n", f'line 2: "ok 1"{second}"skip": p1 doesn\'t exist'),
             (b"node\nnod\n", b"ok n1\nok n2", f'line 2: "ok n2"{second}"err faulty line": "nod" isn\'t a command'),
             (b"node\nnode\n", b"ok n1\n", 'line 2: own.replies ends before this reply, "ok n2"'),
-            (b"node\n", b"ok n1\nok n2\nok n3\n", "own.replies has 2 more replies from line 2 on, and the script has no more lines"),
+            (b"node\n", b"ok n1\nok n2\nok n3\n", "iox: own.replies has 2 more replies from line 2 on, and the script has no more lines"),
         ):
             wanted.write_bytes(lines)
-            for quiet in ([], ["-q"]):
-                one = ran("--expect", "own.replies", *quiet, given=given, cwd=script.parent)
-                expect((one.status, one.out.count(b"\n"), one.err.count(b"iox: ")), (5, given.count(b"\n"), 1))
-                expect_in(f"iox: {told}", one.err.decode())
+            # (Where the script is a file, its lines are named as compilers name them.)
+            script.write_bytes(given)
+            for quiet, named in product(([], ["-q"]), (False, True)):
+                one = ran("--expect", "own.replies", *quiet, *["own.iox"] * named, given=given, cwd=script.parent)
+                expect((one.status, one.out.count(b"\n"), one.err.count(b"own.replies")), (5, given.count(b"\n"), 1))
+                expect_in(told.replace("line 2: ", "own.iox:2: " if named else "line 2: "), one.err.decode())
+        script.write_bytes(SCRIPT.read_bytes())
         # Of a reply that is expected nothing is said, unless that is asked for.
         wanted.write_bytes(b"skip\nok n1\n")
         told = b"line 1, skip: p1 doesn't exist\n"
@@ -404,15 +407,15 @@ def far_differences_of_replies_are_shown_where_they_are():
         given = f"node\ncreate n1 ps A\npublisher f1 slice=30\nsubscriber f1\nput p1 {' '.join(values)}\nreceive s1\n".encode()
         one = ran("--expect", wanted, given=given)
         expect(one.status, 5)
-        for it in (f' 7" is expected ({wanted}, line 6)', f' {values[-1]}"\n'):
+        for it in (f' 7" is expected ({wanted}:6)', f' {values[-1]}"\n'):
             expect_in(it, one.err.decode())
 
 
 # Streams that are closed, and the status, the replies and the messages then.
 CLOSED_STREAMS = {
-    "<&-": (1, b"", b"read fault\n"),
-    f"{SCRIPT} >&-": (1, b"", b"write fault\n"),
-    f"-q {SCRIPT} --svg - >&-": (1, b"", b"write fault\n"),
+    "<&-": (1, b"", b"iox: read fault: standard input: Bad file descriptor\n"),
+    f"{SCRIPT} >&-": (1, b"", b"iox: write fault: standard output: Bad file descriptor\n"),
+    f"-q {SCRIPT} --svg - >&-": (1, b"", b"iox: write fault: standard output: Bad file descriptor\n"),
     "2>&-": (0, b"err faulty line\n", b""),
     "-v 2>&-": (0, b"err faulty line\n", b""),
 }
@@ -484,8 +487,12 @@ def the_first_script_is_as_expected():
 @case
 def a_strict_run_fails_at_any_err_or_skip():
     ran("--strict", SCRIPT).expect(0, REPLIES)
-    told = b"iox: 2 of 4 replies are err or skip; the first is that of line 2\n"
-    ran("--strict", "-q", given=b"node\nput p1 1\nnode\nnod\n").expect(4, b"ok n1\nskip\nok n2\nerr faulty line\n", told)
+    told = b"iox: 2 of 4 replies are err or skip; the first is at "
+    with own_script() as script:
+        script.write_bytes(b"node\nput p1 1\nnode\nnod\n")
+        for words, given, at in ((["-q"], script.read_bytes(), b"line 2\n"), (["-q", "own.iox"], b"", b"own.iox:2\n")):
+            one = ran("--strict", *words, given=given, cwd=script.parent)
+            one.expect(4, b"ok n1\nskip\nok n2\nerr faulty line\n", told + at)
     with tempfile.NamedTemporaryFile() as wanted:
         expect(ran("--strict", "--expect", wanted.name, given=b"nod\n").status, 5)
 

@@ -26,6 +26,7 @@ from script_model import lines_of
 from tool.converse import Line
 from tool.draw import svg
 from tool.files import put
+from tool.notes import place_of
 from tool.progress import DIFFERS, MISUSED, NO_INPUT, Progress, say, stop
 from tool.trace import Trace
 
@@ -249,9 +250,14 @@ def table(held: Held) -> str:
     return "\n".join(f"{line:{width}}  {reply}" for line, reply in [*zip(held.lines, held.replies), last])
 
 
-def show(side: Side, held: Held, where: str):
-    """Says where a reply isn't allowed. Writes the shortest script that shows one like it, and its picture."""
-    say(f"{where}, line {len(held.lines)}, {held.lines[-1]!r}: the reply {held.replies[-1]!r} isn't allowed")
+def say_of_last(held: Held, where: str, options, text: str):
+    """Says something of the last line of a conversation: where it is in the script, which has a name of its own if it is a random one."""
+    at = place_of(options.file, len(held.lines))
+    print(f"{at if options.random is None else f'{where}, {at}'}: {text}", file=sys.stderr, flush=True)
+
+
+def show(side: Side, held: Held):
+    """Writes the shortest script that shows a reply like the one that isn't allowed, and its picture."""
     short = Shortening(side, held, FreeMachine).shortest()
     print(table(short), flush=True)
     runs = 0
@@ -293,11 +299,12 @@ def run(options) -> int:
             held = hold(side, source, FreeMachine)
             if held.allowed:
                 progress.end()
-                show(side, held, where)
+                say_of_last(held, where, options, f"the reply {held.replies[-1]!r} to {held.lines[-1]!r} isn't allowed")
+                show(side, held)
                 return DIFFERS
             told += Counter(scripts=1, replies=len(held.lines), back=held.taken_back, up=bool(held.given_up))
             if held.given_up:
-                say(f"{where}, line {len(held.lines)}: {held.given_up}")
+                say_of_last(held, where, options, held.given_up)
             elif progress.is_terminal:
                 progress.tell(where)
     finally:

@@ -4,7 +4,6 @@ from __future__ import annotations
 import contextlib
 import os
 import subprocess
-import sys
 import time
 from argparse import Namespace
 from collections import namedtuple
@@ -14,6 +13,9 @@ from pathlib import Path
 
 from script_model import LONGEST_LINE, Machine
 
+from tool.progress import say
+
+STANDARD_INPUT = "standard input"
 # A piece of input fits into an empty pipe, with a line that began before it.
 PIECE = 16384
 # A line as it came: its number, its text up to one byte past the longest, and its whole size.
@@ -121,15 +123,15 @@ class Program:
 
 
 class Fault(Exception):
-    """Standard input can't be read, or standard output takes nothing more."""
+    """The script can't be read, or standard output takes nothing more."""
 
 
-def read_piece() -> bytes:
-    """What standard input gives, as it comes."""
+def pieces_read(name: str) -> Iterator[bytes]:
+    """What standard input gives, as it comes; a failure has the name of the script."""
     try:
-        return os.read(0, PIECE)
-    except OSError:
-        raise Fault("read fault") from None
+        yield from iter(lambda: os.read(0, PIECE), b"")
+    except OSError as error:
+        raise Fault(f"read fault: {name}: {error.strerror}") from None
 
 
 def pieces_of(script: bytes) -> Iterator[bytes]:
@@ -151,8 +153,8 @@ class Output:
                 del self.held[: os.write(1, self.held)]
             except BrokenPipeError:
                 raise
-            except OSError:
-                raise Fault("write fault") from None
+            except OSError as error:
+                raise Fault(f"write fault: standard output: {error.strerror}") from None
 
 
 def writer_of(options: Namespace, out: Output, follower) -> Callable[[Line, bytes], None]:
@@ -184,7 +186,7 @@ def converse(answers, asked: Iterator[list[Line]], takers: list, out: Output) ->
         answers.end()
         return answers.status
     except Fault as fault:
-        print(fault, file=sys.stderr)
+        say(str(fault))
         return 1
     finally:
         answers.close()
@@ -205,4 +207,4 @@ class Clock:
         first = f", the first reply after {self.first - self.begun:.3f} s" if self.first else ""
         each = f", {(now - self.first) / self.count * 1e6:.0f} µs a line after that" if self.count > 1 else ""
         lines = f"{self.count} line{'s' * (self.count != 1)}"
-        print(f"iox: {lines} in {now - self.begun:.3f} s{first}{each}", file=sys.stderr)
+        say(f"{lines} in {now - self.begun:.3f} s{first}{each}")

@@ -12,6 +12,7 @@ from dataclasses import asdict
 from html import escape as escape_with_quotes
 from itertools import product
 from pathlib import Path
+from typing import Any
 
 from tool import outputs
 from tool.state import KINDS, message_shown
@@ -26,7 +27,8 @@ def escape(text: str) -> str:
 ROW, COLUMN, LETTER, MARGIN, TOP = 24, 64, 7.9, 16, 64
 # A letter of a label, and how far a label reaches above and below its base line.
 SMALL_LETTER, RISES, FALLS = 6.7, 9, 3
-LONGEST_SHOWN = 48
+# In letters: how much of a line is shown, and how long a label may be.
+LONGEST_SHOWN, LONGEST_LABEL = 48, 32
 PAGE = Path(__file__).resolve().parent / "page.html"
 STYLE = """\
 text{font:13px monospace;fill:#222}.title{font:bold 16px sans-serif}.sub,.legend{font:12px sans-serif;fill:#555}
@@ -66,6 +68,12 @@ def box_of(x: float, y: float, text: str, side: int) -> Box:
     """The box of a label, which begins at x, or ends there where the side is the left one."""
     wide = SMALL_LETTER * (len(text) + 1)
     return Box(x if side > 0 else x - wide, y - RISES, x + wide if side > 0 else x, y + FALLS)
+
+
+def label_of(values: list[int] | None, sequence: int | None) -> str:
+    """A message as a label has it: as many of its values as fit, four at most."""
+    shown = [message_shown(values, sequence, most) for most in (4, 3, 2, 1)]
+    return next((it for it in shown if len(it) <= LONGEST_LABEL), shown[-1])
 
 
 class Sheet:
@@ -194,8 +202,7 @@ def draw_delivery(sheet: Sheet, it: Delivery, aside: int):
     sheet.stroke(name, x1, y1, x3, y3 + (8 if name == "waits" else 0))
     if it.missing:
         draw_gap(sheet, it, -side)
-    value = message_shown(it.values, it.sequence, 4)
-    sheet.label(value, " gone" if name == "lost" else "", side, places(x1 + side * 10, y1, x3 + side * 10, y3))
+    sheet.label(label_of(it.values, it.sequence), " gone" if name == "lost" else "", side, places(x1 + side * 10, y1, x3 + side * 10, y3))
 
 
 def draw_messages(sheet: Sheet):
@@ -208,7 +215,7 @@ def draw_messages(sheet: Sheet):
         if lost.sent not in reached and lost.publisher in sheet.x:
             x, y = sheet.x[lost.publisher], sheet.y(lost.sent)
             sheet.parts.append(cross(x, y))
-            sheet.label(message_shown(lost.values, lost.sequence, 4), " gone", 1, places(x + 9, y + 2, x + 9, y + 2))
+            sheet.label(label_of(lost.values, lost.sequence), " gone", 1, places(x + 9, y + 2, x + 9, y + 2))
 
 
 def draw_legend(sheet: Sheet):
@@ -253,9 +260,18 @@ def svg(told: Conversation, title: str) -> str:
     return "\n".join([*head, MARKERS, '<rect width="100%" height="100%" fill="#fff"/>', *sheet.parts, "</svg>"]) + "\n"
 
 
+def exact(told: Any) -> Any:
+    """What the page is told of states: a browser rounds numbers above 2^53, so these are texts."""
+    if isinstance(told, dict):
+        return {key: exact(it) for key, it in told.items()}
+    if isinstance(told, list):
+        return [exact(it) for it in told]
+    return str(told) if isinstance(told, int) and told > 2**53 else told
+
+
 def html(told: Conversation, title: str) -> str:
     """The page, with what it plays and the whole picture in it."""
-    told_of = {"rows": [asdict(it) for it in told.rows], "states": told.states, "top": TOP, "row": ROW}
+    told_of = {"rows": [asdict(it) for it in told.rows], "states": exact(told.states), "top": TOP, "row": ROW}
     # No text of a script ends the element that it lies in.
     data = json.dumps(told_of, separators=(",", ":")).replace("<", "\\u003c")
     parts = {"@MARK@": outputs.KINDS["html"][1], "@TITLE@": escape(title), "@PICTURE@": svg(told, title), "@TOLD@": data}

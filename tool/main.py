@@ -15,7 +15,7 @@ from pathlib import Path
 from typing import Any
 
 from tool.arguments import read_arguments
-from tool.converse import Fault
+from tool.converse import STANDARD_INPUT, Fault
 from tool.progress import MISUSED, NO_INPUT, NOT_BUILT, UNPROVED, Messages, say, stop
 from tool.stops import STOPS
 
@@ -33,7 +33,7 @@ def open_file(file: str):
 
 def refuse_own_words(options: Namespace):
     """Ends if replies or messages go into the script, which then has no end, or into the expected replies."""
-    read = [(options.file or "standard input", "the script", os.fstat(0))]
+    read = [(options.file or STANDARD_INPUT, "the script", os.fstat(0))]
     with contextlib.suppress(OSError):
         read += [(options.expect, "what is expected", os.stat(options.expect))] if options.expect else []
     for name, what, found in read:
@@ -96,7 +96,7 @@ def serve(options: Namespace, begun: float) -> int:
         # Becomes the program. Python ignores this signal, and the program gets it as the shell hands it on.
         signal.signal(signal.SIGPIPE, signal.SIG_DFL)
         os.execv(program, ["iox"])
-    from tool.converse import Clock, Output, converse, lines_of, pieces_of, read_piece, writer_of
+    from tool.converse import Clock, Output, converse, lines_of, pieces_of, pieces_read, writer_of
     from tool.notes import Follower, Notes
 
     out, follower, clock = Output(), Follower(), Clock(begun)
@@ -104,8 +104,8 @@ def serve(options: Namespace, begun: float) -> int:
     if options.expect or options.strict:
         from tool.verdicts import Expect, Strict
 
-        notes.expected = Expect(options.expect, follower) if options.expect else None
-        held = [it for it in (notes.expected, Strict() if options.strict else None) if it]
+        notes.expected = Expect(options.file, options.expect, follower) if options.expect else None
+        held = [it for it in (notes.expected, Strict(options.file) if options.strict else None) if it]
     if options.svg or options.html:
         from tool.trace import Trace
 
@@ -113,7 +113,7 @@ def serve(options: Namespace, begun: float) -> int:
     # No reply is written if a picture goes to standard output.
     written = [] if "-" in (options.svg, options.html) else [writer_of(options, out, follower)]
     answers, script = who_answers(options)
-    pieces = iter(read_piece, b"") if script is None else pieces_of(script)
+    pieces = pieces_read(options.file or STANDARD_INPUT) if script is None else pieces_of(script)
     if prompts and script is None:
         from tool.prompt import Prompt
 
@@ -171,7 +171,7 @@ def run() -> int:
         os.dup2(os.open(os.devnull, os.O_WRONLY), 1)
         return 1
     except Fault as fault:
-        print(fault, file=sys.stderr)
+        say(str(fault))
         return 1
     except OSError as error:
         # The folder of what is built can't be written, or a file of the user's can't be read or written.

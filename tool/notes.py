@@ -29,8 +29,16 @@ def readable(text: bytes, most: int = SHOWN) -> str:
     return shown + " .." * (len(text) > most)
 
 
-# What is said of a line: the column or the word after its number, the text, and the column if the line is faulty there.
-Told = namedtuple("Told", "where text column")
+# What is said of a line: `skip` or `StillInUse` if that is why, the text, and the column if the line is faulty there.
+Told = namedtuple("Told", "kind text column")
+
+
+def place_of(file: str | None, number: int, told: Told | None = None) -> str:
+    """Where a line of the script is, as compilers say it, or its number alone if no FILE was named."""
+    kind, column = (told.kind, told.column) if told else ("", None)
+    if file is None:
+        return f"line {number}" + (f", column {column}" if column else f", {kind}" * bool(kind))
+    return f"{file}:{number}" + (f":{column}" if column else f": {kind}" * bool(kind))
 
 
 def about(line: Line, reply: bytes, follower: Follower | None) -> list[Told]:
@@ -43,10 +51,10 @@ def about(line: Line, reply: bytes, follower: Follower | None) -> list[Told]:
 
     if is_faulty:
         fault = fault_of(line.text, line.size, line.number)
-        return [Told(f", column {fault.column}", fault.text, fault.column)] if fault else []
+        return [Told("", fault.text, fault.column)] if fault else []
     told = [Told("", it, None) for it in remarks_on(line.text)]
     why = follower.reason(reply) if follower and has_reason else None
-    return told + ([Told(f", {'skip' if reply.startswith(b'skip') else 'StillInUse'}", why, None)] if why else [])
+    return told + ([Told("skip" if reply.startswith(b"skip") else "StillInUse", why, None)] if why else [])
 
 
 @cache
@@ -100,7 +108,7 @@ def known(line: Line, reply: bytes, follower: Follower | None):
     """What is said of a line, the row of its error, and both in words: when the error comes, unless a reason of its own is known."""
     told = about(line, reply, follower)
     meaning = meaning_behind(reply, told)
-    return told, meaning, [it.text for it in told] + ([meaning.when] if meaning and not any(it.where for it in told) else [])
+    return told, meaning, [it.text for it in told] + ([meaning.when] if meaning and not any(it.kind or it.column for it in told) else [])
 
 
 class Follower:
@@ -140,7 +148,7 @@ class Notes:
 
     def __init__(self, out: Output, follower: Follower, options: Namespace, prompts: bool, who: str = ""):
         self.out, self.follower, self.is_verbose, self.who = out, follower, options.verbose, who
-        self.shows_lines = options.numbers or options.verbose
+        self.file, self.shows_lines = options.file, options.numbers or options.verbose
         self.is_silent = options.quiet and not self.shows_lines
         self.prompts, self.is_asked = prompts, prompts or not self.is_silent
         # What the replies are held against, if they are: of a reply that is expected nothing is said.
@@ -159,8 +167,9 @@ class Notes:
     def take(self, line: Line, reply: bytes):
         if not self.is_asked or (self.expected and self.expected.is_met and not self.shows_lines):
             return
-        told, at = about(line, reply, self.follower), f"{self.who}line {line.number}"
-        shown = [f"{at}{it.where}: {self.without_known_hint(it.text)}" for it in told]
+        told = about(line, reply, self.follower)
+        at, *places = [self.who + place_of(self.file, line.number, it) for it in (None, *told)]
+        shown = [f"{place}: {self.without_known_hint(it.text)}" for place, it in zip(places, told)]
         if self.shows_lines and reply.startswith((b"err", b"skip")):
             shown.insert(0, f"{at}: {readable(line.text)}")
         is_open = self.prompts and not shown

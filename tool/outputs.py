@@ -9,7 +9,7 @@ import stat
 from argparse import Namespace
 from pathlib import Path
 
-from tool.converse import Output
+from tool.converse import STANDARD_INPUT, Output
 from tool.files import put
 from tool.progress import MISUSED, NO_INPUT, say, stop
 
@@ -24,8 +24,6 @@ OURS = re.compile(
     rb'|<!DOCTYPE html>\n<html lang="en">\n<head>\n(?:<meta [^>\n]*>\n)*'
     rb'<meta name="generator" content="Kohepuri \./iox --html((?: [0-9a-f]{16})?)">\n'
 )
-# What a picture or page shows, if the script has no name of its own.
-NAMELESS = "standard input"
 STANDARD_OUTPUT = "-"
 
 
@@ -44,7 +42,7 @@ def is_nameless(file: str | None) -> bool:
 def script_of(options: Namespace, out: str) -> str:
     """What a picture or page is of: the script, by its place beside OUT."""
     if is_nameless(options.file):
-        return NAMELESS
+        return STANDARD_INPUT
     if out == STANDARD_OUTPUT:
         return os.path.basename(options.file)
     return os.path.relpath(os.path.realpath(options.file), os.path.dirname(os.path.realpath(out)))

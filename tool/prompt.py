@@ -10,7 +10,7 @@ from pathlib import Path
 from script_lines import PATTERNS
 
 from tool import VERSION
-from tool.converse import Fault
+from tool.converse import STANDARD_INPUT, Fault
 from tool.explain import meant
 from tool.grammar import PORT_OPTIONS, SERVICE, STEP_VERBS, VERBS, Kind, options_of, settings_of, values_of
 from tool.grammar import help_on_all, help_on_option, help_on_verb
@@ -140,8 +140,8 @@ class Prompt:
             return sys.stdin.buffer.readline() or None
         except EOFError:
             return None
-        except OSError:
-            raise Fault("read fault") from None
+        except OSError as error:
+            raise Fault(f"read fault: {STANDARD_INPUT}: {error.strerror}") from None
 
     def answer(self, line: str) -> bool:
         """Answers a line that is the prompt's own, and returns whether it was."""

@@ -36,12 +36,16 @@ IMPORTS = {
 
 
 class NotTaken(Exception):
-    """Why a file isn't taken, with the number of its line."""
+    """Why a file isn't taken, and at which line, if one is at fault."""
+
+    def __init__(self, why: str, line: int | None = None):
+        super().__init__(why)
+        self.line = line
 
 
-def refuse(holds, why: str):
+def refuse(holds, why: str, line: int | None = None):
     if holds:
-        raise NotTaken(why)
+        raise NotTaken(why, line)
 
 
 @dataclass(frozen=True)
@@ -198,14 +202,14 @@ def read_fields(inside: str, line: int) -> tuple[Field, ...]:
             continue
         found = FIELD.fullmatch(re.sub(r"#\[[^\]]*\]", "", part).strip())
         if not found:
-            raise NotTaken(f"line {at}: expected a field such as `pub x: f64`, not `{part.strip()}`")
+            raise NotTaken(f"expected a field such as `pub x: f64`, not `{part.strip()}`", at)
         name, kind = found[2], found[3].strip()
-        refuse(not found[1], f"line {at}: {name} is private; write `pub(crate) {name}`, as what is written is another module")
+        refuse(not found[1], f"{name} is private; write `pub(crate) {name}`, as what is written is another module", at)
         array = re.fullmatch(r"\[\s*(\w+)\s*;\s*([1-9]\d*)\s*\]", kind)
         element, count = (array[1], int(array[2])) if array else (kind, None)
         if element not in KINDS or (count or 0) > MOST:
             supported = f"these are, and arrays of 1 to {MOST} of them: {', '.join(KINDS)}"
-            raise NotTaken(f"line {at}: a field of type {kind} isn't supported (of an enum send its number); {supported}")
+            raise NotTaken(f"a field of type {kind} isn't supported (of an enum send its number); {supported}", at)
         fields.append(Field(name, element, count))
     return tuple(fields)
 
@@ -216,12 +220,12 @@ def read_structs(text: str) -> list[Struct]:
     for it in STRUCT.finditer(plain):
         attributes, name, opening = it.groups()
         line = plain[: it.start(2)].count("\n") + 1
-        refuse(opening != "{", f"line {line}: {name} has no named fields, or it has type parameters")
+        refuse(opening != "{", f"{name} has no named fields, or it has type parameters", line)
         inside, brace, _ = plain[it.end() :].partition("}")
-        refuse(not brace, f"line {line}: {name} has no closing brace")
+        refuse(not brace, f"{name} has no closing brace", line)
         fields = read_fields(inside, plain[: it.end()].count("\n") + 1)
-        refuse(not fields, f"line {line}: {name} has no fields")
-        refuse(not re.search(r"\bCopy\b", attributes), f"line {line}: {name} isn't `Copy`; write `#[derive(Clone, Copy)]` above it")
+        refuse(not fields, f"{name} has no fields", line)
+        refuse(not re.search(r"\bCopy\b", attributes), f"{name} isn't `Copy`; write `#[derive(Clone, Copy)]` above it", line)
         structs.append(Struct(name, fields))
     refuse(not structs, "it has no struct with named fields")
     return structs

@@ -66,7 +66,7 @@ def difference_at_first(program: Path) -> str | None:
     for at, (found, given) in enumerate(zip_longest(replies, wanted), 1):
         if found != given:
             replied = f'replies "{found}"' if found is not None else f"ends with status {ran.returncode}"
-            return f'line {at} of {name}: this build {replied}, and first.replies has "{given}"'
+            return f'{name}:{at}: this build {replied}, and first.replies has "{given}"'
     return f"{name}: this build ends with status {ran.returncode}" if ran.returncode else None
 
 

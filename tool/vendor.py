@@ -380,7 +380,7 @@ def write_structs(source: Path) -> None:
     try:
         made = structs.write_for(source, text_of(source))
     except structs.NotTaken as why:
-        stop(MISUSED, f"{source}: {why}")
+        stop(MISUSED, f"{source}{f':{why.line}' if why.line else ''}: {why}")
     except OSError as error:
         stop(NO_FOLDER, f"{error.filename or source}: {error.strerror}")
     print(f"wrote {made}: name it beside `mod {source.stem};` by `mod {made.stem};`")

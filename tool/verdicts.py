@@ -2,9 +2,10 @@
 from __future__ import annotations
 
 import os
+import sys
 
 from tool.converse import Line
-from tool.notes import Follower, known, readable
+from tool.notes import Follower, known, place_of, readable
 from tool.progress import DIFFERS, NOT_STRICT, say
 
 # So many bytes of what two replies have in common is shown before their difference.
@@ -16,8 +17,9 @@ class Expect:
 
     status = DIFFERS
 
-    def __init__(self, file: str, follower: Follower):
-        self.file, self.follower, self.count, self.failed, self.is_met = file, follower, 0, False, False
+    def __init__(self, script: str | None, file: str, follower: Follower):
+        self.script, self.file, self.follower = script, file, follower
+        self.count, self.failed, self.is_met = 0, False, False
         with open(file, "rb") as it:
             self.wanted = it.read().splitlines()
 
@@ -27,7 +29,8 @@ class Expect:
         if not self.failed and not self.is_met:
             self.failed = True
             why = "; ".join(known(line, reply, self.follower)[2])
-            say(f"line {line.number}: {self.difference(reply.rstrip())}{f': {why}' * bool(why)}")
+            at = place_of(self.script, line.number)
+            print(f"{at}: {self.difference(reply.rstrip())}{f': {why}' * bool(why)}", file=sys.stderr, flush=True)
 
     def difference(self, reply: bytes) -> str:
         if self.count > len(self.wanted):
@@ -35,7 +38,7 @@ class Expect:
         both = self.wanted[self.count - 1], reply
         first = max(0, len(os.path.commonprefix(both)) - IN_COMMON)
         wanted, found = (".. " * (first > 0) + readable(it[first:]) for it in both)
-        return f'"{wanted}" is expected ({self.file}, line {self.count}), and the reply is "{found}"'
+        return f'"{wanted}" is expected ({self.file}:{self.count}), and the reply is "{found}"'
 
     def end(self):
         missing = len(self.wanted) - self.count
@@ -50,8 +53,8 @@ class Strict:
 
     status = NOT_STRICT
 
-    def __init__(self):
-        self.count, self.failed, self.first = 0, 0, 0
+    def __init__(self, script: str | None):
+        self.script, self.count, self.failed, self.first = script, 0, 0, 0
 
     def take(self, line: Line, reply: bytes):
         self.count += 1
@@ -61,4 +64,4 @@ class Strict:
 
     def end(self):
         if self.failed:
-            say(f"{self.failed} of {self.count} replies are err or skip; the first is that of line {self.first}")
+            say(f"{self.failed} of {self.count} replies are err or skip; the first is at {place_of(self.script, self.first)}")
