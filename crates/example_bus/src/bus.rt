@@ -71,7 +71,7 @@ fn make_publisher<T: Copy + ZeroCopySend>(
     ensure!(bus.holds(service), "a service of another bus");
     let builder = bus
         .slice_publisher_builder(service)
-        .context("other messages")?
+        .context("the service has single values, or is out of its hub")?
         .initial_max_slice_len(values)
         .max_loaned_samples(1)
         .set_handlers(Nobody);
@@ -98,7 +98,7 @@ fn make_subscriber<T: Copy + ZeroCopySend>(
     ensure!(bus.holds(service), "a service of another bus");
     let builder = bus
         .slice_subscriber_builder(service)
-        .context("other messages")?
+        .context("the service has single values, or is out of its hub")?
         .set_handler(Nobody);
     ensure!(builder.holds(bus), "no service");
     Ok(builder.create_slice(alloc, bus)?.into_port())

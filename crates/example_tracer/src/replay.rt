@@ -41,7 +41,7 @@ pub fn replay(alloc: Global, text: &[u8]) -> Result<Vec<u8>, Error>
     Ok(script)
 }
 
-/// The script of a table whose first column has these lines below its header consists of these lines.
+/// The script that is read from a table consists of the lines in the table's first column, in their order and without the header.
 pub fn replays()
     ensures { (header : List (List ℕ)) (others : List ℕ → List (List ℕ)) (lines : List (List ℕ))
         → script_of (header ∷ map (λ line. line ∷ others line) lines) ≡ flat_map (λ line. line ++ 10 ∷ []) lines }

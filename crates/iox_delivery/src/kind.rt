@@ -60,10 +60,11 @@ impl<T: Copy, U: Copy> Kind<T, U> for Single {
     ghost is_held = { λ number taken ports. holds_sample number taken ports };
 
     fn is_ready_in<H: Home<T, U>>(port: PortId, slot: usize, home: &H) -> bool {
-        match calls::ports(home, port.domain) {
-            Some(ports) => {
-                ports.is_written(port.number, slot) && ports.value(port.number, slot, 0).is_some()
-            }
+        let Some(ports) = calls::ports(home, port.domain) else {
+            return false;
+        };
+        match ports.values(port.number, slot) {
+            Some(values) => !values.is_empty(),
             None => false,
         }
     }

@@ -1,5 +1,5 @@
 //! The ports of a service as values: a publisher loans a sample, which is written and sent; a subscriber receives it, and the
-//! sample is read and released. Each call takes the home that contains the domain of the port.
+//! sample is read and released. Each call takes the home that contains the domain of the port: `home` is a hub, or that domain by itself.
 //!
 //! - [`port_id`]: the id of a port.
 //! - [`kind`]: single values and slices, the kinds of payload of all types below.

@@ -158,7 +158,7 @@ impl<T: Copy, U: Copy, K, S: LoanState<T, U, K> + Copy> Loan<T, U, K, S> {
     /// its own home, or forgotten by `into_slot`.
     ///
     /// Ported from dropping an `iceoryx2::sample_mut_uninit::SampleMutUninit` or an `iceoryx2::sample_mut::SampleMut`.
-    /// Example: `let stays = loan.drop_with(home).err();`
+    /// Example: `if let Err(kept) = loan.drop_with(home) { .. }`
     pub fn drop_with<H: Home<T, U>>(self, home: &mut H) -> Result<(), Self>
         ensures gives_up { GivesUpLoan (homes.ports_of H.domain_of) (homes.with_ports H.changed) self.port self.slot home.old home.new }
         ensures dropped { result ≡ left_or_given_back

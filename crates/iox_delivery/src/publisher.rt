@@ -93,7 +93,7 @@ impl<T: Copy, U: Copy, K> Publisher<T, U, K> {
     /// happens, and the publisher is returned, so that it can be closed in its own home, or once that send has ended.
     ///
     /// Ported from dropping an `iceoryx2::port::publisher::Publisher`.
-    /// Example: `let stays = publisher.drop_with(home).err();`
+    /// Example: `if let Err(kept) = publisher.drop_with(home) { .. }`
     pub fn drop_with<H: Home<T, U>>(self, home: &mut H) -> Result<(), Self>
         ensures ends { EndsPublisher (homes.ports_of H.domain_of) (homes.with_ports H.changed) (homes.without_publisher H.changed)
             self.port home.old (is_ok result) home.new }

@@ -90,7 +90,7 @@ impl<T: Copy, U: Copy, K: Kind<T, U>> Sample<T, U, K> {
     /// returned, so that it can be dropped in its own home, or forgotten by `into_taken`.
     ///
     /// Ported from dropping an `iceoryx2::sample::Sample`.
-    /// Example: `let stays = sample.drop_with(home).err();`
+    /// Example: `if let Err(kept) = sample.drop_with(home) { .. }`
     pub fn drop_with<H: Home<T, U>>(self, home: &mut H) -> Result<(), Self>
         ensures drops { DropsSample (homes.ports_of H.domain_of) (homes.with_ports H.changed) self.port self.taken home.old
             (is_ok result) home.new }

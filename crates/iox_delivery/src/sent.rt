@@ -77,7 +77,7 @@ impl<T: Copy, U: Copy> BlockedSend<T, U> {
     /// forgotten by `into_port`.
     ///
     /// Not in `iceoryx2`.
-    /// Example: `let stays = blocked.drop_with(home).err();`
+    /// Example: `if let Err(kept) = blocked.drop_with(home) { .. }`
     pub fn drop_with<H: Home<T, U>>(self, home: &mut H) -> Result<usize, Self>
         ensures ends { EndsSend (homes.ports_of H.domain_of) (homes.with_ports H.changed) self.port home.old (result_ok result)
             home.new }

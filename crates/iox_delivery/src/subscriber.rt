@@ -106,7 +106,7 @@ impl<T: Copy, U: Copy, K> Subscriber<T, U, K> {
     /// subscriber is returned, so that it can be closed in its own home.
     ///
     /// Ported from dropping an `iceoryx2::port::subscriber::Subscriber`.
-    /// Example: `let stays = subscriber.drop_with(home).err();`
+    /// Example: `if let Err(kept) = subscriber.drop_with(home) { .. }`
     pub fn drop_with<H: Home<T, U>>(self, home: &mut H) -> Result<(), Self>
         ensures ends { EndsSubscriber (homes.ports_of H.domain_of) (homes.with_ports H.changed) (homes.without_subscriber H.changed)
             self.port home.old (is_ok result) home.new }

@@ -47,7 +47,7 @@ pub enum Rule {
 impl Rule {
     ghost use Rattle.iox_describe_settings.specs.Setting.{number};
 
-    /// The rule of a number with this default, which is at least `least` and below `end`.
+    /// The rule of a number: its default, the least that it counts as, and, if there is one, the `end` that it must be below.
     pub fn number(default: u64, least: u64, end: Option<u64>) -> Self
         ensures { result ≡ number default least end }
     {

@@ -30,7 +30,7 @@ pub trait AgreedPattern {
     // the settings, if they are of this pattern
     ghost static_config: { Settings → Option Self.StaticConfig };
 
-    /// The pattern.
+    /// The messaging pattern that this type stands for.
     fn pattern() -> MessagingPattern
         ensures { result ≡ pattern };
 

@@ -25,11 +25,12 @@ use std::alloc::Global;
 /// service's ports, unless the hub has one. If memory runs out for the domain, the factory is closed again, and the call is refused with
 /// `OutOfMemory`.
 ///
-/// Capacity for the service's entry is made before the table is touched. If memory runs out there, the call is refused with `OutOfMemory`,
-/// too (`open_or_create` with the error of an opening), and nothing has changed except that there may be more capacity. A creation whose
-/// settings are impossible is refused for its settings before that. An opening is refused before that as its first lookup decides, unless
-/// other nodes act before that lookup: with `HangsInCreation` if another node is about to create the service, and if it doesn't exist with
-/// `DoesNotExist`, or `open_or_create` for settings that are impossible.
+/// The hub first makes capacity for the service's entry. If memory runs out there, nothing changes except perhaps that capacity, and the
+/// call is refused with `OutOfMemory` (`open_or_create` with that of an opening), except if it is refused anyway:
+///
+/// - a creation with impossible settings is refused for its settings;
+/// - an opening before whose first lookup no other node acts is refused for what that lookup finds: with `HangsInCreation` if another node
+///   is creating the service, and with `DoesNotExist` if there is no service; there `open_or_create` is refused for impossible settings.
 ///
 /// Not in `iceoryx2`: the builders of `iceoryx2` find the services of their machine by themselves.
 pub trait HubBuilder<P: Negotiated>: Sized {

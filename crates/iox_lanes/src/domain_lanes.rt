@@ -93,6 +93,7 @@ struct Recorded<T> {
 /// Returns the first error of `refusal` that applies, before anything is built. Otherwise it returns `OutOfMemory` only if an allocation
 /// fails, as it does for the numbers of 2^61 subscribers. With an error, the domain is returned as it was. The lanes check each piece that
 /// they take in; it is proved that none is left out, so they have all that the domain has.
+/// Example: `let lanes = into_lanes(alloc, domain).map_err(|refused| refused.error)?;`
 pub fn into_lanes<T: Words, U: Words, B: FixedDecision, D: AsksCaller>(
     alloc: Global,
     domain: Domain<T, U, B, D>,

@@ -316,7 +316,8 @@ impl LanesInTurn {
         }
     }
 
-    /// A loan is dropped, which is the command `Drop`, and has no number after that. Returns whether it was dropped. It always fits.
+    /// Drops a loan: the command `Drop`. Returns whether it was dropped; then the loan has no number any more. The call always fits,
+    /// so it is false only if memory or steps ran out.
     ///
     /// Example: `let is_dropped = lanes.drop_loan(&loan);`
     pub fn drop_loan(&mut self, loan: &TurnLoan) -> bool

@@ -29,7 +29,7 @@ pub enum Attempt {
     Failed(CreateFailure),
 }
 
-/// Locks the hash, and creates the service if the lock is taken.
+/// Asks the storage for the lock of the service's hash. If this call gets the lock, it creates the service; if not, the attempt says why.
 pub fn lock<R: Request, S: Storage>(alloc: Global, request: &R, storage: &mut S) -> Attempt
     ensures { Does S.gives storage.old (λ made. Locks (R.hash request.now) (R.node request.now) (R.created request.now) made result)
         storage.new }

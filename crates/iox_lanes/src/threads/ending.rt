@@ -60,6 +60,7 @@ pub(crate) fn emptied<T: Copy, U: Copy, B, D>(
 /// which `open_threads` ensures (`own`) and each call of a port keeps (`same`). Ports of other boards may be handed in, and are refused.
 /// In return `end` ensures that what a subscriber has read of a sample that it still holds is what the publisher knows of the slot, if the
 /// ports know that no write position came to 2^64 - 1. Not in `iceoryx2`.
+/// Example: `let domain = end(board, publishers, subscribers).map_err(|refused| refused.0)?;`
 pub fn end<T: Copy, U: Copy, B, D>(
     board: DomainBoard<T, U, B, D>,
     publishers: Vec<LanePublisher>,

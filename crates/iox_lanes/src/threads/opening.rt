@@ -20,6 +20,7 @@ use std::alloc::Global;
 /// a party is inside a call (`PartyInCall`), a loan or a sample is out (`SamplesOut`), more than 2^63 steps were made (`TooManySteps`), or
 /// an allocation fails (`OutOfMemory`), checked in this order. From then on the ports allocate nothing, and they step on the board's own
 /// words (`own`), as `end` requires. Not in `iceoryx2`.
+/// Example: `let ports = open_threads(alloc, 1, lanes).map_err(|refused| refused.0)?;`
 pub fn open_threads<T: Words, U: Words, B, D>(
     alloc: Global,
     board: u64,

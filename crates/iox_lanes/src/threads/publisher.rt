@@ -161,7 +161,7 @@ impl<T, U> Publisher<T, U> {
     /// comes back if it isn't a loan of this port, or the port is inside a call.
     ///
     /// Ported from the drop of an `iceoryx2::sample_mut_uninit::SampleMutUninit`.
-    /// Example: `publisher.drop_loan(loan);`
+    /// Example: `if let Err(loan) = publisher.drop_loan(loan) { .. }`
     pub fn drop_loan(&mut self, loan: Loan<T, U>) -> Result<(), Loan<T, U>>
         ensures same { StaysTheSame self.old self.new }
         ensures dropped { OnOk result ((is_loan_of self.old loan ≡ true) × Drops self.old.port.own loan.slot self.new.port.own true) }

@@ -312,7 +312,7 @@ impl Lanes {
         values_in::<T, U>(rest.get(..3 + U::WORDS + T::WORDS)?)
     }
 
-    /// The lanes.
+    /// The lanes without their messages, as the machine that makes the steps.
     pub fn lanes(&self) -> &LaneMachine
         ensures { result.now ≡ self.now.lanes }
     {

@@ -127,7 +127,7 @@ impl SlotBook {
         self.loans.len()
     }
 
-    /// The slots of its history, the oldest first.
+    /// The slots of the history, the oldest first.
     pub fn history(&self) -> &VecDeque<u64>
         ensures { result.now.items ≡ self.now.history }
     {

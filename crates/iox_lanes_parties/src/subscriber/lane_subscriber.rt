@@ -95,7 +95,7 @@ impl LaneSubscriber {
         }
     }
 
-    /// Replaces the connection that has the number of `route` by `route`.
+    /// Puts `route` in the place of the connection that has the same number; nothing changes if there is none.
     pub fn meet(&mut self, route: Route)
         ensures { self.new ≡ met_anew route self.old }
     {

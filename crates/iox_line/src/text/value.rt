@@ -51,7 +51,7 @@ pub fn named_strategy(key: &[u8], words: &Words) -> Option<Option<BackpressureSt
     }
 }
 
-/// The allocation strategy that a word spells.
+/// The allocation strategy that a word spells: `static`, `best` or `power`. `None` for any other word.
 pub fn allocation(word: &[u8]) -> Option<AllocationStrategy>
     ensures { result ≡ allocation_of word.now }
 {
