@@ -2,6 +2,7 @@
 //! `threads count ROW ROUNDS` makes so many rounds of a row in this thread alone, and prints its name and the sum of what was read.
 //! `threads PATH` times them in threads, taking turns with the program `PATH`, which is `lane_threads_bench`.
 use std::cell::UnsafeCell;
+use std::hint::black_box;
 use std::process::Command;
 use std::sync::atomic::AtomicU64;
 use std::thread;
@@ -35,6 +36,10 @@ impl Asked {
 
 /// The payloads of the slots, from a word on. A slot is written only while no connection has it.
 trait Payloads: Sync {
+    /// Whether each message has the accesses of a lane: three words of a header, stored by a send and loaded by a read, and what came back
+    /// taken back by a send, too.
+    const IS_LANE: bool = false;
+
     fn new(words: usize) -> Self;
     fn write(&self, at: usize, payload: &[u64]);
     fn read(&self, at: usize, payload: &mut [u64]);
@@ -76,6 +81,28 @@ impl<O: Order> Payloads for Atomics<O> {
     }
 }
 
+/// The words of a header.
+const HEADER: [u64; 3] = [1, 2, 1];
+
+/// Words with three words of a header before each payload.
+struct Lane(Atomics<SequentiallyConsistent>);
+
+impl Payloads for Lane {
+    const IS_LANE: bool = true;
+
+    fn new(words: usize) -> Self {
+        Lane(Atomics::new(words))
+    }
+
+    fn write(&self, at: usize, payload: &[u64]) {
+        self.0.write(at, payload);
+    }
+
+    fn read(&self, at: usize, payload: &mut [u64]) {
+        self.0.read(at, payload);
+    }
+}
+
 /// What the threads share: for each connection the ring of messages and that of what was given back.
 struct Service<O, P> {
     asked: Asked,
@@ -87,7 +114,12 @@ impl<O: Order, P: Payloads> Service<O, P> {
     fn new(asked: Asked) -> Self {
         let cells = if asked.each { 8 } else { 9 };
         let connections = (0..asked.subscribers).map(|_| (SharedRing::new(cells, 8), SharedRing::new(10, 10))).collect();
-        Service { asked, payloads: P::new(asked.slots() * asked.words), connections }
+        Service { asked, payloads: P::new(asked.slots() * Self::width(asked)), connections }
+    }
+
+    /// How many words a slot has.
+    fn width(asked: Asked) -> usize {
+        asked.words + if P::IS_LANE { HEADER.len() } else { 0 }
     }
 
     /// Reads the next message, whose slot is given back; whether there was one.
@@ -96,7 +128,15 @@ impl<O: Order, P: Payloads> Service<O, P> {
         let Some(slot) = (if self.asked.each { messages.pop() } else { messages.pop_over() }) else {
             return false;
         };
-        self.payloads.read(slot as usize * payload.len(), payload);
+        let at = slot as usize * Self::width(self.asked);
+        if P::IS_LANE {
+            let mut header = HEADER;
+            self.payloads.read(at, &mut header);
+            black_box(header);
+            self.payloads.read(at + HEADER.len(), payload);
+        } else {
+            self.payloads.read(at, payload);
+        }
         returned.push(slot);
         true
     }
@@ -135,12 +175,16 @@ impl<'a, O: Order, P: Payloads> Publisher<'a, O, P> {
         }
     }
 
-    fn loan(&mut self) -> u64 {
+    fn take_back(&mut self) {
         for (_, returned) in &self.service.connections {
             while let Some(slot) = returned.pop() {
                 self.let_go(slot);
             }
         }
+    }
+
+    fn loan(&mut self) -> u64 {
+        self.take_back();
         let slot = self.free.pop().unwrap();
         self.uses[slot as usize] = 1;
         slot
@@ -149,7 +193,14 @@ impl<'a, O: Order, P: Payloads> Publisher<'a, O, P> {
     /// Whether each took it.
     fn send(&mut self, payload: &[u64]) -> bool {
         let (service, slot, mut refused) = (self.service, self.loan(), 0);
-        service.payloads.write(slot as usize * payload.len(), payload);
+        let at = slot as usize * Service::<O, P>::width(service.asked);
+        if P::IS_LANE {
+            service.payloads.write(at + HEADER.len(), payload);
+            service.payloads.write(at, &HEADER);
+            self.take_back();
+        } else {
+            service.payloads.write(at, payload);
+        }
         for (messages, _) in &service.connections {
             self.uses[slot as usize] += 1;
             if service.asked.each {
@@ -224,9 +275,10 @@ const fn form<O: Order, P: Payloads>(name: &'static str) -> (&'static str, InTur
     (name, in_turn::<O, P>, in_threads::<O, P>)
 }
 
-const FORMS: [(&str, InTurn, InThreads); 6] = [
+const FORMS: [(&str, InTurn, InThreads); 7] = [
     form::<SequentiallyConsistent, Plain>("plain bytes, rings sequentially consistent"),
     form::<SequentiallyConsistent, Words<SequentiallyConsistent>>("words and rings sequentially consistent"),
+    form::<SequentiallyConsistent, Lane>("all accesses of a lane, sequentially consistent"),
     form::<SequentiallyConsistent, Words<AcquireRelease>>("words acquire and release, rings sequentially consistent"),
     form::<AcquireRelease, Plain>("plain bytes, rings acquire and release"),
     form::<AcquireRelease, Words<SequentiallyConsistent>>("words sequentially consistent, rings acquire and release"),
