@@ -33,12 +33,12 @@ pub record ReadsMessage {T U : Type 0} (value_of : List ℕ → T) (header_of : 
   pub message_is : IsMessage value_of header_of payload_count header_count new.port.own.words message
 
 -- A read found no message: the sample isn't one of the subscriber, so nothing was done; or the slot isn't a sample of the port; or the
--- words that were read are those of no message of these widths, with or without a sequence number.
+-- slot was read, and its words are those of no message of these widths, with or without a sequence number.
 abbrev pub FindsNoMessage : ℕ → ℕ → TypedSubscriber → Token → TypedSubscriber → Type 0
 FindsNoMessage payload_count header_count old sample new =
     ((is_sample_of old sample ≡ false) × Unmoved old.port.own new.port.own)
     ⊎ Reads old.port.own sample.slot new.port.own false
-    ⊎ ((length new.port.own.words ≡ 3 + header_count + payload_count → ⊥)
+    ⊎ (Reads old.port.own sample.slot new.port.own true × (length new.port.own.words ≡ 3 + header_count + payload_count → ⊥)
     × (length new.port.own.words ≡ 4 + header_count + payload_count → ⊥))
 
 -- A release was refused with this error. `NotMine`: the sample isn't one of the subscriber, or its slot isn't a sample of the port, and

@@ -1,17 +1,21 @@
 -- Loans that weren't sent, or not to all connections.
-use Rattle.std.specs.Prelude.{◌≡◌, ◌⊎◌, Option, None, Some}
+use Rattle.std.specs.Prelude.{◌≡◌, ◌⊎◌, true, Option, None, Some}
 use Rattle.iox_lanes_base.specs.declared.calls.publisher.Delivery.{Delivery}
 use Rattle.iox_lanes_parties.specs.Parties.{head_of}
 use Rattle.iox_lanes_parties.specs.declared.call.SendAnswer.TheVariants as send_answer
 use Rattle.iox_lanes_threads_ports.specs.Known.{KeepsPayload, KnowsHead, KnowsSent}
 use Rattle.iox_lanes_threads_ports.specs.Values.{StaysPut, Sends}
+use Rattle.iox_lanes.specs.HeldByNone.{IsHeldByNone}
 use Rattle.iox_lanes.specs.Typed.{TypedPublisher, Token}
-use Rattle.iox_lanes.specs.TypedCalls.{why_unsent}
+use Rattle.iox_lanes.specs.TypedCalls.{is_mine, why_unsent}
 use Rattle.iox_lanes.specs.declared.threads.errors.SendError.{SendError}
 use Rattle.iox_lanes.specs.declared.threads.errors.SendError.TheVariants as send_error
 
--- The message was sent, and the connections that didn't refuse it have it. Some connection refused it, and the publisher fails then.
+-- The loan is one of the publisher. The message was sent, into a slot that no subscriber held, and the connections that didn't refuse it
+-- have it. Some connection refused it, and the publisher fails then.
 pub record IsUndelivered (old : TypedPublisher) (loan : Token) (new : TypedPublisher) (delivery : Delivery) : Type 0 where
+  pub mine : is_mine old loan ≡ true
+  pub unheld : IsHeldByNone old.port.own.port loan.slot
   pub call : Sends old.port.own loan.slot new.port.own (Some (send_answer.UnableToDeliver delivery))
   pub head : KnowsHead new.port.own.port loan.slot (head_of loan.slot old.port.own.lane)
   pub payload : KeepsPayload old.port.own.port new.port.own.port loan.slot

@@ -190,6 +190,7 @@ impl<T, U> Publisher<T, U> {
     /// Example: `publisher.send(loan).map_err(|unsent| unsent.error)?;`
     pub fn send(&mut self, loan: Loan<T, U>) -> Result<Delivery, Unsent<T, U>>
         ensures same { StaysTheSame self.old self.new }
+        ensures mine { IfOk result (λ _. is_mine self.old loan ≡ true) }
         ensures sent { IfOk result (λ delivery. Sends self.old.port.own loan.slot self.new.port.own
             (Some (SendAnswer.Delivered delivery))) }
         ensures slot { IfOk result (λ _. KnowsHead self.new.port.own.port loan.slot (head_of loan.slot self.old.port.own.lane)

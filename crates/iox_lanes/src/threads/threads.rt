@@ -170,6 +170,7 @@ fn take_publisher_at(ports: &mut Vec<LanePublisher>, at: usize) -> LanePublisher
     requires { at < length ports.old.items }
     ensures there { slice_get ports.old.items at ≡ Some result }
     ensures left { ports.new.items ≡ remove ports.old.items at }
+    ensures room { vec_capacity ports.new ≡ vec_capacity ports.old }
     ensures own { (board : BoardState) → ArePublishersOf board ports.old.items
         → ArePublishersOf board ports.new.items × IsPublisherOf board result }
 {
@@ -180,6 +181,7 @@ fn take_publisher_at(ports: &mut Vec<LanePublisher>, at: usize) -> LanePublisher
 fn append_publisher(ports: &mut Vec<LanePublisher>, port: LanePublisher)
     requires { length ports.old.items < vec_capacity ports.old }
     ensures items { ports.new.items ≡ ports.old.items ++ port ∷ [] }
+    ensures room { vec_capacity ports.new ≡ vec_capacity ports.old }
     ensures own { (board : BoardState) → ArePublishersOf board ports.old.items → IsPublisherOf board port
         → ArePublishersOf board ports.new.items }
 {
@@ -191,6 +193,7 @@ fn take_subscriber_at(ports: &mut Vec<LaneSubscriber>, at: usize) -> LaneSubscri
     requires { at < length ports.old.items }
     ensures there { slice_get ports.old.items at ≡ Some result }
     ensures left { ports.new.items ≡ remove ports.old.items at }
+    ensures room { vec_capacity ports.new ≡ vec_capacity ports.old }
     ensures own { (board : BoardState) → AreSubscribersOf board ports.old.items
         → AreSubscribersOf board ports.new.items × IsSubscriberOf board result }
 {
@@ -201,6 +204,7 @@ fn take_subscriber_at(ports: &mut Vec<LaneSubscriber>, at: usize) -> LaneSubscri
 fn append_subscriber(ports: &mut Vec<LaneSubscriber>, port: LaneSubscriber)
     requires { length ports.old.items < vec_capacity ports.old }
     ensures items { ports.new.items ≡ ports.old.items ++ port ∷ [] }
+    ensures room { vec_capacity ports.new ≡ vec_capacity ports.old }
     ensures own { (board : BoardState) → AreSubscribersOf board ports.old.items → IsSubscriberOf board port
         → AreSubscribersOf board ports.new.items }
 {
@@ -209,7 +213,8 @@ fn append_subscriber(ports: &mut Vec<LaneSubscriber>, port: LaneSubscriber)
 
 impl<T, U, B, D> DomainThreads<T, U, B, D> {
     /// Takes out the publisher with this id in the domain, as a port that knows the types of its service. None if it isn't among the
-    /// ports. The port and those that are left step on the board's own words, if all did (`own`).
+    /// ports. Its room stays (`room`), so it can be put back. The port and those that are left step on the board's own words, if all did
+    /// (`own`).
     /// Example: `let mut publisher = threads.take_publisher(handle.id())?;`
     pub fn take_publisher(&mut self, id: u64) -> Option<Publisher<T, U>>
         ensures rest { self.new ≡ record self.old { publishers = self.new.publishers } }
@@ -219,6 +224,7 @@ impl<T, U, B, D> DomainThreads<T, U, B, D> {
             × (self.new.publishers.items ≡ remove self.old.publishers.items at)) }
         ensures none { IfNone result ((position (has_publisher_id self.old.board id) self.old.publishers.items ≡ None)
             × (self.new ≡ self.old)) }
+        ensures room { vec_capacity self.new.publishers ≡ vec_capacity self.old.publishers }
         ensures own { ArePublishersOf self.old.board.board self.old.publishers.items
             → ArePublishersOf self.new.board.board self.new.publishers.items
             × IfSome result (λ publisher. IsPublisherOf self.new.board.board publisher.port) }
@@ -229,7 +235,8 @@ impl<T, U, B, D> DomainThreads<T, U, B, D> {
     }
 
     /// Takes out the subscriber with this id in the domain, as a port that knows the types of its service. None if it isn't among the
-    /// ports. The port and those that are left step on the board's own words, if all did (`own`).
+    /// ports. Its room stays (`room`), so it can be put back. The port and those that are left step on the board's own words, if all did
+    /// (`own`).
     /// Example: `let mut subscriber = threads.take_subscriber(handle.id())?;`
     pub fn take_subscriber(&mut self, id: u64) -> Option<Subscriber<T, U>>
         ensures rest { self.new ≡ record self.old { subscribers = self.new.subscribers } }
@@ -239,6 +246,7 @@ impl<T, U, B, D> DomainThreads<T, U, B, D> {
             × (self.new.subscribers.items ≡ remove self.old.subscribers.items at)) }
         ensures none { IfNone result ((position (has_subscriber_id self.old.board id) self.old.subscribers.items ≡ None)
             × (self.new ≡ self.old)) }
+        ensures room { vec_capacity self.new.subscribers ≡ vec_capacity self.old.subscribers }
         ensures own { AreSubscribersOf self.old.board.board self.old.subscribers.items
             → AreSubscribersOf self.new.board.board self.new.subscribers.items
             × IfSome result (λ subscriber. IsSubscriberOf self.new.board.board subscriber.port) }
@@ -257,6 +265,7 @@ impl<T, U, B, D> DomainThreads<T, U, B, D> {
         ensures put { OnOk result (self.new.publishers.items ≡ self.old.publishers.items ++ publisher.port ∷ []) }
         ensures back { IfErr result (λ back. (back ≡ publisher) × (self.new ≡ self.old)
             × (vec_capacity self.old.publishers ≤ length self.old.publishers.items)) }
+        ensures room { vec_capacity self.new.publishers ≡ vec_capacity self.old.publishers }
         ensures own { ArePublishersOf self.old.board.board self.old.publishers.items → IsPublisherOf self.old.board.board publisher.port
             → ArePublishersOf self.new.board.board self.new.publishers.items }
     {
@@ -276,6 +285,7 @@ impl<T, U, B, D> DomainThreads<T, U, B, D> {
         ensures put { OnOk result (self.new.subscribers.items ≡ self.old.subscribers.items ++ subscriber.port ∷ []) }
         ensures back { IfErr result (λ back. (back ≡ subscriber) × (self.new ≡ self.old)
             × (vec_capacity self.old.subscribers ≤ length self.old.subscribers.items)) }
+        ensures room { vec_capacity self.new.subscribers ≡ vec_capacity self.old.subscribers }
         ensures own { AreSubscribersOf self.old.board.board self.old.subscribers.items
             → IsSubscriberOf self.old.board.board subscriber.port
             → AreSubscribersOf self.new.board.board self.new.subscribers.items }
