@@ -353,6 +353,11 @@ def a_checkout_that_cannot_be_written_is_built_into_the_users_cache():
             ran = copy.run(SCRIPT, env=environment)
             expect((ran.status, ran.out, copy.tries()), (0, REPLIES, tries))
         expect(len([*cache.glob("kohepuri/*/unproved-*-*")]), 1)
+        # A relative path isn't taken.
+        home = copy.top / "home"
+        relative = copy.run(SCRIPT, env={**environment, "XDG_CACHE_HOME": "cache", "HOME": str(home)})
+        kept = [*home.glob(".cache/kohepuri/*/unproved-*-*")]
+        expect((relative.status, relative.out, copy.tries(), len(kept)), (0, REPLIES, 1, 1))
         copy.run("--proved", SCRIPT, env=environment).expect_one_line(3, f"{out} can't be written", "--model")
         environment["XDG_CACHE_HOME"] = str(out)
         copy.run(SCRIPT, env=environment).expect_one_line(3, f"neither {out} nor {out}/kohepuri/", "--model")

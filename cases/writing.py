@@ -289,7 +289,7 @@ def a_replaced_file_keeps_its_rights_and_a_new_one_has_the_users():
 # What is to be written where a run is stopped: the words, and the line or the file by which it is seen that the run is in its midst.
 STOPPED: list = [(("--model", f"--{name}", f"piped{suffix}"), b"ok n1\n") for name, suffix, _ in WRITING]
 STOPPED.append((("--against", "sh -c 'exec cat >begun'", "own.iox"), None))
-SIGNALS = (signal.SIGINT, signal.SIGTERM, signal.SIGHUP)
+SIGNALS = (signal.SIGINT, signal.SIGTERM, signal.SIGHUP, signal.SIGQUIT)
 
 
 @case

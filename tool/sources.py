@@ -18,8 +18,10 @@ TOO_FRESH = 2_000_000_000
 
 def cache() -> Path:
     """The folder of the user's for what is built if the repository can't be written."""
-    home = os.environ.get("XDG_CACHE_HOME") or Path.home() / ".cache"
-    return Path(home) / "kohepuri" / hashlib.sha256(os.fsencode(TOP)).hexdigest()[:16]
+    home = Path(os.environ.get("XDG_CACHE_HOME", ""))
+    # By the rules of XDG a relative path isn't taken.
+    home = home if home.is_absolute() else Path.home() / ".cache"
+    return home / "kohepuri" / hashlib.sha256(os.fsencode(TOP)).hexdigest()[:16]
 
 
 def can_make(folder: Path) -> bool:

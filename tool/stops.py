@@ -25,7 +25,7 @@ class Stops:
 
     def begin(self):
         """Hears the signals that nobody has had ignored."""
-        self.ending = {it for it in (signal.SIGTERM, signal.SIGHUP) if signal.getsignal(it) == signal.SIG_DFL}
+        self.ending = {it for it in (signal.SIGTERM, signal.SIGHUP, signal.SIGQUIT) if signal.getsignal(it) == signal.SIG_DFL}
         told, tells = os.pipe()
         os.set_blocking(tells, False)
         signal.set_wakeup_fd(tells, warn_on_full_buffer=False)
